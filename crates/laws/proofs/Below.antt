@@ -1,0 +1,120 @@
+-- What the words of specs/Below.antt say, as laws. Assumes nothing.
+use Prim.Native.Nat.{ℕ, zero, suc, _+_, _≤_, _<_, max, zero-le}
+use mathlib.Core.Path.{_≡_, refl, sym, _∙_, ap, ap₂, subst}
+use mathlib.Core.Bool.{Bool, true, false, not, _&&_, _||_, cond}
+use mathlib.Core.Logic.{_⊎_, inl, inr, ⊎-elim, by-cases}
+use mathlib.Core.List.{List, [], _∷_, _++_}
+use native.Mathlib.Nat.{not-suc-le-zero, eq-or-lt-of-le, le-of-suc-le-suc, le-step, le-refl, le-trans, lt-suc-self, le-of-lt, lt-of-not-le, le-add-right, add-le-add, le-max-left, le-max-right, max-le, max-eq-left, max-eq-right}
+use native.Mathlib.Decide.{decLe, ℕ-discrete}
+use native.Mathlib.Omega.{arith}
+use Rattle.laws.specs.Below.{one-if, allBelow, anyBelow, countBelow, greatest, tabulate, selected}
+use Rattle.laws.proofs.Logic.{test, and-left, and-right, and-intro, or-left, or-right, or-elim, clash, fails}
+
+-- a number below suc n is n or below n
+pub below-suc : {k n : ℕ} → k < suc n → (k ≡ n) ⊎ (k < n)
+below-suc h = eq-or-lt-of-le (le-of-suc-le-suc h)
+
+-- every case below suc n, from the last and those before it
+pub step-below : (P : ℕ → Type 0) {n : ℕ} → ((k : ℕ) → k < n → P k) → P n → (k : ℕ) → k < suc n → P k
+step-below P {n} f z k h = pick (below-suc h)
+  where
+    pick : (k ≡ n) ⊎ (k < n) → P k
+    pick (inl e) = rw e z
+    pick (inr l) = f k l
+
+pub all-at : (n : ℕ) (p : ℕ → Bool) → allBelow n p ≡ true → (k : ℕ) → k < n → p k ≡ true
+all-at zero p e k h = absurd (not-suc-le-zero h)
+all-at (suc n) p e k h =
+    step-below (λ (i : ℕ). p i ≡ true) (all-at n p (and-left (allBelow n p) (p n) e)) (and-right (allBelow n p) (p n) e) k h
+
+pub all-intro : (n : ℕ) (p : ℕ → Bool) → ((k : ℕ) → k < n → p k ≡ true) → allBelow n p ≡ true
+all-intro zero p f = refl
+all-intro (suc n) p f = and-intro (all-intro n p (λ k h. f k (omega arith))) (f n (omega arith))
+
+pub any-intro : (n : ℕ) (p : ℕ → Bool) (k : ℕ) → k < n → p k ≡ true → anyBelow n p ≡ true
+any-intro zero p k h e = absurd (not-suc-le-zero h)
+any-intro (suc n) p k h e =
+    ⊎-elim (λ (q : k ≡ n). or-right (anyBelow n p) (rw q at e)) (λ (l : k < n). or-left (p n) (any-intro n p k l e)) (below-suc h)
+
+-- a number below n at which the test passes
+abbrev pub Found : ℕ → (ℕ → Bool) → Type 0
+Found n p = (k : ℕ) × (k < n) × (p k ≡ true)
+
+pub any-elim : (n : ℕ) (p : ℕ → Bool) → anyBelow n p ≡ true → Found n p
+any-elim zero p e = clash e refl
+any-elim (suc n) p e =
+    ⊎-elim (λ q. widen (any-elim n p q)) (λ (q : p n ≡ true). (n, lt-suc-self n, q)) (or-elim (anyBelow n p) (p n) e)
+  where
+    widen : Found n p → Found (suc n) p
+    widen r = (r .0, le-step (r .1), r .2)
+
+-- some number below n passes, or every one fails
+pub search-below : (n : ℕ) (p : ℕ → Bool) → Found n p ⊎ ((k : ℕ) → k < n → p k ≡ false)
+search-below n p =
+    test (anyBelow n p) (λ e. inl (any-elim n p e))
+    (λ e. inr (λ k h. fails (p k) (λ (t : p k ≡ true). clash (any-intro n p k h t) e)))
+
+pub count-le : (n : ℕ) (p : ℕ → Bool) → countBelow n p ≤ n
+count-le zero p = le-refl 0
+count-le (suc n) p = cond-case′ (p n) (count-le n p)
+  where
+    cond-case′ : (b : Bool) → countBelow n p ≤ n → countBelow n p + one-if b ≤ suc n
+    cond-case′ true h = omega arith
+    cond-case′ false h = omega arith
+
+-- a longer bound counts no fewer
+pub count-mono : (n m : ℕ) (p : ℕ → Bool) → n ≤ m → countBelow n p ≤ countBelow m p
+count-mono n zero p h = rw (le-zero h) (le-refl 0)
+  where
+    le-zero : n ≤ 0 → n ≡ 0
+    le-zero g = omega arith
+count-mono n (suc m) p h =
+    ⊎-elim (λ (e : n ≡ suc m). rw e (le-refl (countBelow (suc m) p)))
+    (λ (l : n < suc m). le-trans (count-mono n m p (le-of-suc-le-suc l)) (le-add-right (countBelow m p) (one-if (p m))))
+    (eq-or-lt-of-le h)
+
+-- tests that agree below n pass equally often there
+pub count-same : (n : ℕ) (p q : ℕ → Bool) → ((k : ℕ) → k < n → p k ≡ q k) → countBelow n p ≡ countBelow n q
+count-same zero p q f = refl
+count-same (suc n) p q f = ap₂ (λ (a b : ℕ). a + b) (count-same n p q (λ k h. f k (le-step h))) (ap one-if (f n (lt-suc-self n)))
+
+-- a test that passes wherever another does passes no less often
+pub count-imp : (n : ℕ) (p q : ℕ → Bool) → ((k : ℕ) → k < n → p k ≡ true → q k ≡ true) → countBelow n p ≤ countBelow n q
+count-imp zero p q f = le-refl 0
+count-imp (suc n) p q f = add-le-add (count-imp n p q (λ k h. f k (le-step h))) (one-le (p n) (q n) (f n (lt-suc-self n)))
+  where
+    one-le : (a b : Bool) → (a ≡ true → b ≡ true) → one-if a ≤ one-if b
+    one-le false b g = zero-le
+    one-le true b g = rw (g refl) (le-refl 1)
+
+pub greatest-above : (n : ℕ) (f : ℕ → ℕ) (k : ℕ) → k < n → f k ≤ greatest n f
+greatest-above zero f k h = absurd (not-suc-le-zero h)
+greatest-above (suc n) f k h =
+    ⊎-elim (λ (e : k ≡ n). rw e (le-max-right (greatest n f) (f n)))
+    (λ (l : k < n). le-trans (greatest-above n f k l) (le-max-left (greatest n f) (f n)))
+    (below-suc h)
+
+pub greatest-below : (n : ℕ) (f : ℕ → ℕ) (m : ℕ) → ((k : ℕ) → k < n → f k ≤ m) → greatest n f ≤ m
+greatest-below zero f m h = zero-le
+greatest-below (suc n) f m h = max-le (greatest-below n f m (λ k l. h k (le-step l))) (h n (lt-suc-self n))
+
+-- a number below n at which f is v
+abbrev pub Met : ℕ → (ℕ → ℕ) → ℕ → Type 0
+Met n f v = (k : ℕ) × (k < n) × (f k ≡ v)
+
+-- where it is not 0, the greatest is the value at some number below n
+pub greatest-met : (n : ℕ) (f : ℕ → ℕ) → 0 < greatest n f → Met n f (greatest n f)
+greatest-met zero f h = absurd (not-suc-le-zero h)
+greatest-met (suc n) f h = by-cases (decLe (f n) (greatest n f)) (older (greatest-met n f)) newer
+  where
+    older : (0 < greatest n f → Met n f (greatest n f)) → f n ≤ greatest n f → Met (suc n) f (max (greatest n f) (f n))
+    older rest l =
+        let r : Met n f (greatest n f) = rest (rw (max-eq-left l) at h) in
+        (r .0, le-step (r .1), r .2 ∙ sym (max-eq-left l))
+
+    newer : ¬ (f n ≤ greatest n f) → Met (suc n) f (max (greatest n f) (f n))
+    newer l = (n, lt-suc-self n, sym (max-eq-right (le-of-lt (lt-of-not-le l))))
+
+pub greatest-same : (n : ℕ) (f g : ℕ → ℕ) → ((k : ℕ) → k < n → f k ≡ g k) → greatest n f ≡ greatest n g
+greatest-same zero f g e = refl
+greatest-same (suc n) f g e = ap₂ max (greatest-same n f g (λ k h. e k (le-step h))) (e n (lt-suc-self n))

@@ -1,0 +1,1 @@
+// Laws of tests, numbers and lists that the other crates cite. Theory alone: there is no code here.
