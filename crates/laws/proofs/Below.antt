@@ -5,7 +5,7 @@ use mathlib.Core.Bool.{Bool, true, false, not, _&&_, _||_, cond}
 use mathlib.Core.Logic.{_⊎_, inl, inr, ⊎-elim, by-cases}
 use mathlib.Core.List.{List, [], _∷_, _++_}
 use native.Mathlib.Nat.{not-suc-le-zero, eq-or-lt-of-le, le-of-suc-le-suc, le-step, le-refl, le-trans, lt-suc-self, le-of-lt, lt-of-not-le, le-add-right, add-le-add, le-max-left, le-max-right, max-le, max-eq-left, max-eq-right}
-use native.Mathlib.Decide.{decLe, ℕ-discrete}
+use native.Mathlib.Decide.{decLe, decLt}
 use native.Mathlib.Omega.{arith}
 use Rattle.laws.specs.Below.{one-if, allBelow, anyBelow, countBelow, greatest, tabulate, selected}
 use Rattle.laws.proofs.Logic.{test, and-left, and-right, and-intro, or-left, or-right, or-elim, clash, fails}
@@ -118,3 +118,51 @@ greatest-met (suc n) f h = by-cases (decLe (f n) (greatest n f)) (older (greates
 pub greatest-same : (n : ℕ) (f g : ℕ → ℕ) → ((k : ℕ) → k < n → f k ≡ g k) → greatest n f ≡ greatest n g
 greatest-same zero f g e = refl
 greatest-same (suc n) f g e = ap₂ max (greatest-same n f g (λ k h. e k (le-step h))) (e n (lt-suc-self n))
+
+-- where no number from i up passes, none is counted beyond i
+pub count-rest : (i n : ℕ) (p : ℕ → Bool) → ((k : ℕ) → i ≤ k → k < n → p k ≡ false) → countBelow n p ≤ countBelow i p
+count-rest i zero p f = zero-le
+count-rest i (suc n) p f =
+    by-cases (decLe (suc n) i) (λ l. count-mono (suc n) i p l) (λ l. more (count-rest i n p (λ k a b. f k a (le-step b))) (f n (omega (arith, l)) (lt-suc-self n)))
+  where
+    more : countBelow n p ≤ countBelow i p → p n ≡ false → countBelow (suc n) p ≤ countBelow i p
+    more h e = let z : one-if (p n) ≡ 0 = ap one-if e in omega arith
+
+-- a test that passes at m too, where the other fails, and is the same elsewhere, passes once more
+pub count-once : (n m : ℕ) (p q : ℕ → Bool) → m < n → p m ≡ false → ((k : ℕ) → k < n → ¬ (k ≡ m) → p k ≡ q k) → countBelow n q ≡ countBelow n p + one-if (q m)
+count-once zero m p q h e f = absurd (not-suc-le-zero h)
+count-once (suc n) m p q h e f = ⊎-elim here (λ (l : m < n). before (count-once n m p q l e (λ k a d. f k (le-step a) d)) (f n (lt-suc-self n) (λ (z : n ≡ m). absurd (omega arith)))) (below-suc h)
+  where
+    here : m ≡ n → countBelow (suc n) q ≡ countBelow (suc n) p + one-if (q m)
+    here z =
+        let a : countBelow n p ≡ countBelow n q = count-same n p q (λ k l. f k (le-step l) (λ (y : k ≡ m). absurd (omega arith))) in
+        let b : one-if (p n) ≡ 0 = ap one-if (rw z at e) in
+        let d : one-if (q m) ≡ one-if (q n) = ap (λ (x : ℕ). one-if (q x)) z in
+        omega arith
+
+    before : countBelow n q ≡ countBelow n p + one-if (q m) → p n ≡ q n → countBelow (suc n) q ≡ countBelow (suc n) p + one-if (q m)
+    before a b = let d : one-if (p n) ≡ one-if (q n) = ap one-if b in omega arith
+
+-- a number below n that passes, before which x numbers pass
+pub record Nth (n : ℕ) (p : ℕ → Bool) (x : ℕ) : Type 0 where
+  pub at : ℕ
+  pub below : at < n
+  pub passes : p at ≡ true
+  pub before : countBelow at p ≡ x
+
+pub nth : (n : ℕ) (p : ℕ → Bool) (x : ℕ) → x < countBelow n p → Nth n p x
+nth zero p x h = absurd (not-suc-le-zero h)
+nth (suc n) p x h = by-cases (decLt x (countBelow n p)) (λ l. older (nth n p x l)) (λ l. test (p n) (newer l) (λ e. absurd (none-there l e)))
+  where
+    older : Nth n p x → Nth (suc n) p x
+    older r = record { at = r .at; below = le-step (r .below); passes = r .passes; before = r .before }
+
+    newer : ¬ (x < countBelow n p) → p n ≡ true → Nth (suc n) p x
+    newer l e = record { at = n; below = lt-suc-self n; passes = e; before = let z : one-if (p n) ≡ 1 = ap one-if e in omega (arith, l) }
+
+    none-there : ¬ (x < countBelow n p) → p n ≡ false → ⊥
+    none-there l e = let z : one-if (p n) ≡ 0 = ap one-if e in omega (arith, l)
+
+-- one that passes counts for those after it
+pub count-past : (p : ℕ → Bool) {i k : ℕ} → i < k → p i ≡ true → countBelow i p < countBelow k p
+count-past p {i} {k} h e = let z : one-if (p i) ≡ 1 = ap one-if e in omega (arith, count-mono (suc i) k p h)

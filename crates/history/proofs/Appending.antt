@@ -1,0 +1,70 @@
+-- Appending a change to the history alters no earlier vector, and a cut stays one. Assumes nothing.
+use Prim.Native.Nat.{ℕ, zero, suc, _+_, _≤_, _<_}
+use mathlib.Core.Path.{_≡_, refl, sym, _∙_, ap, ap₂}
+use mathlib.Core.Bool.{Bool, true, false, _&&_, cond}
+use native.Mathlib.Nat.{lt-trans, le-step, lt-suc-self, lt-irrefl}
+use native.Mathlib.Omega.{arith}
+use lib.Dec.{ltb}
+use borrow.Author.Tests.{ltb-true, lt-ltb, le-ltb, ne-eqb}
+use Rattle.laws.specs.Below.{one-if, countBelow}
+use Rattle.laws.proofs.Logic.{and-left, and-right, and-intro}
+use Rattle.laws.proofs.Below.{count-same}
+use Rattle.history.specs.Change.{Change, History, Numbers, meets, writers, Precedes, direct, chain, Closed, left, writersIn, ConsistentCut, Cut, appended}
+use Rattle.history.specs.Vector.{Tracked, vectorOf, taken, after, vector, stateVector}
+use Rattle.history.proofs.Precedence.{forward}
+
+-- two histories with the same first n changes
+abbrev pub Agree : History → History → ℕ → Type 0
+Agree H H' n = (i : ℕ) → i < n → H i ≡ H' i
+
+pub agree-less : (H H' : History) {k n : ℕ} → k ≤ n → Agree H H' n → Agree H H' k
+agree-less H H' h a i l = a i (omega arith)
+
+pub agree-sym : (H H' : History) (n : ℕ) → Agree H H' n → Agree H' H n
+agree-sym H H' n a i l = sym (a i l)
+
+pub appended-agree : (H : History) (n : ℕ) (t : Change) → Agree H (appended H n t) n
+appended-agree H n t i l = rw (ne-eqb i n (λ (q : i ≡ n). absurd (omega arith)))
+
+module _ (w : ℕ) (H H' : History) (start : Numbers) where
+  pub after-agree : (n : ℕ) → Agree H H' n → after w H start n ≡ after w H' start n
+  after-agree zero a = refl
+  after-agree (suc n) a =
+      ap₂ (λ (h : Tracked) (t : Change). taken h t (vectorOf w h t)) (after-agree n (λ i l. a i (le-step l))) (a n (lt-suc-self n))
+
+  pub vector-agree : (n i : ℕ) → Agree H H' n → i < n → vector w H start i ≡ vector w H' start i
+  vector-agree n i a l = ap₂ (λ (h : Tracked) (t : Change). vectorOf w h t) (after-agree i (agree-less H H' (omega arith) a)) (a i l)
+
+  pub precedes-agree : (n : ℕ) → Agree H H' n → {k i : ℕ} → i < n → Precedes w H k i → Precedes w H' k i
+  precedes-agree n a {k} {i} h (direct c l z e) =
+      direct c l z (ap₂ (λ (s t : Change). meets s t c) (sym (a k (lt-trans z h))) (sym (a i h)) ∙ e)
+  precedes-agree n a h (chain p q) = chain (precedes-agree n a (lt-trans (forward q) h) p) (precedes-agree n a h q)
+
+  pub writers-agree : (n c : ℕ) → Agree H H' n → writers H c n ≡ writers H' c n
+  writers-agree n c a = count-same n (λ i. H i .writes c) (λ i. H' i .writes c) (λ i l. ap (λ (t : Change). t .writes c) (a i l))
+
+-- a cut of the first n changes is one of one change more
+pub cut-kept : (w : ℕ) (H H' : History) (start : Numbers) (n : ℕ) (stored g : Numbers) → Agree H H' n → Cut w H start n stored g → Cut w H' start (suc n) stored g
+cut-kept w H H' start n stored g a k =
+    record { consistent = record { set = P; closed = closed; leaves = λ c l. k .consistent .leaves c l ∙ ap (λ (x : ℕ). start c + x) (counts c) }; within = k .within }
+  where
+    old : ℕ → Bool
+    old = k .consistent .set
+
+    P : ℕ → Bool
+    P i = ltb i n && old i
+
+    closed : Closed w H' (suc n) P
+    closed i h e t p =
+        let z : i < n = ltb-true i n (and-left (ltb i n) (old i) e) in
+        and-intro (lt-ltb t n (lt-trans (forward p) z))
+        (k .consistent .closed i z (and-right (ltb i n) (old i) e) t (precedes-agree w H' H start n (agree-sym H H' n a) z p))
+
+    counts : (c : ℕ) → writersIn old H c n ≡ writersIn P H' c (suc n)
+    counts c =
+        let z : one-if (P n && H' n .writes c) ≡ 0 = ap (λ (b : Bool). one-if (b && old n && H' n .writes c)) (le-ltb n n (omega arith)) in
+        omega (
+          arith,
+          count-same n (λ i. old i && H i .writes c) (λ i. P i && H' i .writes c)
+              (λ i l. ap₂ (λ (b : Bool) (t : Change). b && old i && t .writes c) (sym (lt-ltb i n l)) (a i l)),
+        )

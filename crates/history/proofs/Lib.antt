@@ -1,0 +1,13 @@
+pub mod Writers
+pub mod Precedence
+pub mod Greatest
+pub mod Vectors
+pub mod Climb
+pub mod Cuts
+pub mod Entries
+pub mod Lines
+pub mod Executions
+pub mod Reports
+pub mod Appending
+pub mod Table
+pub mod Theorems

@@ -1,0 +1,5 @@
+pub mod Change
+pub mod Report
+pub mod Vector
+pub mod Line
+pub mod Samples
