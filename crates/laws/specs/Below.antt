@@ -38,3 +38,8 @@ tabulate (suc n) f = tabulate n f ++ (f n ∷ [])
 abbrev pub selected : {A : Type 0} → ℕ → (ℕ → Bool) → (ℕ → A) → List A
 selected zero p f = []
 selected (suc n) p f = selected n p f ++ cond (p n) (f n ∷ []) []
+
+-- the first number below n at which the test passes, and n where there is none
+abbrev pub firstBelow : ℕ → (ℕ → Bool) → ℕ
+firstBelow zero p = 0
+firstBelow (suc n) p = cond (anyBelow n p) (firstBelow n p) (cond (p n) n (suc n))

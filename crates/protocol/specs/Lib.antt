@@ -1,0 +1,5 @@
+pub mod Model
+pub mod Sound
+pub mod Edit
+pub mod Plan
+pub mod Calls
