@@ -125,6 +125,13 @@ module _ (w : ℕ) (H : History) (start : Numbers) (n : ℕ) (v : ℕ → ℕ �
   rule-from c base reached a b d e =
       climbed-unique (line-climbed w s (v c) base reached (omega arith)) (climbed-from base reached (line-is c) a b d e)
 
+  -- what a change that fits depends on is in the line
+  pub fits-line : (i : ℕ) → i < n → Fits w H start s i → (j : ℕ) → j < w → vector w H start i j ≤ line w H start n v s j
+  fits-line i h f j l = by-cases (decLt 0 (vector w H start i j)) (λ z. reached (vector-greatest w H start i j l .met z)) (λ z. omega (arith, z))
+    where
+      reached : Makes H start (λ t. UpTo w H t i) j (vector w H start i j) → vector w H start i j ≤ line w H start n v s j
+      reached m = omega (arith, m .3, fits-on (m .0) j (omega (arith, h, up-to-le (m .1))) l (m .2) (fits-closed w H start s (m .1) f))
+
 -- greater stored numbers never lower the line
 pub line-mono : (w : ℕ) (H : History) (start : Numbers) (n : ℕ) (v : ℕ → ℕ → Vector) → IsVector w H start n v → (s s' : Numbers)
     → ((c : ℕ) → c < w → s c ≤ s' c) → (c : ℕ) → c < w → line w H start n v s c ≤ line w H start n v s' c
@@ -138,11 +145,4 @@ pub line-between : (w : ℕ) (H : History) (start : Numbers) (n : ℕ) (v : ℕ 
 line-between w H start n v isv s s' low high c l =
     le-antisymm (line-mono w H start n v isv s' s high c l)
     (told-by-makers H start n c (line w H start n v s c) (line w H start n v s' c) (line-is w H start n v isv s c .to-top) (line-is w H start n v isv s' c .from-base)
-    (λ i h e z. fits-on w H start n v isv s' i c h l e (lower i h (on-fits w H start n v isv s i c h l e z))))
-  where
-    lower : (i : ℕ) → i < n → Fits w H start s i → Fits w H start s' i
-    lower i h f j lj = by-cases (decLt 0 (vector w H start i j)) (λ z. reached (vector-greatest w H start i j lj .met z)) (λ z. omega (arith, z))
-      where
-        reached : Makes H start (λ t. UpTo w H t i) j (vector w H start i j) → vector w H start i j ≤ s' j
-        reached m =
-            omega (arith, m .3, low j lj, fits-on w H start n v isv s (m .0) j (omega (arith, h, up-to-le (m .1))) lj (m .2) (fits-closed w H start s (m .1) f))
+    (λ i h e z. fits-on w H start n v isv s' i c h l e (λ j lj. le-trans (fits-line w H start n v isv s i h (on-fits w H start n v isv s i c h l e z) j lj) (low j lj))))

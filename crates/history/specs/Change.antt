@@ -2,8 +2,10 @@
 -- The number of cards is a parameter, the width: a card is a number below it. A card that is not there is one that no change touches.
 use Prim.Native.Nat.{ℕ, zero, suc, _+_, _≤_, _<_}
 use mathlib.Core.Path.{_≡_}
-use mathlib.Core.Bool.{Bool, true, _&&_, _||_, cond}
+use mathlib.Core.Bool.{Bool, true, false, _&&_, _||_, cond}
+use mathlib.Core.List.{List}
 use lib.Dec.{eqb}
+use lib.ListN.{getD}
 use mathlib.Core.Logic.{_⊎_}
 use Rattle.laws.specs.Below.{countBelow}
 
@@ -28,6 +30,14 @@ meets s t c = touches s c && touches t c && (s .writes c || t .writes c)
 -- A history is the decided changes by their position, from 0, in the order of their decisions. How many there are is a number of its own.
 abbrev pub History : Type 0
 History = ℕ → Change
+
+-- no change
+abbrev pub noChange : Change
+noChange = record { number = 0; reads = λ c. false; writes = λ c. false }
+
+-- the changes of a list, as a history
+abbrev pub historyOf : List Change → History
+historyOf l i = getD l i noChange
 
 -- a number for each card: start numbers, stored numbers, a line
 abbrev pub Numbers : Type 0

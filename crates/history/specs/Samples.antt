@@ -5,7 +5,7 @@ use mathlib.Core.List.{List, [], _∷_, _++_, map}
 use lib.Dec.{eqb}
 use lib.ListN.{length, getD}
 use Rattle.laws.specs.Below.{tabulate}
-use Rattle.history.specs.Change.{CardSet, Change, History, Numbers}
+use Rattle.history.specs.Change.{CardSet, Change, Numbers, historyOf}
 use Rattle.history.specs.Vector.{Entry, none, state, entryOf, stateVector}
 use Rattle.history.specs.Line.{line, lostNumbers}
 
@@ -17,10 +17,6 @@ among (x ∷ xs) c = eqb x c || among xs c
 -- the change of that number that reads and writes the cards listed
 abbrev pub change : ℕ → List ℕ → List ℕ → Change
 change number reads writes = record { number = number; reads = among reads; writes = among writes }
-
--- the changes of a list, as a history
-abbrev pub historyOf : List Change → History
-historyOf l i = getD l i (change 0 [] [])
 
 -- the numbers of a list, by card
 abbrev pub numbersOf : List ℕ → Numbers

@@ -7,7 +7,7 @@ use mathlib.Core.List.{List, [], _∷_, _++_}
 use native.Mathlib.Nat.{not-suc-le-zero, eq-or-lt-of-le, le-of-suc-le-suc, le-step, le-refl, le-trans, lt-suc-self, le-of-lt, lt-of-not-le, le-add-right, add-le-add, le-max-left, le-max-right, max-le, max-eq-left, max-eq-right}
 use native.Mathlib.Decide.{decLe, decLt}
 use native.Mathlib.Omega.{arith}
-use Rattle.laws.specs.Below.{one-if, allBelow, anyBelow, countBelow, greatest, tabulate, selected}
+use Rattle.laws.specs.Below.{one-if, allBelow, anyBelow, countBelow, greatest, tabulate, selected, firstBelow}
 use Rattle.laws.proofs.Logic.{test, and-left, and-right, and-intro, or-left, or-right, or-elim, clash, fails}
 
 -- a number below suc n is n or below n
@@ -166,3 +166,19 @@ nth (suc n) p x h = by-cases (decLt x (countBelow n p)) (λ l. older (nth n p x 
 -- one that passes counts for those after it
 pub count-past : (p : ℕ → Bool) {i k : ℕ} → i < k → p i ≡ true → countBelow i p < countBelow k p
 count-past p {i} {k} h e = let z : one-if (p i) ≡ 1 = ap one-if e in omega (arith, count-mono (suc i) k p h)
+
+pub first-below : (n : ℕ) (p : ℕ → Bool) → anyBelow n p ≡ true → firstBelow n p < n
+first-below zero p e = clash e refl
+first-below (suc n) p e =
+    test (anyBelow n p) (λ d. rw d (le-step (first-below n p d))) (λ d. rw (d, rw d at e) (lt-suc-self n))
+
+pub any-same : (n : ℕ) (p q : ℕ → Bool) → ((k : ℕ) → k < n → p k ≡ q k) → anyBelow n p ≡ anyBelow n q
+any-same zero p q f = refl
+any-same (suc n) p q f = ap₂ (λ (a b : Bool). a || b) (any-same n p q (λ k h. f k (le-step h))) (f n (lt-suc-self n))
+
+-- the first number at which the test passes: below n exactly where there is one, and it passes there
+pub first-passes : (n : ℕ) (p : ℕ → Bool) → firstBelow n p < n → p (firstBelow n p) ≡ true
+first-passes zero p h = absurd (not-suc-le-zero h)
+first-passes (suc n) p h =
+    test (anyBelow n p) (λ e. rw e (first-passes n p (first-below n p e)))
+    (λ e. test (p n) (λ d. rw (e, d) d) (λ d. let z : suc n < suc n = rw (e, d) at h in absurd (omega arith)))

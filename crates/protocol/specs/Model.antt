@@ -3,7 +3,7 @@ use Prim.Native.Nat.{ℕ, zero, suc, _+_, _≤_, _<_}
 use mathlib.Core.Bool.{Bool, true, false, not, _&&_, _||_, cond}
 use lib.Dec.{eqb, leb, ltb}
 use Rattle.laws.specs.Below.{allBelow, anyBelow, firstBelow}
-use Rattle.history.specs.Change.{CardSet, Change, Numbers, touches}
+use Rattle.history.specs.Change.{CardSet, Change, Numbers, touches, noChange}
 use Rattle.history.specs.Vector.{Vector, noEntries, Tracked}
 
 -- "the limits 16, 48, 8 and 60,000", and 4,294,967,295, the greatest session and change number
@@ -73,9 +73,6 @@ pub record Model : Type 0 where
 -- ---- words
 abbrev pub noCards : CardSet
 noCards c = false
-
-abbrev pub noChange : Change
-noChange = record { number = 0; reads = noCards; writes = noCards }
 
 abbrev pub freePlace : OpenChange
 freePlace = record { change = noChange; yes = noCards; taken = noCards; vector = noEntries }
