@@ -9,7 +9,12 @@ use borrow.Author.Tests.{ltb-true, lt-ltb, le-ltb, ne-eqb}
 use Rattle.laws.specs.Below.{one-if, countBelow}
 use Rattle.laws.proofs.Logic.{and-left, and-right, and-intro}
 use Rattle.laws.proofs.Below.{count-same}
-use Rattle.history.specs.Change.{Change, History, Numbers, meets, writers, Precedes, direct, chain, Closed, left, writersIn, ConsistentCut, Cut, appended}
+use Rattle.history.specs.Change.{Change, History, Numbers, meets, writers, Precedes, direct, chain, Closed, left, writersIn, ConsistentCut, Cut, appended, noChange, historyOf, made}
+use mathlib.Core.List.{List, [], _∷_, _++_}
+use native.Mathlib.Numerals.{add-one}
+use lib.ListN.{length, length-append, List·getD-append}
+use lib.Seq.{getD-append-seam}
+use Rattle.history.proofs.Vectors.{frame-is}
 use Rattle.history.specs.Vector.{Tracked, vectorOf, taken, after, vector, stateVector}
 use Rattle.history.proofs.Precedence.{forward}
 
@@ -68,3 +73,21 @@ cut-kept w H H' start n stored g a k =
           count-same n (λ i. old i && H i .writes c) (λ i. P i && H' i .writes c)
               (λ i l. ap₂ (λ (b : Bool) (t : Change). b && old i && t .writes c) (sym (lt-ltb i n l)) (a i l)),
         )
+
+-- the vector of a state that was made stays
+pub frames-kept : (w : ℕ) (H H' : History) (start : Numbers) (n : ℕ) → Agree H H' n → (i c : ℕ) → i < n → H i .writes c ≡ true
+    → stateVector w H' start (suc n) c (made H start i c) ≡ stateVector w H start n c (made H start i c)
+frames-kept w H H' start n a i c h e =
+    ap (λ (x : ℕ). stateVector w H' start (suc n) c (suc (start c + x))) (writers-agree w H H' start i c (agree-less H H' (omega arith) a))
+    ∙ frame-is w H' start (suc n) i c (le-step h) (ap (λ (t : Change). t .writes c) (sym (a i h)) ∙ e)
+    ∙ sym (vector-agree w H H' start n i a h) ∙ sym (frame-is w H start n i c h e)
+
+-- a list that grows at its end: the history that it was, and the change decided
+pub grown-agree : (l : List Change) (t : Change) → Agree (historyOf l) (historyOf (l ++ t ∷ [])) (length l)
+grown-agree l t i h = sym (List·getD-append l (t ∷ []) noChange i h)
+
+pub grown-last : (l : List Change) (t : Change) → historyOf (l ++ t ∷ []) (length l) ≡ t
+grown-last l t = getD-append-seam l t [] noChange
+
+pub grown-length : (l : List Change) (t : Change) → length (l ++ t ∷ []) ≡ suc (length l)
+grown-length l t = length-append l (t ∷ []) ∙ add-one (length l)

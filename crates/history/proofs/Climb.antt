@@ -13,14 +13,7 @@ use Rattle.laws.proofs.Logic.{test, clash, fails}
 use Rattle.laws.proofs.Below.{any-intro, any-elim, Found}
 use Rattle.history.specs.Change.{Numbers}
 use Rattle.history.specs.Vector.{Vector, Entry, none, state, entryOf}
-use Rattle.history.specs.Line.{atOrAbove, orphan, climb, lineFrom}
-
--- x is the greatest state from base to top with no orphan from base + 1 up to it
-pub record Climbed (f : ℕ → Bool) (base top x : ℕ) : Type 0 where
-  pub from-base : base ≤ x
-  pub to-top : x ≤ top
-  pub free : (y : ℕ) → base < y → y ≤ x → f y ≡ false
-  pub greatest : (z : ℕ) → base ≤ z → z ≤ top → ((y : ℕ) → base < y → y ≤ z → f y ≡ false) → z ≤ x
+use Rattle.history.specs.Line.{atOrAbove, orphan, climb, Climbed, lineFrom}
 
 pub climbed : (f : ℕ → Bool) (base k : ℕ) → Climbed f base (base + k) (climb f base k)
 climbed f base zero =

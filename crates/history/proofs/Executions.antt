@@ -72,13 +72,13 @@ module _ (w : ℕ) (H : History) (start : Numbers) (n : ℕ) (g : Numbers) where
       record {
         set = listed (k .T) (k .l);
         closed = closed;
-        leaves = λ c h. k .represents c h ∙ ap (λ (x : ℕ). start c + x) (count-listed (k .l) n (k .T) (λ i. H i .writes c) (k .distinct) (k .a));
+        leaves = λ c h. k .represents c h ∙ ap (λ (x : ℕ). start c + x) (count-listed (k .l) n (k .T) (λ i. H i .writes c) (k .distinct) (k .clause-a));
       }
     where
       closed : Closed w H n (listed (k .T) (k .l))
       closed i h e t p =
           let r : (x : ℕ) × (x < k .l) × (k .T x ≡ i) = at-listed (k .T) (k .l) i e in
-          let s : (y : ℕ) × (y < k .l) × (k .T y ≡ t) = k .b (r .0) (r .1) t (rw (r .2) (by-report w H start p)) in
+          let s : (y : ℕ) × (y < k .l) × (k .T y ≡ t) = k .clause-b (r .0) (r .1) t (rw (r .2) (by-report w H start p)) in
           rw (s .2) at (listed-at (k .T) (k .l) (s .0) (s .1))
 
 -- ---- from a cut to Definition 3: its changes in the order of the history
@@ -120,10 +120,10 @@ module _ (w : ℕ) (H : History) (start : Numbers) (n : ℕ) (g : Numbers) where
         T = member n P;
         distinct = distinct;
         represents = λ c h. k .leaves c h ∙ ap (λ (x : ℕ). start c + x) (sym (counts c));
-        a = λ x z. member-is n P x z .0;
-        b = λ x z t p. let q : Precedes w H t (member n P x) = by-document w H start p in
+        clause-a = λ x z. member-is n P x z .0;
+        clause-b = λ x z t p. let q : Precedes w H t (member n P x) = by-document w H start p in
             place n P t (lt-trans (forward q) (member-is n P x z .0)) (k .closed (member n P x) (member-is n P x z .0) (member-is n P x z .1) t q);
-        c = λ x y u z p. let q : member n P x < member n P y = forward (by-document w H start p) in
+        clause-c = λ x y u z p. let q : member n P x < member n P y = forward (by-document w H start p) in
             omega (arith, count-past P q (member-is n P x u .1), member-is n P x u .2, member-is n P y z .2);
       }
     where

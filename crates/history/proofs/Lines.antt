@@ -10,12 +10,12 @@ use native.Mathlib.Omega.{arith}
 use Rattle.laws.proofs.Logic.{test, clash, not-true, not-intro}
 use Rattle.history.specs.Change.{Change, History, Numbers, writers, found, made, Precedes, UpTo, Closed, left, ConsistentCut, Cut}
 use Rattle.history.specs.Vector.{Vector, vector, IsVector}
-use Rattle.history.specs.Line.{orphan, climb, lineFrom, line}
+use Rattle.history.specs.Line.{orphan, Climbed, lineFrom, line}
 use Rattle.history.proofs.Writers.{Maker, maker, made-found, makers-order}
 use Rattle.history.proofs.Precedence.{up-to-trans, up-to-le}
 use Rattle.history.proofs.Greatest.{Greatest, Makes, greatest-mono}
 use Rattle.history.proofs.Vectors.{vector-greatest}
-use Rattle.history.proofs.Climb.{Climbed, line-climbed, climbed-from, climbed-unique, kept, no-orphan}
+use Rattle.history.proofs.Climb.{line-climbed, climbed-from, climbed-unique, kept, no-orphan}
 use Rattle.history.proofs.Cuts.{told-by-makers, in-left, left-in, left-top, writers-precede}
 use Rattle.history.proofs.Entries.{vector-agrees}
 

@@ -79,9 +79,9 @@ module _ (w : ℕ) (H : History) (start : Numbers) where
       (meets-intro (H t) (H t') c (u .0 .0) (writes-touches (H t') c (v .0)) (inr (v .0)))
 
   pub by-document : {t t' : ℕ} → Before w H start t t' → Precedes w H t t'
-  by-document (Before.a c γ l u v) = from-a c γ l u v
-  by-document (Before.b c γ l u v) = from-b c γ l u v
-  by-document (Before.c p q) = chain (by-document p) (by-document q)
+  by-document (Before.clause-a c γ l u v) = from-a c γ l u v
+  by-document (Before.clause-b c γ l u v) = from-b c γ l u v
+  by-document (Before.clause-c p q) = chain (by-document p) (by-document q)
 
   -- t wrote card c and t' touches it later: a chain of writers, by (a). fuel bounds t'
   wrote-before : (fuel : ℕ) (c : ℕ) {t t' : ℕ} → t' ≤ fuel → c < w → t < t' → H t .writes c ≡ true → touches (H t') c ≡ true → Before w H start t t'
@@ -95,13 +95,13 @@ module _ (w : ℕ) (H : History) (start : Numbers) where
       at = found-by .0 .at
 
       step : Before w H start at t'
-      step = Before.a c (found H start at c) l (found-by .0 .wrote, refl) (d, found-by .0 .makes)
+      step = Before.clause-a c (found H start at c) l (found-by .0 .wrote, refl) (d, found-by .0 .makes)
 
       now : t ≡ at → Before w H start t t'
       now q = rw q step
 
       earlier : (touches (H at) c ≡ true → Before w H start t at) → Before w H start t t'
-      earlier rest = Before.c (rest (writes-touches (H at) c (found-by .0 .wrote))) step
+      earlier rest = Before.clause-c (rest (writes-touches (H at) c (found-by .0 .wrote))) step
 
   -- t touches card c without writing it and t' writes it later: the next writer comes after t by (b)
   read-before : (c : ℕ) {t t' : ℕ} → c < w → t < t' → H t .writes c ≡ false → touches (H t) c ≡ true → H t' .writes c ≡ true → Before w H start t t'
@@ -115,11 +115,11 @@ module _ (w : ℕ) (H : History) (start : Numbers) where
 
       step : Before w H start t at
       step =
-          Before.b c (found H start t c) l ((d, refl), λ u. clash (u .0) e) (next .0 .wrote, omega (arith, next .0 .makes))
+          Before.clause-b c (found H start t c) l ((d, refl), λ u. clash (u .0) e) (next .0 .wrote, omega (arith, next .0 .makes))
 
       later : ¬ (at ≡ t') → Before w H start t t'
       later q =
-          Before.c step
+          Before.clause-c step
           (wrote-before t' c (le-refl t') l (omega (arith, next .0 .in-history, q)) (next .0 .wrote) (writes-touches (H t') c e'))
 
   pub by-report : {t t' : ℕ} → Precedes w H t t' → Before w H start t t'
@@ -127,4 +127,4 @@ module _ (w : ℕ) (H : History) (start : Numbers) where
       test (H t .writes c) (λ p. wrote-before t' c (le-refl t') l h p (meets-second (H t) (H t') c e))
       (λ p. read-before c l h p (meets-first (H t) (H t') c e)
       (⊎-elim (λ (q : H t .writes c ≡ true). clash q p) (λ (q : H t' .writes c ≡ true). q) (meets-writes (H t) (H t') c e)))
-  by-report (chain p q) = Before.c (by-report p) (by-report q)
+  by-report (chain p q) = Before.clause-c (by-report p) (by-report q)

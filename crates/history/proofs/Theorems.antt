@@ -3,15 +3,16 @@ use Prim.Native.Nat.{ℕ, zero, suc, _+_, _≤_, _<_}
 use mathlib.Core.Path.{_≡_, refl, sym, _∙_, ap}
 use mathlib.Core.Bool.{Bool, true, false, not, _&&_, _||_}
 use mathlib.Core.Logic.{_↔_, ⊎-elim}
-use lib.Dec.{leb}
+use lib.Dec.{leb, eqb}
 use borrow.Author.Tests.{leb-true, le-leb}
-use Rattle.laws.specs.Below.{allBelow, anyBelow}
+use Rattle.laws.specs.Below.{allBelow, anyBelow, countBelow, occurs}
 use Rattle.laws.proofs.Logic.{test, clash, and-left, and-right, and-intro, or-left, or-right, or-elim, not-true, not-intro, fails}
-use Rattle.laws.proofs.Below.{Found, any-elim, any-intro, all-at, all-intro}
+use Rattle.laws.proofs.Below.{Found, any-elim, any-intro, all-at, all-intro, occurs-selected}
 use Rattle.history.specs.Change.{Change, History, Numbers, writers, made, Precedes, ConsistentCut, Cut, On, appended}
 use Rattle.history.specs.Report.{Before, StateBefore, Consistent, Global, RecoveryLine}
 use Rattle.history.specs.Vector.{Vector, vector, stateVector, IsVector}
-use Rattle.history.specs.Line.{line, lineFrom, wrote, inLine, lost}
+use Rattle.history.specs.Line.{orphan, Climbed, line, lineFrom, wrote, inLine, lost, lostNumbers}
+use Rattle.history.proofs.Climb.{line-climbed}
 use Rattle.history.proofs.Precedence.{by-document, by-report}
 use Rattle.history.proofs.Entries.{state-vector-is}
 use Rattle.history.proofs.Cuts.{in-left, left-in}
@@ -91,7 +92,7 @@ pub report-theorem-1 : (w : ℕ) (H : History) (start : Numbers) (n : ℕ) (g : 
     → Consistent w H start n g ↔ ((i j : ℕ) → i < w → j < w → ¬ (StateBefore w H start n i (g i) j (g j)))
 report-theorem-1 w H start n g global = Reports.theorem-1 w H start n g global
 
--- the report's Theorem 2, as printed: what it determines is "the most recent recoverable consistent global state", and there is one
+-- the report's Theorem 2, as printed: what it determines is the most recent of the consistent global states that are stored, and there is one
 pub report-theorem-2 : (w : ℕ) (H : History) (start : Numbers) (n : ℕ) (last r : Numbers) → Global w H start n last → RecoveryLine w H start n last r
     → Consistent w H start n r × ((c : ℕ) → c < w → r c ≤ last c)
     × ((g : Numbers) → Consistent w H start n g → ((c : ℕ) → c < w → g c ≤ last c) → (c : ℕ) → c < w → g c ≤ r c)
@@ -122,6 +123,11 @@ pub report-theorem-2-exists : (w : ℕ) (H : History) (start : Numbers) (n : ℕ
     → RecoveryLine w H start n last (line w H start n (stateVector w H start n) last)
 report-theorem-2-exists w H start n last global = Reports.line-recovers w H start n last global
 
+-- the numbers of the changes lost: each as often as a lost change has it
+pub lost-numbers : (w : ℕ) (H : History) (start : Numbers) (n : ℕ) (l : Numbers) (k : ℕ)
+    → occurs k (lostNumbers w H start n l) ≡ countBelow n (λ i. lost w H start l i && eqb (H i .number) k)
+lost-numbers w H start n l k = occurs-selected n (lost w H start l) (λ i. H i .number) k
+
 -- ---- 4. how the line and the vectors move
 -- greater stored numbers never lower the line
 pub line-monotone : (w : ℕ) (H : History) (start : Numbers) (n : ℕ) (v : ℕ → ℕ → Vector) → IsVector w H start n v → (stored stored' : Numbers)
@@ -139,11 +145,21 @@ pub append-vectors : (w : ℕ) (H : History) (start : Numbers) (n : ℕ) (t : Ch
 append-vectors w H start n t i h =
     sym (Appending.vector-agree w H (appended H n t) start n i (Appending.appended-agree H n t) h)
 
+-- nor the vector of a state that was made
+pub append-frames : (w : ℕ) (H : History) (start : Numbers) (n : ℕ) (t : Change) (i c : ℕ) → i < n → H i .writes c ≡ true
+    → stateVector w (appended H n t) start (suc n) c (made H start i c) ≡ stateVector w H start n c (made H start i c)
+append-frames w H start n t i c h e = Appending.frames-kept w H (appended H n t) start n (Appending.appended-agree H n t) i c h e
+
 -- and a cut stays one
 pub append-cut : (w : ℕ) (H : History) (start : Numbers) (n : ℕ) (t : Change) (stored g : Numbers) → Cut w H start n stored g → Cut w (appended H n t) start (suc n) stored g
 append-cut w H start n t stored g k = Appending.cut-kept w H (appended H n t) start n stored g (Appending.appended-agree H n t) k
 
--- ---- 5. the rule per card, as an engine runs it, from base to reached, gives that line where base is not above the line there
+-- ---- 5. the rule per card answers what it says: the greatest state from base to reached with no hit from base + 1 up to it
+pub rule-greatest : (w : ℕ) (stored : Numbers) (frames : ℕ → Vector) (base reached : ℕ) → base ≤ reached
+    → Climbed (λ s. orphan w stored (frames s)) base reached (lineFrom w stored frames base reached)
+rule-greatest w stored frames base reached h = line-climbed w stored frames base reached h
+
+-- the rule per card, as an engine runs it, from base to reached, gives that line where base is not above the line there
 pub rule-is-line : (w : ℕ) (H : History) (start : Numbers) (n : ℕ) (v : ℕ → ℕ → Vector) → IsVector w H start n v → (stored : Numbers) (c base reached : ℕ)
     → start c ≤ base → base ≤ line w H start n v stored c → line w H start n v stored c ≤ reached → reached ≤ start c + writers H c n
     → lineFrom w stored (v c) base reached ≡ line w H start n v stored c

@@ -1,5 +1,6 @@
 -- The recovery line by document 01's call 9, as a function of any stored numbers, and the changes lost.
-use Prim.Native.Nat.{ℕ, zero, suc, _+_, _-_}
+use Prim.Native.Nat.{ℕ, zero, suc, _+_, _-_, _≤_, _<_}
+use mathlib.Core.Path.{_≡_}
 use mathlib.Core.Bool.{Bool, true, false, not, _&&_, _||_, cond}
 use mathlib.Core.List.{List}
 use lib.Dec.{leb}
@@ -20,6 +21,13 @@ orphan w stored v = anyBelow w (λ j. atOrAbove (entryOf (v j)) (stored j))
 abbrev pub climb : (ℕ → Bool) → ℕ → ℕ → ℕ
 climb orphans base zero = base
 climb orphans base (suc k) = cond (orphans (suc base)) base (climb orphans (suc base) k)
+
+-- x is the greatest state from base to top with no orphan from base + 1 up to it
+pub record Climbed (f : ℕ → Bool) (base top x : ℕ) : Type 0 where
+  pub from-base : base ≤ x
+  pub to-top : x ≤ top
+  pub free : (y : ℕ) → base < y → y ≤ x → f y ≡ false
+  pub greatest : (z : ℕ) → base ≤ z → z ≤ top → ((y : ℕ) → base < y → y ≤ z → f y ≡ false) → z ≤ x
 
 -- "The line of a card is its greatest state, from base to reached, with no hit from base + 1 up to it": frames are the vectors of the card's states
 abbrev pub lineFrom : ℕ → Numbers → (ℕ → Vector) → ℕ → ℕ → ℕ

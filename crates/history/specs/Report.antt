@@ -20,9 +20,9 @@ R H start t c γ = RW H start t c γ × ¬ (W H start t c γ)
 
 -- Definition 1. Transaction t precedes t'. (The report's γ − 1 and γ are γ and γ + 1 here.)
 pub data Before (w : ℕ) (H : History) (start : Numbers) : ℕ → ℕ → Type 0 where
-  a : {t t' : ℕ} (c γ : ℕ) → c < w → W H start t c γ → RW H start t' c (suc γ) → Before w H start t t'
-  b : {t t' : ℕ} (c γ : ℕ) → c < w → R H start t c γ → W H start t' c γ → Before w H start t t'
-  c : {t t'' t' : ℕ} → Before w H start t t'' → Before w H start t'' t' → Before w H start t t'
+  clause-a : {t t' : ℕ} (c γ : ℕ) → c < w → W H start t c γ → RW H start t' c (suc γ) → Before w H start t t'
+  clause-b : {t t' : ℕ} (c γ : ℕ) → c < w → R H start t c γ → W H start t' c γ → Before w H start t t'
+  clause-c : {t t'' t' : ℕ} → Before w H start t t'' → Before w H start t'' t' → Before w H start t t'
 
 -- Definition 2. State α of card a precedes state β of card b, in a history of n transactions.
 pub record StateBefore (w : ℕ) (H : History) (start : Numbers) (n a α b β : ℕ) : Type 0 where
@@ -45,12 +45,13 @@ pub record Consistent (w : ℕ) (H : History) (start : Numbers) (n : ℕ) (g : N
   -- T is a set: no transaction stands in it twice
   pub distinct : (x y : ℕ) → x < l → y < l → T x ≡ T y → x ≡ y
   pub represents : (c : ℕ) → c < w → g c ≡ start c + writers (λ x. H (T x)) c l
-  -- (a) all are transactions of the history
-  pub a : (x : ℕ) → x < l → T x < n
+  -- (a) all are transactions of the history. The report says "non-aborted persistent transactions in H": a history has decided changes alone, and which of them persist is
+  -- what a recovery finds out, so any of them may be in T
+  pub clause-a : (x : ℕ) → x < l → T x < n
   -- (b) with t all that precede it
-  pub b : (x : ℕ) → x < l → (t' : ℕ) → Before w H start t' (T x) → (y : ℕ) × (y < l) × (T y ≡ t')
+  pub clause-b : (x : ℕ) → x < l → (t' : ℕ) → Before w H start t' (T x) → (y : ℕ) × (y < l) × (T y ≡ t')
   -- (c) in a correct order
-  pub c : (x y : ℕ) → x < l → y < l → Before w H start (T x) (T y) → x < y
+  pub clause-c : (x y : ℕ) → x < l → y < l → Before w H start (T x) (T y) → x < y
 
 -- "A global state .. is a set composed of a local state for each database server": of each card a state that the history made, or the first.
 abbrev pub Global : ℕ → History → Numbers → ℕ → Numbers → Type 0

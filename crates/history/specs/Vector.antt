@@ -6,7 +6,7 @@ use Rattle.laws.specs.Below.{greatest}
 use Rattle.history.specs.Change.{Change, History, Numbers, writers}
 use Rattle.history.specs.Report.{StateBefore}
 
--- Document 01's entry: "a state number, or none"
+-- Document 01's entry: "a state number 0 to 59,999, or none". The greatest number is a limit of the cabinet, not of the theory.
 pub data Entry : Type 0 where
   none : Entry
   state : ℕ → Entry

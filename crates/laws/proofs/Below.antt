@@ -7,7 +7,8 @@ use mathlib.Core.List.{List, [], _∷_, _++_}
 use native.Mathlib.Nat.{not-suc-le-zero, eq-or-lt-of-le, le-of-suc-le-suc, le-step, le-refl, le-trans, lt-suc-self, le-of-lt, lt-of-not-le, le-add-right, add-le-add, le-max-left, le-max-right, max-le, max-eq-left, max-eq-right}
 use native.Mathlib.Decide.{decLe, decLt}
 use native.Mathlib.Omega.{arith}
-use Rattle.laws.specs.Below.{one-if, allBelow, anyBelow, countBelow, greatest, tabulate, selected, firstBelow}
+use Rattle.laws.specs.Below.{one-if, allBelow, anyBelow, countBelow, greatest, tabulate, selected, firstBelow, occurs}
+use lib.Dec.{eqb}
 use Rattle.laws.proofs.Logic.{test, and-left, and-right, and-intro, or-left, or-right, or-elim, clash, fails}
 
 -- a number below suc n is n or below n
@@ -182,3 +183,18 @@ first-passes zero p h = absurd (not-suc-le-zero h)
 first-passes (suc n) p h =
     test (anyBelow n p) (λ e. rw e (first-passes n p (first-below n p e)))
     (λ e. test (p n) (λ d. rw (e, d) d) (λ d. let z : suc n < suc n = rw (e, d) at h in absurd (omega arith)))
+
+pub occurs-append : (k : ℕ) (xs ys : List ℕ) → occurs k (xs ++ ys) ≡ occurs k xs + occurs k ys
+occurs-append k [] ys = omega arith
+occurs-append k (x ∷ xs) ys = let e : occurs k (xs ++ ys) ≡ occurs k xs + occurs k ys = occurs-append k xs ys in omega arith
+
+-- a selected list has k as often as a number that is selected gives it
+pub occurs-selected : (n : ℕ) (p : ℕ → Bool) (f : ℕ → ℕ) (k : ℕ) → occurs k (selected n p f) ≡ countBelow n (λ i. p i && eqb (f i) k)
+occurs-selected zero p f k = refl
+occurs-selected (suc n) p f k =
+    let e : occurs k (selected n p f) ≡ countBelow n (λ i. p i && eqb (f i) k) = occurs-selected n p f k in
+    omega (arith, occurs-append k (selected n p f) (cond (p n) (f n ∷ []) []), last (p n))
+  where
+    last : (b : Bool) → occurs k (cond b (f n ∷ []) []) ≡ one-if (b && eqb (f n) k)
+    last true = omega arith
+    last false = refl

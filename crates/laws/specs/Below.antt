@@ -3,6 +3,7 @@
 use Prim.Native.Nat.{ℕ, zero, suc, _+_, max}
 use mathlib.Core.Bool.{Bool, true, false, _&&_, _||_, cond}
 use mathlib.Core.List.{List, [], _∷_, _++_}
+use lib.Dec.{eqb}
 
 -- 1 where the test passes, and 0 where it fails
 abbrev pub one-if : Bool → ℕ
@@ -43,3 +44,8 @@ selected (suc n) p f = selected n p f ++ cond (p n) (f n ∷ []) []
 abbrev pub firstBelow : ℕ → (ℕ → Bool) → ℕ
 firstBelow zero p = 0
 firstBelow (suc n) p = cond (anyBelow n p) (firstBelow n p) (cond (p n) n (suc n))
+
+-- how often k stands in a list
+abbrev pub occurs : ℕ → List ℕ → ℕ
+occurs k [] = 0
+occurs k (x ∷ xs) = one-if (eqb x k) + occurs k xs

@@ -10,10 +10,10 @@ use native.Mathlib.Omega.{arith}
 use Rattle.laws.proofs.Below.{any-same}
 use Rattle.history.specs.Change.{Change, History, Numbers, writers, made, Cut}
 use Rattle.history.specs.Vector.{Vector, entryOf, vector, stateVector, IsVector}
-use Rattle.history.specs.Line.{atOrAbove, orphan, lineFrom, line}
+use Rattle.history.specs.Line.{atOrAbove, orphan, Climbed, lineFrom, line}
 use Rattle.history.proofs.Writers.{Maker, maker}
 use Rattle.history.proofs.Vectors.{frame-is}
-use Rattle.history.proofs.Climb.{Climbed, line-climbed, climbed-same, climbed-unique}
+use Rattle.history.proofs.Climb.{line-climbed, climbed-same, climbed-unique}
 use Rattle.history.proofs.Cuts.{told-by-makers}
 use Rattle.history.proofs.Entries.{state-vector-is}
 use Rattle.history.proofs.Lines.{Fits, line-is, fits-on, on-fits, fits-line, line-cut, line-between, rule-from}
@@ -41,7 +41,7 @@ module _ (w : ℕ) (H : History) (start : Numbers) (n : ℕ) where
 
   -- the rule per card gives the line
   pub bridge : {s base stored reached : Numbers} {frame : ℕ → ℕ → Vector} → Intact w H start n s base stored reached frame
-    → (c : ℕ) → c < w → lineFrom w stored (frame c) (base c) (reached c) ≡ lineAt w H start n s c
+      → (c : ℕ) → c < w → lineFrom w stored (frame c) (base c) (reached c) ≡ lineAt w H start n s c
   bridge {s} {base} {stored} {reached} {frame} k c l =
       climbed-unique (climbed-same same (line-climbed w stored (frame c) (base c) (reached c) (omega (arith, k .base-line c l, k .line-stored c l, k .stored-reached c l))))
       (line-climbed w stored (v c) (base c) (reached c) (omega (arith, k .base-line c l, k .line-stored c l, k .stored-reached c l)))
@@ -51,8 +51,10 @@ module _ (w : ℕ) (H : History) (start : Numbers) (n : ℕ) where
     where
       v : ℕ → ℕ → Vector
       v = stateVector w H start n
+
       between : (d : ℕ) → d < w → lineAt w H start n stored d ≡ lineAt w H start n s d
       between = line-between w H start n v (state-vector-is w H start n) s stored (k .line-stored) (k .stored-least)
+
       same : (y : ℕ) → base c < y → y ≤ reached c → orphan w stored (frame c y) ≡ orphan w stored (v c y)
       same y a b =
           let m : Maker H start n c y = maker H start n c y (omega (arith, a, k .from-start c l)) (omega (arith, b, k .reached-top c l)) in
@@ -62,9 +64,9 @@ module _ (w : ℕ) (H : History) (start : Numbers) (n : ℕ) where
 
   -- fewer states in hand, and lower stored numbers, that keep the line
   pub intact-lower : {s base stored reached base' stored' reached' : Numbers} {frame frame' : ℕ → ℕ → Vector} → Intact w H start n s base stored reached frame
-    → ((c : ℕ) → c < w → base c ≤ base' c) → ((c : ℕ) → c < w → base' c ≤ lineAt w H start n s c) → ((c : ℕ) → c < w → lineAt w H start n s c ≤ stored' c)
-    → ((c : ℕ) → c < w → stored' c ≤ stored c) → ((c : ℕ) → c < w → stored' c ≤ reached' c) → ((c : ℕ) → c < w → reached' c ≤ reached c)
-    → ((c x j : ℕ) → c < w → j < w → base' c < x → x ≤ reached' c → frame' c x j ≡ frame c x j) → Intact w H start n s base' stored' reached' frame'
+      → ((c : ℕ) → c < w → base c ≤ base' c) → ((c : ℕ) → c < w → base' c ≤ lineAt w H start n s c) → ((c : ℕ) → c < w → lineAt w H start n s c ≤ stored' c)
+      → ((c : ℕ) → c < w → stored' c ≤ stored c) → ((c : ℕ) → c < w → stored' c ≤ reached' c) → ((c : ℕ) → c < w → reached' c ≤ reached c)
+      → ((c x j : ℕ) → c < w → j < w → base' c < x → x ≤ reached' c → frame' c x j ≡ frame c x j) → Intact w H start n s base' stored' reached' frame'
   intact-lower {s} {base} {stored} {reached} {base'} {stored'} {reached'} {frame} {frame'} k a b d e f g same =
       record {
         from-start = λ c l. le-trans (k .from-start c l) (a c l);
@@ -78,13 +80,14 @@ module _ (w : ℕ) (H : History) (start : Numbers) (n : ℕ) where
 
   -- what fits the bases is in every line above them
   pub based-line : {base s : Numbers} → Based w H start n base → ((c : ℕ) → c < w → base c ≤ start c + writers H c n) → ((c : ℕ) → c < w → base c ≤ s c)
-    → (c : ℕ) → c < w → base c ≤ lineAt w H start n s c
+      → (c : ℕ) → c < w → base c ≤ lineAt w H start n s c
   based-line {base} {s} b top le c l =
       told-by-makers H start n c (base c) (lineAt w H start n s c) (top c l) (line-is w H start n v isv s c .from-base)
       (λ i h e z. fits-on w H start n v isv s i c h l e (λ j lj. le-trans (b .cut i c j h l lj e z) (le j lj)))
     where
       v : ℕ → ℕ → Vector
       v = stateVector w H start n
+
       isv : IsVector w H start n v
       isv = state-vector-is w H start n
 
@@ -93,5 +96,5 @@ module _ (w : ℕ) (H : History) (start : Numbers) (n : ℕ) where
   line-based s =
       record {
         cut = λ i c j h l lj e z. fits-line w H start n (stateVector w H start n) (state-vector-is w H start n) s i h
-          (on-fits w H start n (stateVector w H start n) (state-vector-is w H start n) s i c h l e z) j lj;
+            (on-fits w H start n (stateVector w H start n) (state-vector-is w H start n) s i c h l e z) j lj;
       }

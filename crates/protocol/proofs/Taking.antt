@@ -71,7 +71,7 @@ module _ (w : ℕ) (H : History) (start : Numbers) (n : ℕ) (took : Took) where
 
   -- on a card that change n meets every earlier writer is taken: reached is what change n finds
   pub reached-decided : Orderly w H n took → {reached : Numbers} → Levels w H start n took reached → ((i c : ℕ) → i < n → c < w → meets (H i) (H n) c ≡ true → took i c ≡ true)
-    → (c : ℕ) → c < w → touches (H n) c ≡ true → reached c ≡ found H start n c
+      → (c : ℕ) → c < w → touches (H n) c ≡ true → reached c ≡ found H start n c
   reached-decided o {reached} v joins c l e = le-antisymm (v .high c l) (by-cases (decLt (start c) (found H start n c)) above (λ h. omega (arith, h, v .low c l)))
     where
       above : start c < found H start n c → found H start n c ≤ reached c
@@ -116,7 +116,7 @@ module _ (w : ℕ) (H : History) (start : Numbers) (n : ℕ) (took : Took) where
 
   -- the vector that a vote works out from what is tracked is the vector of the change
   pub vector-decided : Orderly w H n took → (h : Tracked) → Levels w H start n took (h .reached) → Tracks w H start n took (h .last) (h .pending)
-    → ((i c : ℕ) → i < n → c < w → meets (H i) (H n) c ≡ true → took i c ≡ true) → (j : ℕ) → j < w → vectorOf w h (H n) j ≡ vector w H start n j
+      → ((i c : ℕ) → i < n → c < w → meets (H i) (H n) c ≡ true → took i c ≡ true) → (j : ℕ) → j < w → vectorOf w h (H n) j ≡ vector w H start n j
   vector-decided o h v r joins j lj = greatest-unique (vector-stands w H start h n stands j lj) (vector-greatest w H start n j lj)
     where
       stands : Stands w H start h n
@@ -124,11 +124,11 @@ module _ (w : ℕ) (H : History) (start : Numbers) (n : ℕ) (took : Took) where
           record {
             reached-is = λ c l e. reached-decided o v joins c l (writes-touches (H n) c e);
             last-is = λ c l e d j lj. greatest-of (λ t b. (b .0, b .1, b .3, b .4))
-              (λ t b. (b .0, b .1, joins (b .0) c (b .1) l (meets-intro (H (b .0)) (H n) c (writes-touches (H (b .0)) c (b .2)) (or-left (H n .writes c) d) (inl (b .2))), b .2, b .3))
-              (r .last-is c j l lj);
+                (λ t b. (b .0, b .1, joins (b .0) c (b .1) l (meets-intro (H (b .0)) (H n) c (writes-touches (H (b .0)) c (b .2)) (or-left (H n .writes c) d) (inl (b .2))), b .2, b .3))
+                (r .last-is c j l lj);
             pending-is = λ c l e j lj. greatest-of (λ t b. (b .0, b .1, b .3, b .4))
-              (λ t b. (b .0, b .1, joins (b .0) c (b .1) l (meets-intro (H (b .0)) (H n) c (b .2) (writes-touches (H n) c e) (inr e)), b .2, b .3))
-              (r .pending-is c j l lj);
+                (λ t b. (b .0, b .1, joins (b .0) c (b .1) l (meets-intro (H (b .0)) (H n) c (b .2) (writes-touches (H n) c e) (inr e)), b .2, b .3))
+                (r .pending-is c j l lj);
           }
 
 -- ---- a share: card c takes change i
@@ -192,29 +192,30 @@ module _ (w : ℕ) (H : History) (start : Numbers) (n : ℕ) (took : Took) (o : 
           low = λ d ld. put-case (λ k x. start k ≤ x) reached c (suc (reached c)) d (λ (q : d ≡ c). rw q (omega (arith, v .low c l))) (λ q. v .low d ld);
           high = λ d ld. put-case (λ k x. x ≤ start k + writers H k n) reached c (suc (reached c)) d (λ (q : d ≡ c). rw q (omega (arith, reached-next, made-found H start c h e))) (λ q. v .high d ld);
           up-to = λ k d hk ld ek t. put-case (λ y x. H k .writes y ≡ true → alsoTook took i c k y ≡ true → made H start k y ≤ x) reached c (suc (reached c)) d
-            (λ (q : d ≡ c). rw q (λ ek′ t′. ⊎-elim (λ (z : (k ≡ i) × (c ≡ c)). rw (z .0) (omega (arith, reached-next))) (λ (z : took k c ≡ true). le-step (v .up-to k c hk l ek′ z)) (took-cases took i c k c t′)))
-            (λ q ek′ t′. ⊎-elim (λ (z : (k ≡ i) × (d ≡ c)). absurd (q (z .1))) (λ (z : took k d ≡ true). v .up-to k d hk ld ek′ z) (took-cases took i c k d t′)) ek t;
+              (λ (q : d ≡ c). rw q (λ ek′ t′. ⊎-elim (λ (z : (k ≡ i) × (c ≡ c)). rw (z .0) (omega (arith, reached-next))) (λ (z : took k c ≡ true). le-step (v .up-to k c hk l ek′ z)) (took-cases took i c k c t′)))
+              (λ q ek′ t′. ⊎-elim (λ (z : (k ≡ i) × (d ≡ c)). absurd (q (z .1))) (λ (z : took k d ≡ true). v .up-to k d hk ld ek′ z) (took-cases took i c k d t′)) ek t;
           taken = λ k d hk ld ek z. put-case (λ y x. H k .writes y ≡ true → made H start k y ≤ x → alsoTook took i c k y ≡ true) reached c (suc (reached c)) d
-            (λ (q : d ≡ c). rw q (λ ek′ y. by-cases (decLe (made H start k c) (reached c)) (λ g. took-older took i c k c (v .taken k c hk l ek′ g))
+              (λ (q : d ≡ c). rw q (λ ek′ y. by-cases (decLe (made H start k c) (reached c)) (λ g. took-older took i c k c (v .taken k c hk l ek′ g))
               (λ g. let s : k ≡ i = one-maker H start c ek′ e (omega (arith, g, y, reached-next)) in rw s (took-now took i c))))
-            (λ q ek′ y. took-older took i c k d (v .taken k d hk ld ek′ y)) ek z;
+              (λ q ek′ y. took-older took i c k d (v .taken k d hk ld ek′ y)) ek z;
         }
 
     -- v is the vector of change i
     pub tracks-wrote : (u : Vector) → ((j : ℕ) → j < w → u j ≡ vector w H start i j) → {last pending : ℕ → Vector} → Tracks w H start n took last pending
-      → Tracks w H start n (alsoTook took i c) (put last c u) (put pending c u)
+        → Tracks w H start n (alsoTook took i c) (put last c u) (put pending c u)
     tracks-wrote u same {last} {pending} r =
         record {
           last-is = λ d j ld lj. put-case (λ y x. Greatest H start (ByTakenWriters w H n (alsoTook took i c) y) j (x j)) last c u d
-            (λ (q : d ≡ c). rw (q, same j lj) (greatest-of (λ t b. (i, h, took-now took i c, e, b)) (λ t b. through t (as-toucher t b)) (vector-greatest w H start i j lj)))
-            (λ q. elsewhere-writers d j q (r .last-is d j ld lj));
+              (λ (q : d ≡ c). rw (q, same j lj) (greatest-of (λ t b. (i, h, took-now took i c, e, b)) (λ t b. through t (as-toucher t b)) (vector-greatest w H start i j lj)))
+              (λ q. elsewhere-writers d j q (r .last-is d j ld lj));
           pending-is = λ d j ld lj. put-case (λ y x. Greatest H start (ByTakenTouchers w H n (alsoTook took i c) y) j (x j)) pending c u d
-            (λ (q : d ≡ c). rw (q, same j lj) (greatest-of (λ t b. (i, h, took-now took i c, writes-touches (H i) c e, b)) through (vector-greatest w H start i j lj)))
-            (λ q. elsewhere-touchers d j q (r .pending-is d j ld lj));
+              (λ (q : d ≡ c). rw (q, same j lj) (greatest-of (λ t b. (i, h, took-now took i c, writes-touches (H i) c e, b)) through (vector-greatest w H start i j lj)))
+              (λ q. elsewhere-touchers d j q (r .pending-is d j ld lj));
         }
       where
         as-toucher : (t : ℕ) → ByTakenWriters w H n (alsoTook took i c) c t → ByTakenTouchers w H n (alsoTook took i c) c t
         as-toucher t b = (b .0, b .1, b .2, writes-touches (H (b .0)) c (b .3), b .4)
+
         through : (t : ℕ) → ByTakenTouchers w H n (alsoTook took i c) c t → UpTo w H t i
         through t b =
             ⊎-elim (λ (z : (b .0 ≡ i) × (c ≡ c)). rw (z .0) at (b .4))
@@ -222,38 +223,42 @@ module _ (w : ℕ) (H : History) (start : Numbers) (n : ℕ) (took : Took) (o : 
             let m : meets (H i) (H (b .0)) c ≡ true = meets-intro (H i) (H (b .0)) c (writes-touches (H i) c e) (b .3) (inl e) in
             up-to-trans (b .4) (inr (direct c l (taken-earlier (b .0) z m) (meets-intro (H (b .0)) (H i) c (b .3) (writes-touches (H i) c e) (inr e)))))
             (took-cases took i c (b .0) c (b .2))
+
         elsewhere-writers : (d j : ℕ) → ¬ (d ≡ c) → {x : ℕ} → Greatest H start (ByTakenWriters w H n took d) j x → Greatest H start (ByTakenWriters w H n (alsoTook took i c) d) j x
         elsewhere-writers d j q g =
             greatest-of (λ t b. (b .0, b .1, took-older took i c (b .0) d (b .2), b .3, b .4))
             (λ t b. (b .0, b .1, ⊎-elim (λ (z : (b .0 ≡ i) × (d ≡ c)). absurd (q (z .1))) (λ (z : took (b .0) d ≡ true). z) (took-cases took i c (b .0) d (b .2)), b .3, b .4)) g
+
         elsewhere-touchers : (d j : ℕ) → ¬ (d ≡ c) → {x : ℕ} → Greatest H start (ByTakenTouchers w H n took d) j x → Greatest H start (ByTakenTouchers w H n (alsoTook took i c) d) j x
         elsewhere-touchers d j q g =
             greatest-of (λ t b. (b .0, b .1, took-older took i c (b .0) d (b .2), b .3, b .4))
             (λ t b. (b .0, b .1, ⊎-elim (λ (z : (b .0 ≡ i) × (d ≡ c)). absurd (q (z .1))) (λ (z : took (b .0) d ≡ true). z) (took-cases took i c (b .0) d (b .2)), b .3, b .4)) g
 
     pub framed-wrote : (u : Vector) → ((j : ℕ) → j < w → u j ≡ vector w H start i j) → {base : Numbers} {mark : ℕ → ℕ → ℕ} {frame : ℕ → ℕ → Vector} → Framed w H start n base reached mark frame
-      → Framed w H start n base (put reached c (suc (reached c))) (put mark c (put (mark c) (suc (reached c)) (H i .number))) (put frame c (put (frame c) (suc (reached c)) u))
+        → Framed w H start n base (put reached c (suc (reached c))) (put mark c (put (mark c) (suc (reached c)) (H i .number))) (put frame c (put (frame c) (suc (reached c)) u))
     framed-wrote u same {base} {mark} {frame} f =
         record {
           number-is = λ k d hk ld ek a b. by-cases (ℕ-discrete d c)
-            (λ (q : d ≡ c). number-here k hk (rw q at ek) d q a (rw (q, put-same reached c (suc (reached c))) at b))
-            (λ q. rw (put-other mark c (put (mark c) (suc (reached c)) (H i .number)) d q) (f .number-is k d hk ld ek a (rw (put-other reached c (suc (reached c)) d q) at b)));
+              (λ (q : d ≡ c). number-here k hk (rw q at ek) d q a (rw (q, put-same reached c (suc (reached c))) at b))
+              (λ q. rw (put-other mark c (put (mark c) (suc (reached c)) (H i .number)) d q) (f .number-is k d hk ld ek a (rw (put-other reached c (suc (reached c)) d q) at b)));
           vector-is = λ k d j hk ld lj ek a b. by-cases (ℕ-discrete d c)
-            (λ (q : d ≡ c). vector-here k j hk lj (rw q at ek) d q a (rw (q, put-same reached c (suc (reached c))) at b))
-            (λ q. rw (put-other frame c (put (frame c) (suc (reached c)) u) d q) (f .vector-is k d j hk ld lj ek a (rw (put-other reached c (suc (reached c)) d q) at b)));
+              (λ (q : d ≡ c). vector-here k j hk lj (rw q at ek) d q a (rw (q, put-same reached c (suc (reached c))) at b))
+              (λ q. rw (put-other frame c (put (frame c) (suc (reached c)) u) d q) (f .vector-is k d j hk ld lj ek a (rw (put-other reached c (suc (reached c)) d q) at b)));
         }
       where
         is-i : (k : ℕ) → H k .writes c ≡ true → made H start k c ≡ suc (reached c) → k ≡ i
         is-i k ek q = one-maker H start c ek e (omega (arith, q, reached-next))
+
         number-here : (k : ℕ) → k < n → H k .writes c ≡ true → (d : ℕ) → d ≡ c → base d < made H start k d → made H start k c ≤ suc (reached c)
-          → put mark c (put (mark c) (suc (reached c)) (H i .number)) d (made H start k d) ≡ H k .number
+            → put mark c (put (mark c) (suc (reached c)) (H i .number)) d (made H start k d) ≡ H k .number
         number-here k hk ek d q a b =
             rw (q, put-same mark c (put (mark c) (suc (reached c)) (H i .number)))
             (put-case (λ y x. y ≡ made H start k c → x ≡ H k .number) (mark c) (suc (reached c)) (H i .number) (made H start k c)
             (λ z g. let s : k ≡ i = is-i k ek z in rw s refl)
             (λ z g. f .number-is k c hk l ek (rw q at a) (omega (arith, b, z))) refl)
+
         vector-here : (k j : ℕ) → k < n → j < w → H k .writes c ≡ true → (d : ℕ) → d ≡ c → base d < made H start k d → made H start k c ≤ suc (reached c)
-          → put frame c (put (frame c) (suc (reached c)) u) d (made H start k d) j ≡ vector w H start k j
+            → put frame c (put (frame c) (suc (reached c)) u) d (made H start k d) j ≡ vector w H start k j
         vector-here k j hk lj ek d q a b =
             rw (q, put-same frame c (put (frame c) (suc (reached c)) u))
             (put-case (λ y x. y ≡ made H start k c → x j ≡ vector w H start k j) (frame c) (suc (reached c)) u (made H start k c)
@@ -272,15 +277,15 @@ module _ (w : ℕ) (H : History) (start : Numbers) (n : ℕ) (took : Took) (o : 
         }
 
     pub tracks-read : (u : Vector) → ((j : ℕ) → j < w → u j ≡ vector w H start i j) → {last pending : ℕ → Vector} → Tracks w H start n took last pending
-      → Tracks w H start n (alsoTook took i c) last (put pending c (joined (pending c) u))
+        → Tracks w H start n (alsoTook took i c) last (put pending c (joined (pending c) u))
     tracks-read u same {last} {pending} r =
         record {
           last-is = λ y j ly lj. greatest-of (λ t b. (b .0, b .1, took-older took i c (b .0) y (b .2), b .3, b .4))
-            (λ t b. (b .0, b .1, ⊎-elim (λ (z : (b .0 ≡ i) × (y ≡ c)). clash (rw (z .0, z .1) at (b .3)) e) (λ (z : took (b .0) y ≡ true). z) (took-cases took i c (b .0) y (b .2)), b .3, b .4))
-            (r .last-is y j ly lj);
+              (λ t b. (b .0, b .1, ⊎-elim (λ (z : (b .0 ≡ i) × (y ≡ c)). clash (rw (z .0, z .1) at (b .3)) e) (λ (z : took (b .0) y ≡ true). z) (took-cases took i c (b .0) y (b .2)), b .3, b .4))
+              (r .last-is y j ly lj);
           pending-is = λ y j ly lj. put-case (λ k x. Greatest H start (ByTakenTouchers w H n (alsoTook took i c) k) j (x j)) pending c (joined (pending c) u) y
-            (λ (q : y ≡ c). rw (q, same j lj) (greatest-of here there (greatest-either (r .pending-is c j l lj) (vector-greatest w H start i j lj))))
-            (λ q. greatest-of (λ t b. (b .0, b .1, took-older took i c (b .0) y (b .2), b .3, b .4))
+              (λ (q : y ≡ c). rw (q, same j lj) (greatest-of here there (greatest-either (r .pending-is c j l lj) (vector-greatest w H start i j lj))))
+              (λ q. greatest-of (λ t b. (b .0, b .1, took-older took i c (b .0) y (b .2), b .3, b .4))
               (λ t b. (b .0, b .1, ⊎-elim (λ (z : (b .0 ≡ i) × (y ≡ c)). absurd (q (z .1))) (λ (z : took (b .0) y ≡ true). z) (took-cases took i c (b .0) y (b .2)), b .3, b .4))
               (r .pending-is y j ly lj));
         }
@@ -288,6 +293,7 @@ module _ (w : ℕ) (H : History) (start : Numbers) (n : ℕ) (took : Took) (o : 
         here : (t : ℕ) → ByTakenTouchers w H n took c t ⊎ UpTo w H t i → ByTakenTouchers w H n (alsoTook took i c) c t
         here t (inl b) = (b .0, b .1, took-older took i c (b .0) c (b .2), b .3, b .4)
         here t (inr b) = (i, h, took-now took i c, or-left (H i .writes c) d, b)
+
         there : (t : ℕ) → ByTakenTouchers w H n (alsoTook took i c) c t → ByTakenTouchers w H n took c t ⊎ UpTo w H t i
         there t b =
             ⊎-elim (λ (z : (b .0 ≡ i) × (c ≡ c)). inr (rw (z .0) at (b .4))) (λ (z : took (b .0) c ≡ true). inl (b .0, b .1, z, b .3, b .4)) (took-cases took i c (b .0) c (b .2))
