@@ -10,7 +10,7 @@ use Rattle.refusal.specs.declared.Refusal.the-variants.{NoSuchCard, BothSetsEmp
 use Rattle.history.specs.Change.{CardSet, Change, Numbers, touches}
 use Rattle.history.specs.Vector.{Vector, noEntries, vectorOf}
 use Rattle.history.specs.Line.{lineFrom}
-use Rattle.protocol.specs.Model.{Limits, up, isUp, isDown, isRolling, OpenChange, Model, noCards, freePlace, isCard, strays, isEmpty, withCard, isOpen, decided, closed, toWrite, awaitsWrite, placeOf, freeAt, isKnown, tracked}
+use Rattle.protocol.specs.Model.{Limits, up, isUp, isDown, isRolling, OpenChange, Model, noCards, freePlace, isCard, strays, isEmpty, within, withCard, isOpen, decided, closed, toWrite, awaitsWrite, placeOf, freeAt, isKnown, tracked}
 use Rattle.protocol.specs.Sound.{sound}
 use Rattle.protocol.specs.Edit.{Edit, place, count, grow, raise, keep, rebase, fall, halt, fix, lower, renew}
 use Rattle.protocol.specs.Plan.{CardRow, Answer, done, opened, safe, unsafe, fixed, Check, _⇒_, Plan, checked}
@@ -227,7 +227,7 @@ fixPlan L m cardPlaces lostPlaces lost =
 -- ---- 10. roll
 -- all cards of the cabinet are in the set
 abbrev pub allRolled : Limits → Model → CardSet → Bool
-allRolled L m rolled = allBelow (L .width) (λ c. not (m .present c) || rolled c)
+allRolled L m rolled = within L (m .present) rolled
 
 abbrev pub rollChecks : Limits → Model → ℕ → List Check
 rollChecks L m c =

@@ -3,3 +3,4 @@ pub mod Sound
 pub mod Edit
 pub mod Plan
 pub mod Calls
+pub mod Journal
