@@ -11,7 +11,7 @@ use Rattle.laws.proofs.Logic.{test, clash, not-true, not-intro}
 use Rattle.history.specs.Change.{Change, History, Numbers, writers, found, made, Precedes, UpTo, Closed, left, ConsistentCut, Cut}
 use Rattle.history.specs.Vector.{Vector, vector, IsVector}
 use Rattle.history.specs.Line.{orphan, Climbed, lineFrom, line}
-use Rattle.history.proofs.Writers.{Maker, maker, made-found, makers-order}
+use Rattle.history.proofs.Writers.{Maker, maker, made-found, makers-order, found-mono}
 use Rattle.history.proofs.Precedence.{up-to-trans, up-to-le}
 use Rattle.history.proofs.Greatest.{Greatest, Makes, greatest-mono}
 use Rattle.history.proofs.Vectors.{vector-greatest}
@@ -34,14 +34,24 @@ pub is-fits : (w : ℕ) (H : History) (start s : Numbers) (i : ℕ) → Fits w H
 is-fits w H start s i f = not-intro (no-orphan w s (vector w H start i) f)
 
 module _ (w : ℕ) (H : History) (start : Numbers) where
+  -- what precedes depends on no more
+  pub vector-grows : {k i : ℕ} → UpTo w H k i → (j : ℕ) → j < w → vector w H start k j ≤ vector w H start i j
+  vector-grows {k} {i} u j l = greatest-mono (λ t q. up-to-trans q u) (vector-greatest w H start k j l) (vector-greatest w H start i j l)
+
   -- what fits, fits with all that precede it
   pub fits-closed : (s : Numbers) {k i : ℕ} → UpTo w H k i → Fits w H start s i → Fits w H start s k
-  fits-closed s {k} {i} u f j l =
-      le-trans (greatest-mono (λ t q. up-to-trans q u) (vector-greatest w H start k j l) (vector-greatest w H start i j l)) (f j l)
+  fits-closed s {k} {i} u f j l = le-trans (vector-grows u j l) (f j l)
 
   -- what change i makes it depends on
   pub made-needed : (i c : ℕ) → c < w → H i .writes c ≡ true → made H start i c ≤ vector w H start i c
   made-needed i c l e = vector-greatest w H start i c l .above i (inl refl) e
+
+  -- and no later state of that card
+  pub vector-own : (i c : ℕ) → c < w → H i .writes c ≡ true → vector w H start i c ≡ made H start i c
+  vector-own i c l e = le-antisymm (by-cases (decLt 0 (vector w H start i c)) (λ z. bound (vector-greatest w H start i c l .met z)) (λ z. omega (arith, z))) (made-needed i c l e)
+    where
+      bound : Makes H start (λ t. UpTo w H t i) c (vector w H start i c) → vector w H start i c ≤ made H start i c
+      bound m = omega (arith, m .3, found-mono H start c (up-to-le (m .1)))
 
 module _ (w : ℕ) (H : History) (start : Numbers) (n : ℕ) (v : ℕ → ℕ → Vector) (isv : IsVector w H start n v) (s : Numbers) where
   pub line-is : (c : ℕ) → Climbed (λ x. orphan w s (v c x)) (start c) (start c + writers H c n) (line w H start n v s c)

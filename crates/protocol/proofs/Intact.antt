@@ -4,7 +4,7 @@ use Prim.Native.Nat.{ℕ, zero, suc, _+_, _≤_, _<_}
 use mathlib.Core.Path.{_≡_, refl, sym, _∙_, ap}
 use mathlib.Core.Bool.{Bool, true, false}
 use mathlib.Core.Logic.{by-cases}
-use native.Mathlib.Nat.{le-refl, le-trans}
+use native.Mathlib.Nat.{le-refl, le-trans, le-antisymm, le-of-eq}
 use native.Mathlib.Decide.{decLe}
 use native.Mathlib.Omega.{arith}
 use Rattle.laws.proofs.Below.{any-same}
@@ -16,7 +16,7 @@ use Rattle.history.proofs.Vectors.{frame-is}
 use Rattle.history.proofs.Climb.{line-climbed, climbed-same, climbed-unique}
 use Rattle.history.proofs.Cuts.{told-by-makers}
 use Rattle.history.proofs.Entries.{state-vector-is}
-use Rattle.history.proofs.Lines.{Fits, line-is, fits-on, on-fits, fits-line, line-cut, line-between, rule-from}
+use Rattle.history.proofs.Lines.{Fits, line-is, fits-on, on-fits, fits-line, line-cut, line-mono, line-between, rule-from}
 use Rattle.protocol.proofs.Taking.{Based}
 
 -- the line of the first n changes of a history for stored numbers s
@@ -97,4 +97,26 @@ module _ (w : ℕ) (H : History) (start : Numbers) (n : ℕ) where
       record {
         cut = λ i c j h l lj e z. fits-line w H start n (stateVector w H start n) (state-vector-is w H start n) s i h
             (on-fits w H start n (stateVector w H start n) (state-vector-is w H start n) s i c h l e z) j lj;
+      }
+
+  -- the line goes by the stored numbers of the cards alone
+  pub line-same : (s s' : Numbers) → ((c : ℕ) → c < w → s c ≡ s' c) → (c : ℕ) → c < w → lineAt w H start n s c ≡ lineAt w H start n s' c
+  line-same s s' e c l =
+      le-antisymm (line-mono w H start n v isv s s' (λ d ld. le-of-eq (e d ld)) c l) (line-mono w H start n v isv s' s (λ d ld. le-of-eq (sym (e d ld))) c l)
+    where
+      v : ℕ → ℕ → Vector
+      v = stateVector w H start n
+      isv : IsVector w H start n v
+      isv = state-vector-is w H start n
+
+  pub intact-same : {s s' base stored reached : Numbers} {frame : ℕ → ℕ → Vector} → ((c : ℕ) → c < w → s c ≡ s' c) → Intact w H start n s base stored reached frame → Intact w H start n s' base stored reached frame
+  intact-same {s} {s'} e k =
+      record {
+        from-start = k .from-start;
+        base-line = λ c l. rw (sym (line-same s s' e c l)) (k .base-line c l);
+        line-stored = λ c l. rw (sym (line-same s s' e c l)) (k .line-stored c l);
+        stored-least = λ c l. rw (sym (e c l)) (k .stored-least c l);
+        stored-reached = k .stored-reached;
+        reached-top = k .reached-top;
+        vectors = k .vectors;
       }

@@ -5,3 +5,6 @@ pub mod Running
 pub mod Openings
 pub mod Votes
 pub mod Takes
+pub mod Stores
+pub mod Soundness
+pub mod Rolling

@@ -177,6 +177,7 @@ module _ (L : Limits) (m : Model) (j : Journal) (r : Running L m j) (reads write
               (λ e d.
               record {
                 untaken = λ c l. refl;
+                blank = λ i l. refl;
                 met-taken = met-before H a;
                 met-lower = λ i c h l y. omega (arith, a .numbered .given i h);
                 unlike = λ i h y. absurd (omega (arith, a .numbered .given i h, y));

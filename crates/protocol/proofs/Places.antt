@@ -28,9 +28,10 @@ pub record Stood (w : ℕ) (H : History) (start : Numbers) (n : ℕ) (took : Too
   pub taken-is : (c : ℕ) → c < w → took i c ≡ o .taken c
   pub vector-is : (j : ℕ) → j < w → o .vector j ≡ vector w H start i j
 
--- an undecided one: no share is taken, and every change of the history that meets it on a card has been taken there and has a lower number
+-- an undecided one: no share is taken, it has no vector yet, and every change of the history that meets it on a card has been taken there and has a lower number
 pub record Waits (w : ℕ) (H : History) (n : ℕ) (took : Took) (o : OpenChange) : Type 0 where
   pub untaken : (c : ℕ) → c < w → o .taken c ≡ false
+  pub blank : (j : ℕ) → j < w → o .vector j ≡ 0
   pub met-taken : (i c : ℕ) → i < n → c < w → meets (H i) (o .change) c ≡ true → took i c ≡ true
   pub met-lower : (i c : ℕ) → i < n → c < w → meets (H i) (o .change) c ≡ true → H i .number < o .change .number
   pub unlike : (i : ℕ) → i < n → ¬ (H i .number ≡ o .change .number)

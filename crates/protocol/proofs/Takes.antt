@@ -78,6 +78,7 @@ module _ (L : Limits) (m : Model) (j : Journal) (r : Running L m j) (p c : ℕ) 
         let old : Waits (L .width) H n (r .took) (m .place q) = a .standing .waits q l oq dq in
         record {
           untaken = old .untaken;
+          blank = old .blank;
           met-taken = λ k d h ld e. took-older (r .took) i c k d (old .met-taken k d h ld e);
           met-lower = old .met-lower;
           unlike = old .unlike;

@@ -55,6 +55,7 @@ module _ (L : Limits) (m : Model) (j : Journal) (r : Running L m j) (p : ℕ) (i
   module _ (o : OpenChange) (notes : ℕ → Noted)
     (same : isOpen o ≡ true → o .change ≡ m .place p .change)
     (same-taken : isOpen o ≡ true → (c : ℕ) → c < L .width → o .taken c ≡ m .place p .taken c)
+    (same-vector : isOpen o ≡ true → (i : ℕ) → i < L .width → o .vector i ≡ m .place p .vector i)
     (still : isOpen o ≡ true → decided L o ≡ false)
     (noted : isOpen o ≡ true → notes (o .change .number) ≡ asked (o .change) (o .yes))
     (elsewhere : (k : ℕ) → ¬ (k ≡ m .place p .change .number) → notes k ≡ j .undecided k) where
@@ -103,6 +104,7 @@ module _ (L : Limits) (m : Model) (j : Journal) (r : Running L m j) (p : ℕ) (i
                 (λ e d.
                 record {
                   untaken = λ c l. same-taken e c l ∙ wt .untaken c l;
+                  blank = λ i l. same-vector e i l ∙ wt .blank i l;
                   met-taken = λ i c h l y. wt .met-taken i c h l (rw (same e) at y);
                   met-lower = λ i c h l y. rw (same e) (wt .met-lower i c h l (rw (same e) at y));
                   unlike = λ i h y. wt .unlike i h (y ∙ ap (λ (t : Change). t .number) (same e));
@@ -179,6 +181,7 @@ module _ (L : Limits) (m : Model) (j : Journal) (r : Running L m j) (p : ℕ) (i
           let old : Waits (L .width) H n (r .took) (m .place q) = a .standing .waits q l oq dq in
           record {
             untaken = old .untaken;
+            blank = old .blank;
             met-taken = λ i c h lc y. ⊎-elim (λ (x : i ≡ n). stranger c lc (rw (x, e) at y)) (λ (x : i < n). old .met-taken i c x lc y) (below-suc h);
             met-lower = λ i c h lc y. ⊎-elim (λ (x : i ≡ n). stranger c lc (rw (x, e) at y)) (λ (x : i < n). old .met-lower i c x lc y) (below-suc h);
             unlike = λ i h. ⊎-elim (λ (x : i ≡ n). rw (x, e) (r .places-open .apart p q is-place l (λ y. z (sym y)) is-open oq)) (λ (x : i < n). old .unlike i x) (below-suc h);

@@ -159,11 +159,15 @@ lineOf L m c = lineFrom (L .width) (m .numbers .stored) (m .memory .frame c) (m 
 abbrev pub ofCards : Limits → Model → Numbers → Numbers → Numbers
 ofCards L m old f c = cond (isCard L m c) (f c) (old c)
 
+-- the line of each card; of a card that is not there, its base
+abbrev pub lines : Limits → Model → Numbers
+lines L m = ofCards L m (m .numbers .base) (lineOf L m)
+
 abbrev pub trimChecks : Limits → Model → List Check
 trimChecks L m = not (sound L m) ⇒ BadCabinet ∷ not (isUp (m .phase)) ⇒ WrongPhase ∷ []
 
 abbrev pub trimPlan : Limits → Model → Plan
-trimPlan L m = checked (trimChecks L m) done (rebase (ofCards L m (m .numbers .base) (lineOf L m)) ∷ [])
+trimPlan L m = checked (trimChecks L m) done (rebase (lines L m) ∷ [])
 
 -- ---- 7. safe
 -- card c has a frame of change k above the number x
@@ -222,7 +226,7 @@ fixChecks L m cardPlaces lostPlaces lost =
 abbrev pub fixPlan : Limits → Model → (cardPlaces lostPlaces : ℕ) → (lost : List ℕ) → Plan
 fixPlan L m cardPlaces lostPlaces lost =
     checked (fixChecks L m cardPlaces lostPlaces lost) (fixed (cardRows L m) lost)
-    (fix (ofCards L m (m .line) (lineOf L m)) ∷ [])
+    (fix (lines L m) ∷ [])
 
 -- ---- 10. roll
 -- all cards of the cabinet are in the set
