@@ -106,6 +106,7 @@ module _ (w : ℕ) (H : History) (start : Numbers) (n : ℕ) where
     where
       v : ℕ → ℕ → Vector
       v = stateVector w H start n
+
       isv : IsVector w H start n v
       isv = state-vector-is w H start n
 

@@ -8,3 +8,4 @@ pub mod Takes
 pub mod Stores
 pub mod Soundness
 pub mod Rolling
+pub mod Lost

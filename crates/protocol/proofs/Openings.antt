@@ -39,34 +39,34 @@ fresh-running L n low high =
       session-given = le-refl 1;
       carded = record { one = 0; is-card = le-trans low high; is-there = lt-ltb 0 n low; none-beyond = le-ltb (L .width) n high };
       ranges =
-        record {
-          from-start = λ c l. zero-le;
-          base-stored = λ c l. zero-le;
-          stored-held = λ c l. zero-le;
-          held-reached = λ c l. zero-le;
-          in-hand = λ c l. zero-le;
-          all-held = λ u c l. refl;
-        };
+          record {
+            from-start = λ c l. zero-le;
+            base-stored = λ c l. zero-le;
+            stored-held = λ c l. zero-le;
+            held-reached = λ c l. zero-le;
+            in-hand = λ c l. zero-le;
+            all-held = λ u c l. refl;
+          };
       stored-is = λ c l. refl;
       not-fixed = refl;
       places-open =
-        record { opened = λ p l e. clash e refl; noted = λ p l e d. clash e refl; apart = λ p q l k d e f. clash e refl; strangers = λ p q c l k h d e f g i. clash e refl };
+          record { opened = λ p l e. clash e refl; noted = λ p l e d. clash e refl; apart = λ p q l k d e f. clash e refl; strangers = λ p q c l k h d e f g i. clash e refl };
       places-down = λ d p l. refl;
       about = λ H a.
-        record {
-          orderly = record { decided-only = λ i c t. clash t refl; earlier-taken = λ i k c a b l e. nothing b };
-          levels = record { low = λ c l. zero-le; high = λ c l. zero-le; up-to = λ i c h l e t. nothing h; taken = λ i c h l e z. nothing h };
-          tracks = record { last-is = λ c j l lj. greatest-none j (λ t b. nothing (b .1)); pending-is = λ c j l lj. greatest-none j (λ t b. nothing (b .1)) };
-          framed = record { number-is = λ i c h l e a b. nothing h; vector-is = λ i c j h l lj e a b. nothing h };
-          based = record { cut = λ i c j h l lj e z. nothing h };
-          numbered = record { positive = λ i h. nothing h; given = λ i h. nothing h; distinct = λ i k a b. nothing b; rising = λ i k c a b l e. nothing b };
-          bounded = λ c l. zero-le;
-          there = λ i c h l e. nothing h;
-          standing = record { stood = λ p l e d. clash e refl; waits = λ p l e d. clash e refl };
-          open-untaken = λ u i c h l e t. nothing h;
-          ended-untaken = λ d i c h l e t. nothing h;
-          ended-real = λ d p l e. absurd (e refl);
-        };
+          record {
+            orderly = record { decided-only = λ i c t. clash t refl; earlier-taken = λ i k c a b l e. nothing b };
+            levels = record { low = λ c l. zero-le; high = λ c l. zero-le; up-to = λ i c h l e t. nothing h; taken = λ i c h l e z. nothing h };
+            tracks = record { last-is = λ c j l lj. greatest-none j (λ t b. nothing (b .1)); pending-is = λ c j l lj. greatest-none j (λ t b. nothing (b .1)) };
+            framed = record { number-is = λ i c h l e a b. nothing h; vector-is = λ i c j h l lj e a b. nothing h };
+            based = record { cut = λ i c j h l lj e z. nothing h };
+            numbered = record { positive = λ i h. nothing h; given = λ i h. nothing h; distinct = λ i k a b. nothing b; rising = λ i k c a b l e. nothing b };
+            bounded = λ c l. zero-le;
+            there = λ i c h l e. nothing h;
+            standing = record { stood = λ p l e d. clash e refl; waits = λ p l e d. clash e refl };
+            open-untaken = λ u i c h l e t. nothing h;
+            ended-untaken = λ d i c h l e t. nothing h;
+            ended-real = λ d p l e. absurd (e refl);
+          };
     }
 
 -- a test of a set that is not met on a card it has
@@ -82,14 +82,15 @@ not-down rolling e = refl
 
 -- ---- open
 module _ (L : Limits) (m : Model) (j : Journal) (r : Running L m j) (reads writes : CardSet) (f : ℕ)
-  (is-up : isUp (m .phase) ≡ true)
-  (there : (c : ℕ) → c < L .width → reads c || writes c ≡ true → m .present c ≡ true)
-  (touched : (c : ℕ) × (c < L .width) × (reads c || writes c ≡ true))
-  (unbarred : (p c : ℕ) → p < L .places → c < L .width → bars (m .place p) reads writes c ≡ false)
-  (is-place : f < L .places) (is-free : isOpen (m .place f) ≡ false)
-  (room : (c : ℕ) → c < L .width → writes c ≡ true → (m .numbers .reached c < m .numbers .base c + L .inHand) × (m .numbers .reached c < L .greatestState)) where
+    (is-up : isUp (m .phase) ≡ true)
+    (there : (c : ℕ) → c < L .width → reads c || writes c ≡ true → m .present c ≡ true)
+    (touched : (c : ℕ) × (c < L .width) × (reads c || writes c ≡ true))
+    (unbarred : (p c : ℕ) → p < L .places → c < L .width → bars (m .place p) reads writes c ≡ false)
+    (is-place : f < L .places) (is-free : isOpen (m .place f) ≡ false)
+    (room : (c : ℕ) → c < L .width → writes c ≡ true → (m .numbers .reached c < m .numbers .base c + L .inHand) × (m .numbers .reached c < L .greatestState)) where
   abbrev t : Change
   t = record { number = suc (m .count); reads = reads; writes = writes }
+
   abbrev o : OpenChange
   o = openedChange (suc (m .count)) reads writes
 
@@ -142,14 +143,14 @@ module _ (L : Limits) (m : Model) (j : Journal) (r : Running L m j) (reads write
         stored-is = r .stored-is;
         not-fixed = r .not-fixed;
         places-open =
-          open-put L (m .place) f o
-          (λ q l z e. record { given = le-step (number-lower q l e); there = r .places-open .opened q l e .there; room = r .places-open .opened q l e .room })
-          (λ q l z e d. put-other (j .undecided) (suc (m .count)) (asked t noCards) (m .place q .change .number) (λ y. absurd (omega (arith, y, number-lower q l e))) ∙ r .places-open .noted q l e d)
-          (r .places-open .apart) (r .places-open .strangers)
-          (λ e. record { given = le-refl (suc (m .count)); there = there; room = λ c l z. room c l (and-left (writes c) true z) })
-          (λ e d. put-same (j .undecided) (suc (m .count)) (asked t noCards))
-          (λ e q l z oq y. absurd (omega (arith, y, number-lower q l oq)))
-          (λ e d q c l lc z oq dq. (apart-new q c l lc oq dq, fails (meets t (m .place q .change) c) (λ y. clash (meets-sym t (m .place q .change) c y) (apart-new q c l lc oq dq))));
+            open-put L (m .place) f o
+            (λ q l z e. record { given = le-step (number-lower q l e); there = r .places-open .opened q l e .there; room = r .places-open .opened q l e .room })
+            (λ q l z e d. put-other (j .undecided) (suc (m .count)) (asked t noCards) (m .place q .change .number) (λ y. absurd (omega (arith, y, number-lower q l e))) ∙ r .places-open .noted q l e d)
+            (r .places-open .apart) (r .places-open .strangers)
+            (λ e. record { given = le-refl (suc (m .count)); there = there; room = λ c l z. room c l (and-left (writes c) true z) })
+            (λ e d. put-same (j .undecided) (suc (m .count)) (asked t noCards))
+            (λ e q l z oq y. absurd (omega (arith, y, number-lower q l oq)))
+            (λ e d q c l lc z oq dq. (apart-new q c l lc oq dq, fails (meets t (m .place q .change) c) (λ y. clash (meets-sym t (m .place q .change) c y) (apart-new q c l lc oq dq))));
         places-down = λ d. clash d (not-down (m .phase) is-up);
         about = λ H a. new H (r .about H a);
       }
@@ -159,8 +160,9 @@ module _ (L : Limits) (m : Model) (j : Journal) (r : Running L m j) (reads write
       apart-new q c l lc oq dq =
           fails (meets (m .place q .change) t c)
           (λ e. clash (met-took q c l lc oq e) (r .about (historyOf (j .history)) (λ i h. refl) .standing .waits q l oq dq .untaken c lc))
+
       new : (H : History) → About L m (j .start) (length (j .history)) (r .took) (r .at) H
-        → About L (editedAll L (place f o ∷ count (suc (m .count)) ∷ []) m) (j .start) (length (j .history)) (r .took) (put (r .at) f 0) H
+          → About L (editedAll L (place f o ∷ count (suc (m .count)) ∷ []) m) (j .start) (length (j .history)) (r .took) (put (r .at) f 0) H
       new H a =
           record {
             orderly = a .orderly;
@@ -172,16 +174,16 @@ module _ (L : Limits) (m : Model) (j : Journal) (r : Running L m j) (reads write
             bounded = a .bounded;
             there = a .there;
             standing =
-              standing-put L (m .place) f o 0
-              (λ q l z. a .standing .stood q l) (λ q l z. a .standing .waits q l) (λ e d. clash d undecided-new)
-              (λ e d.
-              record {
-                untaken = λ c l. refl;
-                blank = λ i l. refl;
-                met-taken = met-before H a;
-                met-lower = λ i c h l y. omega (arith, a .numbered .given i h);
-                unlike = λ i h y. absurd (omega (arith, a .numbered .given i h, y));
-              });
+                standing-put L (m .place) f o 0
+                (λ q l z. a .standing .stood q l) (λ q l z. a .standing .waits q l) (λ e d. clash d undecided-new)
+                (λ e d.
+                record {
+                  untaken = λ c l. refl;
+                  blank = λ i l. refl;
+                  met-taken = met-before H a;
+                  met-lower = λ i c h l y. omega (arith, a .numbered .given i h);
+                  unlike = λ i h y. absurd (omega (arith, a .numbered .given i h, y));
+                });
             open-untaken = λ u i c h l e z. moved (a .open-untaken u i c h l e z);
             ended-untaken = λ d. clash d (not-down (m .phase) is-up);
             ended-real = λ d. clash d (not-down (m .phase) is-up);

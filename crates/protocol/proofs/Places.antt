@@ -42,7 +42,7 @@ pub record Open (L : Limits) (present : CardSet) (base reached : Numbers) (count
   pub noted : (p : ℕ) → p < L .places → isOpen (place p) ≡ true → decided L (place p) ≡ false → undecided (place p .change .number) ≡ asked (place p .change) (place p .yes)
   pub apart : (p q : ℕ) → p < L .places → q < L .places → ¬ (p ≡ q) → isOpen (place p) ≡ true → isOpen (place q) ≡ true → ¬ (place p .change .number ≡ place q .change .number)
   pub strangers : (p q c : ℕ) → p < L .places → q < L .places → c < L .width → ¬ (p ≡ q) → isOpen (place p) ≡ true → isOpen (place q) ≡ true
-    → decided L (place p) ≡ false → decided L (place q) ≡ false → meets (place p .change) (place q .change) c ≡ false
+      → decided L (place p) ≡ false → decided L (place q) ≡ false → meets (place p .change) (place q .change) c ≡ false
 
 -- what does
 pub record Standing (L : Limits) (H : History) (start : Numbers) (n : ℕ) (took : Took) (at : ℕ → ℕ) (place : ℕ → OpenChange) : Type 0 where
@@ -52,33 +52,33 @@ pub record Standing (L : Limits) (H : History) (start : Numbers) (n : ℕ) (took
 -- ---- place p anew
 module _ (L : Limits) (place : ℕ → OpenChange) (p : ℕ) (o : OpenChange) where
   pub standing-put : {H : History} {start : Numbers} {n : ℕ} {took : Took} {at : ℕ → ℕ} (i : ℕ)
-    → ((q : ℕ) → q < L .places → ¬ (q ≡ p) → isOpen (place q) ≡ true → decided L (place q) ≡ true → Stood (L .width) H start n took (place q) (at q))
-    → ((q : ℕ) → q < L .places → ¬ (q ≡ p) → isOpen (place q) ≡ true → decided L (place q) ≡ false → Waits (L .width) H n took (place q))
-    → (isOpen o ≡ true → decided L o ≡ true → Stood (L .width) H start n took o i)
-    → (isOpen o ≡ true → decided L o ≡ false → Waits (L .width) H n took o)
-    → Standing L H start n took (put at p i) (put place p o)
+      → ((q : ℕ) → q < L .places → ¬ (q ≡ p) → isOpen (place q) ≡ true → decided L (place q) ≡ true → Stood (L .width) H start n took (place q) (at q))
+      → ((q : ℕ) → q < L .places → ¬ (q ≡ p) → isOpen (place q) ≡ true → decided L (place q) ≡ false → Waits (L .width) H n took (place q))
+      → (isOpen o ≡ true → decided L o ≡ true → Stood (L .width) H start n took o i)
+      → (isOpen o ≡ true → decided L o ≡ false → Waits (L .width) H n took o)
+      → Standing L H start n took (put at p i) (put place p o)
   standing-put {H} {start} {n} {took} {at} i s w s′ w′ =
       record {
         stood = λ q l. by-cases (ℕ-discrete q p)
-          (λ (e : q ≡ p). rw (e, put-same place p o, put-same at p i) s′)
-          (λ e. rw (put-other place p o q e, put-other at p i q e) (s q l e));
+            (λ (e : q ≡ p). rw (e, put-same place p o, put-same at p i) s′)
+            (λ e. rw (put-other place p o q e, put-other at p i q e) (s q l e));
         waits = λ q l. by-cases (ℕ-discrete q p)
-          (λ (e : q ≡ p). rw (e, put-same place p o) w′)
-          (λ e. rw (put-other place p o q e) (w q l e));
+            (λ (e : q ≡ p). rw (e, put-same place p o) w′)
+            (λ e. rw (put-other place p o q e) (w q l e));
       }
 
   pub open-put : {present : CardSet} {base reached : Numbers} {count : ℕ} {undecided : ℕ → Noted}
-    → ((q : ℕ) → q < L .places → ¬ (q ≡ p) → isOpen (place q) ≡ true → Opened L present base reached count (place q))
-    → ((q : ℕ) → q < L .places → ¬ (q ≡ p) → isOpen (place q) ≡ true → decided L (place q) ≡ false → undecided (place q .change .number) ≡ asked (place q .change) (place q .yes))
-    → ((q r : ℕ) → q < L .places → r < L .places → ¬ (q ≡ r) → isOpen (place q) ≡ true → isOpen (place r) ≡ true → ¬ (place q .change .number ≡ place r .change .number))
-    → ((q r c : ℕ) → q < L .places → r < L .places → c < L .width → ¬ (q ≡ r) → isOpen (place q) ≡ true → isOpen (place r) ≡ true
+      → ((q : ℕ) → q < L .places → ¬ (q ≡ p) → isOpen (place q) ≡ true → Opened L present base reached count (place q))
+      → ((q : ℕ) → q < L .places → ¬ (q ≡ p) → isOpen (place q) ≡ true → decided L (place q) ≡ false → undecided (place q .change .number) ≡ asked (place q .change) (place q .yes))
+      → ((q r : ℕ) → q < L .places → r < L .places → ¬ (q ≡ r) → isOpen (place q) ≡ true → isOpen (place r) ≡ true → ¬ (place q .change .number ≡ place r .change .number))
+      → ((q r c : ℕ) → q < L .places → r < L .places → c < L .width → ¬ (q ≡ r) → isOpen (place q) ≡ true → isOpen (place r) ≡ true
       → decided L (place q) ≡ false → decided L (place r) ≡ false → meets (place q .change) (place r .change) c ≡ false)
-    → (isOpen o ≡ true → Opened L present base reached count o)
-    → (isOpen o ≡ true → decided L o ≡ false → undecided (o .change .number) ≡ asked (o .change) (o .yes))
-    → (isOpen o ≡ true → (q : ℕ) → q < L .places → ¬ (q ≡ p) → isOpen (place q) ≡ true → ¬ (place q .change .number ≡ o .change .number))
-    → (isOpen o ≡ true → decided L o ≡ false → (q c : ℕ) → q < L .places → c < L .width → ¬ (q ≡ p) → isOpen (place q) ≡ true → decided L (place q) ≡ false
+      → (isOpen o ≡ true → Opened L present base reached count o)
+      → (isOpen o ≡ true → decided L o ≡ false → undecided (o .change .number) ≡ asked (o .change) (o .yes))
+      → (isOpen o ≡ true → (q : ℕ) → q < L .places → ¬ (q ≡ p) → isOpen (place q) ≡ true → ¬ (place q .change .number ≡ o .change .number))
+      → (isOpen o ≡ true → decided L o ≡ false → (q c : ℕ) → q < L .places → c < L .width → ¬ (q ≡ p) → isOpen (place q) ≡ true → decided L (place q) ≡ false
       → (meets (place q .change) (o .change) c ≡ false) × (meets (o .change) (place q .change) c ≡ false))
-    → Open L present base reached count undecided (put place p o)
+      → Open L present base reached count undecided (put place p o)
   open-put {present} {base} {reached} {count} {undecided} a b d e a′ b′ d′ e′ =
       record {
         opened = λ q l. by-cases (ℕ-discrete q p) (λ (z : q ≡ p). rw (z, put-same place p o) a′) (λ z. rw (put-other place p o q z) (a q l z));
@@ -94,8 +94,9 @@ module _ (L : Limits) (place : ℕ → OpenChange) (p : ℕ) (o : OpenChange) wh
           (λ y. rw (z, put-same place p o, put-other place p o r y) (λ oo or s. d′ oo r lr y or (sym s))))
           (λ z. by-cases (ℕ-discrete r p) (λ (y : r ≡ p). rw (y, put-same place p o, put-other place p o q z) (λ oq oo s. d′ oo q lq z oq s))
           (λ y. rw (put-other place p o q z, put-other place p o r y) (d q r lq lr ne)))
+
       strangers : (q r c : ℕ) → q < L .places → r < L .places → c < L .width → ¬ (q ≡ r) → isOpen (put place p o q) ≡ true → isOpen (put place p o r) ≡ true
-        → decided L (put place p o q) ≡ false → decided L (put place p o r) ≡ false → meets (put place p o q .change) (put place p o r .change) c ≡ false
+          → decided L (put place p o q) ≡ false → decided L (put place p o r) ≡ false → meets (put place p o q .change) (put place p o r .change) c ≡ false
       strangers q r c lq lr lc ne =
           by-cases (ℕ-discrete q p)
           (λ (z : q ≡ p). by-cases (ℕ-discrete r p) (λ (y : r ≡ p). absurd (ne (z ∙ sym y)))

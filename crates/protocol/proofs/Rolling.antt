@@ -50,7 +50,7 @@ pub record Rolling (L : Limits) (m : Model) (j : Journal) : Type 0 where
   pub held-reached : (c : ℕ) → c < L .width → m .numbers .held c ≤ m .numbers .reached c
   pub in-hand : (c : ℕ) → c < L .width → m .numbers .reached c ≤ m .numbers .base c + L .inHand
   pub entries : (c : ℕ) → c < L .width
-    → (entriesSound L (λ i. m .present c && m .present i) (m .memory .last c) ≡ true) × (entriesSound L (λ i. m .present c && m .present i) (m .memory .pending c) ≡ true)
+      → (entriesSound L (λ i. m .present c && m .present i) (m .memory .last c) ≡ true) × (entriesSound L (λ i. m .present c && m .present i) (m .memory .pending c) ≡ true)
   pub none-open : (p : ℕ) → p < L .places → isOpen (m .place p) ≡ false
   -- a card already rolled has all four numbers at the line, another its stored number
   pub lowered : (c : ℕ) → c < L .width → m .rolled c ≡ true → (m .numbers .base c ≡ m .line c) × (m .numbers .stored c ≡ m .line c) × (m .numbers .held c ≡ m .line c) × (m .numbers .reached c ≡ m .line c)
@@ -112,7 +112,7 @@ line-in-append [] ys start c = refl
 line-in-append (x ∷ xs) ys start c = ap (λ (y : ℕ). cond (eqb (x .card) c) (x .line) y) (line-in-append xs ys start c)
 
 pub line-in-selected : (n : ℕ) (present : CardSet) (stored line start : Numbers) (c : ℕ)
-  → lineIn (selected n present (λ d. record { card = d; stored = stored d; line = line d })) start c ≡ cond (ltb c n && present c) (line c) (start c)
+    → lineIn (selected n present (λ d. record { card = d; stored = stored d; line = line d })) start c ≡ cond (ltb c n && present c) (line c) (start c)
 line-in-selected zero present stored line start c = rw (le-ltb c 0 zero-le)
 line-in-selected (suc n) present stored line start c =
     line-in-append (selected n present (λ d. record { card = d; stored = stored d; line = line d })) (cond (present n) (record { card = n; stored = stored n; line = line n } ∷ []) []) start c
@@ -122,9 +122,11 @@ line-in-selected (suc n) present stored line start c =
     last : (b : Bool) → lineIn (cond b (record { card = n; stored = stored n; line = line n } ∷ []) []) start n ≡ cond (true && b) (line n) (start n)
     last true = rw (eq-eqb n n refl)
     last false = refl
+
     other : (b : Bool) → ¬ (c ≡ n) → lineIn (cond b (record { card = n; stored = stored n; line = line n } ∷ []) []) start c ≡ start c
     other true q = rw (ne-eqb n c (λ (y : n ≡ c). q (sym y)))
     other false q = refl
+
     step : cond (ltb c n && present c) (line c) (lineIn (cond (present n) (record { card = n; stored = stored n; line = line n } ∷ []) []) start c) ≡ cond (ltb c (suc n) && present c) (line c) (start c)
     step =
         by-cases (decLt c n) (λ (z : c < n). rw (lt-ltb c n z, lt-ltb c (suc n) (le-step z), other (present n) (λ (q : c ≡ n). absurd (omega arith))))
@@ -156,14 +158,14 @@ module _ (L : Limits) (m : Model) (j : Journal) (r : Running L m j) where
         lowered = λ c l e. clash e refl;
         kept = λ c l e. same-stored c l;
         some-left =
-          fails (within L (m .present) noCards)
-          (λ e. ⊎-elim (λ (z : not (m .present (r .carded .one)) ≡ true). clash (r .carded .is-there) (not-true (m .present (r .carded .one)) z)) (λ (z : false ≡ true). clash z refl)
-          (or-elim (not (m .present (r .carded .one))) false (all-at (L .width) (λ c. not (m .present c) || false) e (r .carded .one) (r .carded .is-card))));
+            fails (within L (m .present) noCards)
+            (λ e. ⊎-elim (λ (z : not (m .present (r .carded .one)) ≡ true). clash (r .carded .is-there) (not-true (m .present (r .carded .one)) z)) (λ (z : false ≡ true). clash z refl)
+            (or-elim (not (m .present (r .carded .one))) false (all-at (L .width) (λ c. not (m .present c) || false) e (r .carded .one) (r .carded .is-card))));
         about = λ H agree. new H (r .about H agree);
       }
     where
       new : (H : History) → About L m (j .start) (length (j .history)) (r .took) (r .at) H
-        → AboutLine L (editedAll L (fix (lines L m) ∷ []) m) (j .start) (length (j .history)) (j .stored) (lines L m) H
+          → AboutLine L (editedAll L (fix (lines L m) ∷ []) m) (j .start) (length (j .history)) (j .stored) (lines L m) H
       new H a =
           record {
             line-right = λ c l. lines-right L m j r H a c l ∙ line-same (L .width) H (j .start) (length (j .history)) (m .numbers .stored) (j .stored) same-stored c l;
@@ -209,11 +211,11 @@ module _ (L : Limits) (m : Model) (j : Journal) (r : Rolling L m j) where
         entries = r .entries;
         none-open = r .none-open;
         lowered = λ c l e. let q = r .lowered c l e in
-          (q .0, q .1, cond-case (λ x. x ≡ m .line c) (cards c) (λ z. q .1) (λ z. q .2), q .3);
+            (q .0, q .1, cond-case (λ x. x ≡ m .line c) (cards c) (λ z. q .1) (λ z. q .2), q .3);
         kept = r .kept;
         some-left = r .some-left;
         about = λ H agree. let a : AboutLine L m (j .start) (length (j .history)) (j .stored) (m .line) H = r .about H agree in
-          record { line-right = a .line-right; intact = a .intact; framed = a .framed; count = a .count; numbered = a .numbered; bounded = a .bounded; there = a .there };
+            record { line-right = a .line-right; intact = a .intact; framed = a .framed; count = a .count; numbered = a .numbered; bounded = a .bounded; there = a .there };
       }
 
   module _ (c : ℕ) (l : c < L .width) where
@@ -228,7 +230,7 @@ module _ (L : Limits) (m : Model) (j : Journal) (r : Rolling L m j) where
 
     -- a card that goes to its line has it at all four numbers
     now-lowered : (d : ℕ) → d < L .width → withCard (m .rolled) c d ≡ true
-      → (low (m .numbers .base) d ≡ m .line d) × (low (m .numbers .stored) d ≡ m .line d) × (low (m .numbers .held) d ≡ m .line d) × (low (m .numbers .reached) d ≡ m .line d)
+        → (low (m .numbers .base) d ≡ m .line d) × (low (m .numbers .stored) d ≡ m .line d) × (low (m .numbers .held) d ≡ m .line d) × (low (m .numbers .reached) d ≡ m .line d)
     now-lowered d ld e =
         by-cases (ℕ-discrete d c)
         (λ (q : d ≡ c). rw (q, put-same (m .numbers .base) c (m .line c), put-same (m .numbers .stored) c (m .line c), put-same (m .numbers .held) c (m .line c), put-same (m .numbers .reached) c (m .line c)) (refl, refl, refl, refl))
@@ -236,34 +238,34 @@ module _ (L : Limits) (m : Model) (j : Journal) (r : Rolling L m j) where
         (r .lowered d ld (rw (ne-eqb d c q) at e)))
 
     intact-lowered : (H : History) → AboutLine L m (j .start) (length (j .history)) (j .stored) (m .line) H
-      → Intact (L .width) H (j .start) (length (j .history)) (j .stored) (low (m .numbers .base)) (low (m .numbers .stored)) (low (m .numbers .reached)) (put (m .memory .frame) c (λ x. noEntries))
+        → Intact (L .width) H (j .start) (length (j .history)) (j .stored) (low (m .numbers .base)) (low (m .numbers .stored)) (low (m .numbers .reached)) (put (m .memory .frame) c (λ x. noEntries))
     intact-lowered H a =
         intact-lower (L .width) H (j .start) (length (j .history)) (a .intact)
         (λ d ld. put-case (λ y x. m .numbers .base y ≤ x) (m .numbers .base) c (m .line c) d (λ (q : d ≡ c). rw q (base-line L m j r c l)) (λ q. le-refl (m .numbers .base d)))
         (λ d ld. put-case (λ y x. x ≤ lineAt (L .width) H (j .start) (length (j .history)) (j .stored) y) (m .numbers .base) c (m .line c) d
-          (λ (q : d ≡ c). rw q (rw (a .line-right c l) (le-refl _))) (λ q. a .intact .base-line d ld))
+        (λ (q : d ≡ c). rw q (rw (a .line-right c l) (le-refl _))) (λ q. a .intact .base-line d ld))
         (λ d ld. put-case (λ y x. lineAt (L .width) H (j .start) (length (j .history)) (j .stored) y ≤ x) (m .numbers .stored) c (m .line c) d
-          (λ (q : d ≡ c). rw q (rw (a .line-right c l) (le-refl _))) (λ q. a .intact .line-stored d ld))
+        (λ (q : d ≡ c). rw q (rw (a .line-right c l) (le-refl _))) (λ q. a .intact .line-stored d ld))
         (λ d ld. put-case (λ y x. x ≤ m .numbers .stored y) (m .numbers .stored) c (m .line c) d (λ (q : d ≡ c). rw q (line-stored L m j r c l)) (λ q. le-refl (m .numbers .stored d)))
         (low-le (m .numbers .stored) (m .numbers .reached) (a .intact .stored-reached))
         (λ d ld. put-case (λ y x. x ≤ m .numbers .reached y) (m .numbers .reached) c (m .line c) d (λ (q : d ≡ c). rw q (le-trans (line-stored L m j r c l) (a .intact .stored-reached c l))) (λ q. le-refl (m .numbers .reached d)))
         (λ d x i ld li y z. by-cases (ℕ-discrete d c)
-          (λ (q : d ≡ c). empty x (rw (q, put-same (m .numbers .base) c (m .line c)) at y) (rw (q, put-same (m .numbers .reached) c (m .line c)) at z))
-          (λ q. ap (λ (f : ℕ → Vector). f x i) (put-other (m .memory .frame) c (λ x. noEntries) d q)))
+        (λ (q : d ≡ c). empty x (rw (q, put-same (m .numbers .base) c (m .line c)) at y) (rw (q, put-same (m .numbers .reached) c (m .line c)) at z))
+        (λ q. ap (λ (f : ℕ → Vector). f x i) (put-other (m .memory .frame) c (λ x. noEntries) d q)))
       where
         empty : {A : Type 0} (x : ℕ) → m .line c < x → x ≤ m .line c → A
         empty x y z = absurd (omega arith)
 
     framed-lowered : (H : History) → AboutLine L m (j .start) (length (j .history)) (j .stored) (m .line) H
-      → Framed (L .width) H (j .start) (length (j .history)) (low (m .numbers .base)) (low (m .numbers .reached)) (put (m .memory .maker) c (λ x. 0)) (put (m .memory .frame) c (λ x. noEntries))
+        → Framed (L .width) H (j .start) (length (j .history)) (low (m .numbers .base)) (low (m .numbers .reached)) (put (m .memory .maker) c (λ x. 0)) (put (m .memory .frame) c (λ x. noEntries))
     framed-lowered H a =
         record {
           number-is = λ i d h ld e y z. by-cases (ℕ-discrete d c) (λ (q : d ≡ c). empty i d q y z)
-            (λ q. ap (λ (f : ℕ → ℕ). f (made H (j .start) i d)) (put-other (m .memory .maker) c (λ x. 0) d q)
-            ∙ a .framed .number-is i d h ld e (rw (put-other (m .numbers .base) c (m .line c) d q) at y) (rw (put-other (m .numbers .reached) c (m .line c) d q) at z));
+              (λ q. ap (λ (f : ℕ → ℕ). f (made H (j .start) i d)) (put-other (m .memory .maker) c (λ x. 0) d q)
+              ∙ a .framed .number-is i d h ld e (rw (put-other (m .numbers .base) c (m .line c) d q) at y) (rw (put-other (m .numbers .reached) c (m .line c) d q) at z));
           vector-is = λ i d k h ld lk e y z. by-cases (ℕ-discrete d c) (λ (q : d ≡ c). empty i d q y z)
-            (λ q. ap (λ (f : ℕ → Vector). f (made H (j .start) i d) k) (put-other (m .memory .frame) c (λ x. noEntries) d q)
-            ∙ a .framed .vector-is i d k h ld lk e (rw (put-other (m .numbers .base) c (m .line c) d q) at y) (rw (put-other (m .numbers .reached) c (m .line c) d q) at z));
+              (λ q. ap (λ (f : ℕ → Vector). f (made H (j .start) i d) k) (put-other (m .memory .frame) c (λ x. noEntries) d q)
+              ∙ a .framed .vector-is i d k h ld lk e (rw (put-other (m .numbers .base) c (m .line c) d q) at y) (rw (put-other (m .numbers .reached) c (m .line c) d q) at z));
         }
       where
         empty : {A : Type 0} (i d : ℕ) → d ≡ c → low (m .numbers .base) d < made H (j .start) i d → made H (j .start) i d ≤ low (m .numbers .reached) d → A
@@ -273,7 +275,7 @@ module _ (L : Limits) (m : Model) (j : Journal) (r : Rolling L m j) where
             absurd (omega arith)
 
     pub roll-rolls : (f : Fixing) → within L (m .present) (withCard (m .rolled) c) ≡ false
-      → Rolling L (editedAll L (lower c ∷ []) m) (record { start = j .start; stored = j .stored; undecided = j .undecided; history = j .history; fix = f })
+        → Rolling L (editedAll L (lower c ∷ []) m) (record { start = j .start; stored = j .stored; undecided = j .undecided; history = j .history; fix = f })
     roll-rolls f left =
         record {
           is-rolling = r .is-rolling;
@@ -283,13 +285,97 @@ module _ (L : Limits) (m : Model) (j : Journal) (r : Rolling L m j) where
           stored-held = low-le (m .numbers .stored) (m .numbers .held) (r .stored-held);
           held-reached = low-le (m .numbers .held) (m .numbers .reached) (r .held-reached);
           in-hand = λ d ld. by-cases (ℕ-discrete d c) (λ (q : d ≡ c). rw (q, put-same (m .numbers .base) c (m .line c), put-same (m .numbers .reached) c (m .line c)) (omega arith))
-            (λ q. rw (put-other (m .numbers .base) c (m .line c) d q, put-other (m .numbers .reached) c (m .line c) d q) (r .in-hand d ld));
+              (λ q. rw (put-other (m .numbers .base) c (m .line c) d q, put-other (m .numbers .reached) c (m .line c) d q) (r .in-hand d ld));
           entries = r .entries;
           none-open = r .none-open;
           lowered = now-lowered;
           kept = λ d ld e. let q : ¬ (d ≡ c) = λ (y : d ≡ c). clash (or-left (m .rolled d) (eq-eqb d c y)) e in
-            put-other (m .numbers .stored) c (m .line c) d q ∙ r .kept d ld (fails (m .rolled d) (λ y. clash (or-right (eqb d c) y) e));
+              put-other (m .numbers .stored) c (m .line c) d q ∙ r .kept d ld (fails (m .rolled d) (λ y. clash (or-right (eqb d c) y) e));
           some-left = left;
           about = λ H agree. let a : AboutLine L m (j .start) (length (j .history)) (j .stored) (m .line) H = r .about H agree in
-            record { line-right = a .line-right; intact = intact-lowered H a; framed = framed-lowered H a; count = a .count; numbered = a .numbered; bounded = a .bounded; there = a .there };
+              record { line-right = a .line-right; intact = intact-lowered H a; framed = framed-lowered H a; count = a .count; numbered = a .numbered; bounded = a .bounded; there = a .there };
         }
+
+    -- ---- the last roll: a session begins at the line
+    module _ (k : LineNoted L m j) (all : within L (m .present) (withCard (m .rolled) c) ≡ true) where
+      abbrev renewed : Model
+      renewed = editedAll L (lower c ∷ renew ∷ []) m
+
+      abbrev begun : Journal
+      begun = record { start = k .line; stored = k .line; undecided = j .undecided; history = []; fix = unfixed }
+
+      -- a card that is not there stands at its line too
+      absent-line : (d : ℕ) → d < L .width → m .present d ≡ false → (m .numbers .base d ≡ m .line d) × (m .numbers .stored d ≡ m .line d) × (m .numbers .held d ≡ m .line d) × (m .numbers .reached d ≡ m .line d)
+      absent-line d ld e =
+          let a : AboutLine L m (j .start) (length (j .history)) (j .stored) (m .line) (historyOf (j .history)) = about₀ L m j r in
+          let z : writers (historyOf (j .history)) d (length (j .history)) ≡ 0 = absent-still L m (j .start) (length (j .history)) (historyOf (j .history)) (a .there) d ld e in
+          let b1 = base-line L m j r d ld in
+          let b2 = line-stored L m j r d ld in
+          let b3 = r .stored-held d ld in
+          let b4 = r .held-reached d ld in
+          let b5 = a .intact .reached-top d ld in
+          let b6 = a .intact .from-start d ld in
+          (omega arith, omega arith, omega arith, omega arith)
+
+      all-lowered : (d : ℕ) → d < L .width → (low (m .numbers .base) d ≡ k .line d) × (low (m .numbers .stored) d ≡ k .line d) × (low (m .numbers .held) d ≡ k .line d) × (low (m .numbers .reached) d ≡ k .line d)
+      all-lowered d ld =
+          rw (k .line-is d ld)
+          (test (withCard (m .rolled) c d) (now-lowered d ld)
+          (λ e. let q : ¬ (d ≡ c) = λ (y : d ≡ c). clash (or-left (m .rolled d) (eq-eqb d c y)) e in
+          rw (put-other (m .numbers .base) c (m .line c) d q, put-other (m .numbers .stored) c (m .line c) d q, put-other (m .numbers .held) c (m .line c) d q, put-other (m .numbers .reached) c (m .line c) d q)
+          (absent-line d ld
+          (⊎-elim (λ (y : not (m .present d) ≡ true). not-true (m .present d) y) (λ (y : withCard (m .rolled) c d ≡ true). clash y e)
+          (or-elim (not (m .present d)) (withCard (m .rolled) c d) (all-at (L .width) (λ x. not (m .present x) || withCard (m .rolled) c x) all d ld))))))
+
+      line-le : (d : ℕ) → d < L .width → k .line d ≤ L .greatestState
+      line-le d ld = rw (k .line-is d ld) (line-bounded L m j r d ld)
+
+      pub renew-runs : Running L renewed begun
+      renew-runs =
+          record {
+            took = λ i d. false;
+            at = λ p. 0;
+            not-rolling = refl;
+            session-given = omega arith;
+            carded = r .carded;
+            ranges =
+                record {
+                  from-start = λ d ld. omega (arith, all-lowered d ld .0);
+                  base-stored = λ d ld. omega (arith, all-lowered d ld .0, all-lowered d ld .1);
+                  stored-held = λ d ld. omega (arith, all-lowered d ld .1, all-lowered d ld .2);
+                  held-reached = λ d ld. omega (arith, all-lowered d ld .2, all-lowered d ld .3);
+                  in-hand = λ d ld. omega (arith, all-lowered d ld .0, all-lowered d ld .3);
+                  all-held = λ u d ld. all-lowered d ld .2 ∙ sym (all-lowered d ld .3);
+                };
+            stored-is = λ d ld. sym (all-lowered d ld .1);
+            not-fixed = refl;
+            places-open =
+                record {
+                  opened = λ p lp e. clash e (r .none-open p lp);
+                  noted = λ p lp e. clash e (r .none-open p lp);
+                  apart = λ p q lp lq d e. clash e (r .none-open p lp);
+                  strangers = λ p q d lp lq ld ne e. clash e (r .none-open p lp);
+                };
+            places-down = λ d p lp. r .none-open p lp;
+            about = λ H a.
+                record {
+                  orderly = record { decided-only = λ i d t. clash t refl; earlier-taken = λ i q d x y ld e. absurd (not-suc-le-zero y) };
+                  levels =
+                      record {
+                        low = λ d ld. omega (arith, all-lowered d ld .3);
+                        high = λ d ld. omega (arith, all-lowered d ld .3);
+                        up-to = λ i d h ld e t. absurd (not-suc-le-zero h);
+                        taken = λ i d h ld e z. absurd (not-suc-le-zero h);
+                      };
+                  tracks = record { last-is = λ d i ld li. greatest-none i (λ t b. not-suc-le-zero (b .1)); pending-is = λ d i ld li. greatest-none i (λ t b. not-suc-le-zero (b .1)) };
+                  framed = record { number-is = λ i d h ld e x y. absurd (not-suc-le-zero h); vector-is = λ i d q h ld lq e x y. absurd (not-suc-le-zero h) };
+                  based = record { cut = λ i d q h ld lq e z. absurd (not-suc-le-zero h) };
+                  numbered = record { positive = λ i h. absurd (not-suc-le-zero h); given = λ i h. absurd (not-suc-le-zero h); distinct = λ i q x y. absurd (not-suc-le-zero y); rising = λ i q d x y ld e. absurd (not-suc-le-zero y) };
+                  bounded = λ d ld. omega (arith, line-le d ld);
+                  there = λ i d h ld e. absurd (not-suc-le-zero h);
+                  standing = record { stood = λ p lp e. clash e (r .none-open p lp); waits = λ p lp e. clash e (r .none-open p lp) };
+                  open-untaken = λ u i d h ld e t. absurd (not-suc-le-zero h);
+                  ended-untaken = λ d. clash d refl;
+                  ended-real = λ d. clash d refl;
+                };
+          }

@@ -34,7 +34,7 @@ entry-sound v G b f =
     (λ h. le-leb v (cond b G 0) (omega (arith, h)))
 
 module _ (L : Limits) (present : CardSet) (start : Numbers) (n : ℕ) (H : History) (there : (i c : ℕ) → i < n → c < L .width → touches (H i) c ≡ true → present c ≡ true)
-  (bounded : (c : ℕ) → c < L .width → start c + writers H c n ≤ L .greatestState) where
+    (bounded : (c : ℕ) → c < L .width → start c + writers H c n ≤ L .greatestState) where
   -- the greatest state made on card j is that of a card that is there, within the limits
   greatest-sound : {Q : ℕ → Type 0} {j v : ℕ} → j < L .width → Greatest H start Q j v → ((t : ℕ) → Q t → t < n) → 0 < v → (present j ≡ true) × (v ≤ L .greatestState)
   greatest-sound {Q} {j} {v} l g inside z =
@@ -53,7 +53,7 @@ module _ (L : Limits) (present : CardSet) (start : Numbers) (n : ℕ) (H : Histo
 
   -- the frames in hand
   module _ (base reached : Numbers) (y : Memory) (f : Framed (L .width) H start n base reached (y .maker) (y .frame)) (count : ℕ) (nb : Numbered (L .width) H n count)
-    (c : ℕ) (l : c < L .width) (from-start : start c ≤ base c) (top : reached c ≤ start c + writers H c n) where
+      (c : ℕ) (l : c < L .width) (from-start : start c ≤ base c) (top : reached c ≤ start c + writers H c n) where
     frame-maker : (x : ℕ) → base c < x → x ≤ reached c → Maker H start n c x
     frame-maker x a b = maker H start n c x (omega arith) (omega arith)
 
@@ -79,17 +79,20 @@ module _ (L : Limits) (present : CardSet) (start : Numbers) (n : ℕ) (H : Histo
         let u : UpTo (L .width) H (k .at) (k′ .at) = inr (writers-precede (L .width) H c l o (k .wrote) (k′ .wrote)) in
         and-intro
         (lt-ltb (y .maker c x) (y .maker c (suc x))
-        (omega
-        (arith, number-at x a (omega arith) k, number-at (suc x) (omega arith) b k′,
-        nb .rising (k .at) (k′ .at) c o (k′ .in-history) l (meets-intro (H (k .at)) (H (k′ .at)) c (writes-touches (H (k .at)) c (k .wrote)) (writes-touches (H (k′ .at)) c (k′ .wrote)) (inl (k .wrote))))))
+        (omega (
+          arith,
+          number-at x a (omega arith) k,
+          number-at (suc x) (omega arith) b k′,
+          nb .rising (k .at) (k′ .at) c o (k′ .in-history) l (meets-intro (H (k .at)) (H (k′ .at)) c (writes-touches (H (k .at)) c (k .wrote)) (writes-touches (H (k′ .at)) c (k′ .wrote)) (inl (k .wrote))),
+        )))
         (all-intro (L .width) (λ j. leb (y .frame c x j) (y .frame c (suc x) j))
         (λ j lj. le-leb (y .frame c x j) (y .frame c (suc x) j)
         (omega (arith, vector-at x a (omega arith) k j lj, vector-at (suc x) (omega arith) b k′ j lj, vector-grows (L .width) H start u j lj))))
 
 pub frames-sound : (L : Limits) (m : Model) (start : Numbers) (n : ℕ) (H : History) → ((i c : ℕ) → i < n → c < L .width → touches (H i) c ≡ true → m .present c ≡ true)
-  → ((c : ℕ) → c < L .width → start c + writers H c n ≤ L .greatestState)
-  → Framed (L .width) H start n (m .numbers .base) (m .numbers .reached) (m .memory .maker) (m .memory .frame) → (count : ℕ) → Numbered (L .width) H n count
-  → (c : ℕ) → c < L .width → start c ≤ m .numbers .base c → m .numbers .reached c ≤ start c + writers H c n → framesSound L m c ≡ true
+    → ((c : ℕ) → c < L .width → start c + writers H c n ≤ L .greatestState)
+    → Framed (L .width) H start n (m .numbers .base) (m .numbers .reached) (m .memory .maker) (m .memory .frame) → (count : ℕ) → Numbered (L .width) H n count
+    → (c : ℕ) → c < L .width → start c ≤ m .numbers .base c → m .numbers .reached c ≤ start c + writers H c n → framesSound L m c ≡ true
 frames-sound L m start n H there bounded f count nb c l low top =
     all-intro (m .numbers .reached c - m .numbers .base c)
     (λ k. frameSound L m c (suc (m .numbers .base c + k)) && (eqb k 0 || risesSound L (m .memory) c (m .numbers .base c + k)))
@@ -117,9 +120,10 @@ module _ (L : Limits) (m : Model) (j : Journal) (r : Running L m j) where
       (and-intro (inside (k .0) (k .1) .1) (p .0), p .1)))
 
   pub tracks-sound : (c : ℕ) → c < L .width → (entriesSound L (both c) (m .memory .last c) ≡ true) × (entriesSound L (both c) (m .memory .pending c) ≡ true)
-  tracks-sound c l =
-      (tracked-sound c l (m .memory .last c) (λ i li. about₀ .tracks .last-is c i l li) (λ t q. (omega (arith, q .1, up-to-le (q .4)), about₀ .there (q .0) c (q .1) l (writes-touches (H₀ (q .0)) c (q .3)))),
-      tracked-sound c l (m .memory .pending c) (λ i li. about₀ .tracks .pending-is c i l li) (λ t q. (omega (arith, q .1, up-to-le (q .4)), about₀ .there (q .0) c (q .1) l (q .3))))
+  tracks-sound c l = (
+    tracked-sound c l (m .memory .last c) (λ i li. about₀ .tracks .last-is c i l li) (λ t q. (omega (arith, q .1, up-to-le (q .4)), about₀ .there (q .0) c (q .1) l (writes-touches (H₀ (q .0)) c (q .3)))),
+    tracked-sound c l (m .memory .pending c) (λ i li. about₀ .tracks .pending-is c i l li) (λ t q. (omega (arith, q .1, up-to-le (q .4)), about₀ .there (q .0) c (q .1) l (q .3))),
+  )
 
   place-sound : (p : ℕ) → p < L .places → placeSound L m (m .place p) ≡ true
   place-sound p l = test (isOpen (m .place p)) (λ e. or-right (not (isOpen (m .place p))) (and-intro (and-intro (none-stray e) (all-room e)) (entries e))) (λ e. or-left (not (strays L m (touches (m .place p .change))) && allBelow (L .width) (λ c. not (toWrite (m .place p) c) || roomToWrite L (m .numbers) c) && entriesSound L (m .present) (m .place p .vector)) (not-intro e))
@@ -130,6 +134,7 @@ module _ (L : Limits) (m : Model) (j : Journal) (r : Running L m j) where
           (λ z. let q : Found (L .width) (λ c. touches (m .place p .change) c && not (m .present c)) = any-elim (L .width) (λ c. touches (m .place p .change) c && not (m .present c)) z in
           clash (r .places-open .opened p l e .there (q .0) (q .1) (and-left (touches (m .place p .change) (q .0)) (not (m .present (q .0))) (q .2)))
           (not-true (m .present (q .0)) (and-right (touches (m .place p .change) (q .0)) (not (m .present (q .0))) (q .2)))))
+
       all-room : isOpen (m .place p) ≡ true → allBelow (L .width) (λ c. not (toWrite (m .place p) c) || roomToWrite L (m .numbers) c) ≡ true
       all-room e =
           all-intro (L .width) (λ c. not (toWrite (m .place p) c) || roomToWrite L (m .numbers) c)
@@ -137,6 +142,7 @@ module _ (L : Limits) (m : Model) (j : Journal) (r : Running L m j) where
           (λ z. let q : (m .numbers .reached c < m .numbers .base c + L .inHand) × (m .numbers .reached c < L .greatestState) = r .places-open .opened p l e .room c lc z in
           or-right (not (toWrite (m .place p) c)) (and-intro (lt-ltb (m .numbers .reached c) (m .numbers .base c + L .inHand) (q .0)) (lt-ltb (m .numbers .reached c) (L .greatestState) (q .1))))
           (λ z. or-left (roomToWrite L (m .numbers) c) (not-intro z)))
+
       entries : isOpen (m .place p) ≡ true → entriesSound L (m .present) (m .place p .vector) ≡ true
       entries e =
           test (decided L (m .place p))

@@ -30,7 +30,7 @@ use Rattle.protocol.proofs.Running.{Numbered, StandsFor, Remembers, Unf
 
 -- ---- store
 pub store-keeps : (L : Limits) (m : Model) (j : Journal) → Running L m j → (c s : ℕ) → c < L .width → m .numbers .stored c ≤ s → s ≤ m .numbers .held c
-  → Running L (editedAll L (keep c s ∷ []) m) (noteStore j c s)
+    → Running L (editedAll L (keep c s ∷ []) m) (noteStore j c s)
 store-keeps L m j r c s l low high =
     record {
       took = r .took;
@@ -39,34 +39,34 @@ store-keeps L m j r c s l low high =
       session-given = r .session-given;
       carded = r .carded;
       ranges =
-        record {
-          from-start = r .ranges .from-start;
-          base-stored = λ d ld. put-case (λ y x. m .numbers .base y ≤ x) (m .numbers .stored) c s d (λ (q : d ≡ c). rw q (le-trans (r .ranges .base-stored c l) low)) (λ q. r .ranges .base-stored d ld);
-          stored-held = λ d ld. put-case (λ y x. x ≤ m .numbers .held y) (m .numbers .stored) c s d (λ (q : d ≡ c). rw q high) (λ q. r .ranges .stored-held d ld);
-          held-reached = r .ranges .held-reached;
-          in-hand = r .ranges .in-hand;
-          all-held = r .ranges .all-held;
-        };
+          record {
+            from-start = r .ranges .from-start;
+            base-stored = λ d ld. put-case (λ y x. m .numbers .base y ≤ x) (m .numbers .stored) c s d (λ (q : d ≡ c). rw q (le-trans (r .ranges .base-stored c l) low)) (λ q. r .ranges .base-stored d ld);
+            stored-held = λ d ld. put-case (λ y x. x ≤ m .numbers .held y) (m .numbers .stored) c s d (λ (q : d ≡ c). rw q high) (λ q. r .ranges .stored-held d ld);
+            held-reached = r .ranges .held-reached;
+            in-hand = r .ranges .in-hand;
+            all-held = r .ranges .all-held;
+          };
       stored-is = λ d ld. by-cases (ℕ-discrete d c) (λ (q : d ≡ c). rw (q, put-same (j .stored) c s, put-same (m .numbers .stored) c s))
-        (λ q. put-other (j .stored) c s d q ∙ r .stored-is d ld ∙ sym (put-other (m .numbers .stored) c s d q));
+          (λ q. put-other (j .stored) c s d q ∙ r .stored-is d ld ∙ sym (put-other (m .numbers .stored) c s d q));
       not-fixed = r .not-fixed;
       places-open = r .places-open;
       places-down = r .places-down;
       about = λ H agree. let a : About L m (j .start) (length (j .history)) (r .took) (r .at) H = r .about H agree in
-        record {
-          orderly = a .orderly;
-          levels = a .levels;
-          tracks = a .tracks;
-          framed = a .framed;
-          based = a .based;
-          numbered = a .numbered;
-          bounded = a .bounded;
-          there = a .there;
-          standing = a .standing;
-          open-untaken = a .open-untaken;
-          ended-untaken = a .ended-untaken;
-          ended-real = a .ended-real;
-        };
+          record {
+            orderly = a .orderly;
+            levels = a .levels;
+            tracks = a .tracks;
+            framed = a .framed;
+            based = a .based;
+            numbered = a .numbered;
+            bounded = a .bounded;
+            there = a .there;
+            standing = a .standing;
+            open-untaken = a .open-untaken;
+            ended-untaken = a .ended-untaken;
+            ended-real = a .ended-real;
+          };
     }
 
 -- ---- the line of the cabinet
@@ -102,7 +102,7 @@ module _ (L : Limits) (m : Model) (j : Journal) (r : Running L m j) (H : History
 
 -- a card that is not there has no writers, and its numbers are its start number
 pub absent-still : (L : Limits) (m : Model) (start : Numbers) (n : ℕ) (H : History) → ((i c : ℕ) → i < n → c < L .width → touches (H i) c ≡ true → m .present c ≡ true)
-  → (c : ℕ) → c < L .width → m .present c ≡ false → writers H c n ≡ 0
+    → (c : ℕ) → c < L .width → m .present c ≡ false → writers H c n ≡ 0
 absent-still L m start n H there c l e =
     by-cases (decLt 0 (writers H c n)) (λ z. let k : Maker H start n c (start c + writers H c n) = maker H start n c (start c + writers H c n) (omega arith) (le-refl (start c + writers H c n)) in
     clash (there (k .at) c (k .in-history) l (writes-touches (H (k .at)) c (k .wrote))) e) (λ z. omega (arith, z))
@@ -110,16 +110,19 @@ absent-still L m start n H there c l e =
 module _ (L : Limits) (m : Model) (j : Journal) (r : Running L m j) where
   -- the numbers of the line, for all cards below the width
   pub lines-right : (H : History) → About L m (j .start) (length (j .history)) (r .took) (r .at) H
-    → (c : ℕ) → c < L .width → lines L m c ≡ lineAt (L .width) H (j .start) (length (j .history)) (m .numbers .stored) c
+      → (c : ℕ) → c < L .width → lines L m c ≡ lineAt (L .width) H (j .start) (length (j .history)) (m .numbers .stored) c
   lines-right H a c l =
       test (m .present c) (λ e. rw (lt-ltb c (L .width) l, e) (line-right L m j r H a c l))
       (λ e. rw (lt-ltb c (L .width) l, e) (le-antisymm (intact L m j r H a .base-line c l) (still e)))
     where
       still : m .present c ≡ false → lineAt (L .width) H (j .start) (length (j .history)) (m .numbers .stored) c ≤ m .numbers .base c
       still e =
-          omega
-          (arith, line-is (L .width) H (j .start) (length (j .history)) (stateVector (L .width) H (j .start) (length (j .history))) (state-vector-is (L .width) H (j .start) (length (j .history))) (m .numbers .stored) c .to-top,
-          absent-still L m (j .start) (length (j .history)) H (a .there) c l e, r .ranges .from-start c l)
+          omega (
+            arith,
+            line-is (L .width) H (j .start) (length (j .history)) (stateVector (L .width) H (j .start) (length (j .history))) (state-vector-is (L .width) H (j .start) (length (j .history))) (m .numbers .stored) c .to-top,
+            absent-still L m (j .start) (length (j .history)) H (a .there) c l e,
+            r .ranges .from-start c l,
+          )
 
   -- ---- trim
   abbrev bases : Numbers
@@ -146,24 +149,24 @@ module _ (L : Limits) (m : Model) (j : Journal) (r : Running L m j) where
         session-given = r .session-given;
         carded = r .carded;
         ranges =
-          record {
-            from-start = λ c l. le-trans (r .ranges .from-start c l) (base-rises c l);
-            base-stored = base-below;
-            stored-held = r .ranges .stored-held;
-            held-reached = r .ranges .held-reached;
-            in-hand = λ c l. omega (arith, r .ranges .in-hand c l, base-rises c l);
-            all-held = r .ranges .all-held;
-          };
+            record {
+              from-start = λ c l. le-trans (r .ranges .from-start c l) (base-rises c l);
+              base-stored = base-below;
+              stored-held = r .ranges .stored-held;
+              held-reached = r .ranges .held-reached;
+              in-hand = λ c l. omega (arith, r .ranges .in-hand c l, base-rises c l);
+              all-held = r .ranges .all-held;
+            };
         stored-is = r .stored-is;
         not-fixed = r .not-fixed;
         places-open =
-          record {
-            opened = λ p l e. let o : Opened L (m .present) (m .numbers .base) (m .numbers .reached) (m .count) (m .place p) = r .places-open .opened p l e in
-              record { given = o .given; there = o .there; room = λ c lc tw. (omega (arith, o .room c lc tw .0, base-rises c lc), o .room c lc tw .1) };
-            noted = r .places-open .noted;
-            apart = r .places-open .apart;
-            strangers = r .places-open .strangers;
-          };
+            record {
+              opened = λ p l e. let o : Opened L (m .present) (m .numbers .base) (m .numbers .reached) (m .count) (m .place p) = r .places-open .opened p l e in
+                  record { given = o .given; there = o .there; room = λ c lc tw. (omega (arith, o .room c lc tw .0, base-rises c lc), o .room c lc tw .1) };
+              noted = r .places-open .noted;
+              apart = r .places-open .apart;
+              strangers = r .places-open .strangers;
+            };
         places-down = r .places-down;
         about = λ H agree. new H (r .about H agree);
       }
@@ -175,14 +178,14 @@ module _ (L : Limits) (m : Model) (j : Journal) (r : Running L m j) where
             levels = a .levels;
             tracks = a .tracks;
             framed =
-              record {
-                number-is = λ i c h l e y z. rw (lt-ltb (bases c) (made H (j .start) i c) y) (a .framed .number-is i c h l e (omega (arith, base-rises c l, y)) z);
-                vector-is = λ i c k h l lk e y z. rw (lt-ltb (bases c) (made H (j .start) i c) y) (a .framed .vector-is i c k h l lk e (omega (arith, base-rises c l, y)) z);
-              };
+                record {
+                  number-is = λ i c h l e y z. rw (lt-ltb (bases c) (made H (j .start) i c) y) (a .framed .number-is i c h l e (omega (arith, base-rises c l, y)) z);
+                  vector-is = λ i c k h l lk e y z. rw (lt-ltb (bases c) (made H (j .start) i c) y) (a .framed .vector-is i c k h l lk e (omega (arith, base-rises c l, y)) z);
+                };
             based =
-              record {
-                cut = λ i c k h l lk e z. rw (lines-right H a k lk) (line-based (L .width) H (j .start) (length (j .history)) (m .numbers .stored) .cut i c k h l lk e (rw (lines-right H a c l) at z));
-              };
+                record {
+                  cut = λ i c k h l lk e z. rw (lines-right H a k lk) (line-based (L .width) H (j .start) (length (j .history)) (m .numbers .stored) .cut i c k h l lk e (rw (lines-right H a c l) at z));
+                };
             numbered = a .numbered;
             bounded = a .bounded;
             there = a .there;
@@ -219,39 +222,39 @@ module _ (L : Limits) (m : Model) (j : Journal) (r : Running L m j) (cards : Car
         session-given = r .session-given;
         carded = r .carded;
         ranges =
-          record {
-            from-start = r .ranges .from-start;
-            base-stored = r .ranges .base-stored;
-            stored-held = stored-fallen;
-            held-reached = fallen-reached;
-            in-hand = r .ranges .in-hand;
-            all-held = λ u. clash u (not-up (m .phase) is-down);
-          };
+            record {
+              from-start = r .ranges .from-start;
+              base-stored = r .ranges .base-stored;
+              stored-held = stored-fallen;
+              held-reached = fallen-reached;
+              in-hand = r .ranges .in-hand;
+              all-held = λ u. clash u (not-up (m .phase) is-down);
+            };
         stored-is = r .stored-is;
         not-fixed = r .not-fixed;
         places-open =
-          record {
-            opened = r .places-open .opened;
-            noted = λ p l e. clash e (r .places-down is-down p l);
-            apart = r .places-open .apart;
-            strangers = r .places-open .strangers;
-          };
+            record {
+              opened = r .places-open .opened;
+              noted = λ p l e. clash e (r .places-down is-down p l);
+              apart = r .places-open .apart;
+              strangers = r .places-open .strangers;
+            };
         places-down = r .places-down;
         about = λ H agree. let a : About L m (j .start) (length (j .history)) (r .took) (r .at) H = r .about H agree in
-          record {
-            orderly = a .orderly;
-            levels = a .levels;
-            tracks = a .tracks;
-            framed = a .framed;
-            based = a .based;
-            numbered = a .numbered;
-            bounded = a .bounded;
-            there = a .there;
-            standing = a .standing;
-            open-untaken = a .open-untaken;
-            ended-untaken = a .ended-untaken;
-            ended-real = a .ended-real;
-          };
+            record {
+              orderly = a .orderly;
+              levels = a .levels;
+              tracks = a .tracks;
+              framed = a .framed;
+              based = a .based;
+              numbered = a .numbered;
+              bounded = a .bounded;
+              there = a .there;
+              standing = a .standing;
+              open-untaken = a .open-untaken;
+              ended-untaken = a .ended-untaken;
+              ended-real = a .ended-real;
+            };
       }
 
   -- from up the open changes end, and the decided ones with a written share untaken are remembered
@@ -294,32 +297,32 @@ module _ (L : Limits) (m : Model) (j : Journal) (r : Running L m j) (cards : Car
         session-given = r .session-given;
         carded = r .carded;
         ranges =
-          record {
-            from-start = r .ranges .from-start;
-            base-stored = r .ranges .base-stored;
-            stored-held = stored-fallen;
-            held-reached = fallen-reached;
-            in-hand = r .ranges .in-hand;
-            all-held = λ u. clash u refl;
-          };
+            record {
+              from-start = r .ranges .from-start;
+              base-stored = r .ranges .base-stored;
+              stored-held = stored-fallen;
+              held-reached = fallen-reached;
+              in-hand = r .ranges .in-hand;
+              all-held = λ u. clash u refl;
+            };
         stored-is = r .stored-is;
         not-fixed = r .not-fixed;
         places-open =
-          record { opened = λ p l e. clash e refl; noted = λ p l e. clash e refl; apart = λ p q l k d e. clash e refl; strangers = λ p q c l k h d e. clash e refl };
+            record { opened = λ p l e. clash e refl; noted = λ p l e. clash e refl; apart = λ p q l k d e. clash e refl; strangers = λ p q c l k h d e. clash e refl };
         places-down = λ d p l. refl;
         about = λ H agree. let a : About L m (j .start) (length (j .history)) (r .took) (r .at) H = r .about H agree in
-          record {
-            orderly = a .orderly;
-            levels = a .levels;
-            tracks = a .tracks;
-            framed = a .framed;
-            based = a .based;
-            numbered = a .numbered;
-            bounded = a .bounded;
-            there = a .there;
-            standing = record { stood = λ p l e. clash e refl; waits = λ p l e. clash e refl };
-            open-untaken = λ u. clash u refl;
-            ended-untaken = λ d. remembered-number is-up H a;
-            ended-real = λ d. remembered-real is-up H a;
-          };
+            record {
+              orderly = a .orderly;
+              levels = a .levels;
+              tracks = a .tracks;
+              framed = a .framed;
+              based = a .based;
+              numbered = a .numbered;
+              bounded = a .bounded;
+              there = a .there;
+              standing = record { stood = λ p l e. clash e refl; waits = λ p l e. clash e refl };
+              open-untaken = λ u. clash u refl;
+              ended-untaken = λ d. remembered-number is-up H a;
+              ended-real = λ d. remembered-real is-up H a;
+            };
       }

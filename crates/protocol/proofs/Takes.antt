@@ -26,8 +26,8 @@ use Rattle.protocol.proofs.Running.{Numbered, StandsFor, Remembers, Unf
 use Rattle.protocol.proofs.Openings.{not-down}
 
 module _ (L : Limits) (m : Model) (j : Journal) (r : Running L m j) (p c : ℕ) (is-up : isUp (m .phase) ≡ true)
-  (is-place : p < L .places) (is-card : c < L .width) (is-open : isOpen (m .place p) ≡ true) (is-decided : decided L (m .place p) ≡ true)
-  (is-touched : touches (m .place p .change) c ≡ true) (is-untaken : m .place p .taken c ≡ false) where
+    (is-place : p < L .places) (is-card : c < L .width) (is-open : isOpen (m .place p) ≡ true) (is-decided : decided L (m .place p) ≡ true)
+    (is-touched : touches (m .place p .change) c ≡ true) (is-untaken : m .place p .taken c ≡ false) where
   -- the place after the share is taken
   abbrev share-taken : OpenChange
   share-taken = record { change = m .place p .change; yes = m .place p .yes; taken = withCard (m .place p .taken) c; vector = m .place p .vector }
@@ -45,6 +45,7 @@ module _ (L : Limits) (m : Model) (j : Journal) (r : Running L m j) (p c : ℕ) 
   module _ (H : History) (a : About L m (j .start) (length (j .history)) (r .took) (r .at) H) where
     abbrev n : ℕ
     n = length (j .history)
+
     abbrev i : ℕ
     i = r .at p
 
@@ -107,8 +108,10 @@ module _ (L : Limits) (m : Model) (j : Journal) (r : Running L m j) (p c : ℕ) 
       where
         before : r .took k d ≡ false
         before = fails (r .took k d) (λ y. clash (took-older (r .took) i c k d y) z)
+
         s : StandsFor L (m .place) (r .at) k
         s = a .open-untaken is-up k d h ld e before
+
         another : ¬ (s .p ≡ p) → StandsFor L (put (m .place) p after) (put (r .at) p i) k
         another ne =
             record {
@@ -118,6 +121,7 @@ module _ (L : Limits) (m : Model) (j : Journal) (r : Running L m j) (p c : ℕ) 
               is-decided = rw (put-other (m .place) p after (s .p) ne) (s .is-decided);
               is-at = rw (put-other (r .at) p i (s .p) ne) (s .is-at);
             }
+
         same : s .p ≡ p → StandsFor L (put (m .place) p after) (put (r .at) p i) k
         same q =
             record {
@@ -130,6 +134,7 @@ module _ (L : Limits) (m : Model) (j : Journal) (r : Running L m j) (p c : ℕ) 
           where
             at-k : r .at p ≡ k
             at-k = ap (r .at) (sym q) ∙ s .is-at
+
             not-closed : closed L share-taken ≡ false
             not-closed =
                 fails (closed L share-taken)
@@ -145,10 +150,13 @@ module _ (L : Limits) (m : Model) (j : Journal) (r : Running L m j) (p c : ℕ) 
       where
         wq : m .place q .change .writes c ≡ true
         wq = and-left (m .place q .change .writes c) (not (m .place q .taken c)) tw
+
         ei : H i .writes c ≡ true
         ei = ap (λ (t : Change). t .writes c) (st .change-is) ∙ e
+
         meet : (t : Change) → t .writes c ≡ true → meets (H i) t c ≡ true
         meet t y = meets-intro (H i) t c (writes-touches (H i) c ei) (writes-touches t c y) (inl ei)
+
         both : decided L (m .place q) ≡ true → ⊥
         both dq =
             by-cases (decLt (r .at q) i)
@@ -158,8 +166,10 @@ module _ (L : Limits) (m : Model) (j : Journal) (r : Running L m j) (p c : ℕ) 
           where
             sq : Stood (L .width) H (j .start) n (r .took) (m .place q) (r .at q)
             sq = a .standing .stood q l oq dq
+
             eq : H (r .at q) .writes c ≡ true
             eq = ap (λ (t : Change). t .writes c) (sq .change-is) ∙ wq
+
             later : ¬ (r .at q < i) → i < r .at q
             later y = let ne : ¬ (r .at q ≡ i) = elsewhere q l z oq dq in omega (arith, y, ne)
 
@@ -175,16 +185,18 @@ module _ (L : Limits) (m : Model) (j : Journal) (r : Running L m j) (p c : ℕ) 
     where
       e′ : m .place p .change .writes d && not (eqb d c || m .place p .taken d) ≡ true
       e′ = rw q at e
+
       wr : m .place p .change .writes d ≡ true
       wr = and-left (m .place p .change .writes d) (not (eqb d c || m .place p .taken d)) e′
+
       nt : not (eqb d c || m .place p .taken d) ≡ true
       nt = and-right (m .place p .change .writes d) (not (eqb d c || m .place p .taken d)) e′
 
   -- the open changes afterwards, for any reached numbers that leave room
   opened-after : (reached : Numbers)
-    → ((q : ℕ) → q < L .places → ¬ (q ≡ p) → isOpen (m .place q) ≡ true → (d : ℕ) → d < L .width → toWrite (m .place q) d ≡ true → reached d ≡ m .numbers .reached d)
-    → ((d : ℕ) → ¬ (d ≡ c) → reached d ≡ m .numbers .reached d)
-    → Open L (m .present) (m .numbers .base) reached (m .count) (j .undecided) (put (m .place) p after)
+      → ((q : ℕ) → q < L .places → ¬ (q ≡ p) → isOpen (m .place q) ≡ true → (d : ℕ) → d < L .width → toWrite (m .place q) d ≡ true → reached d ≡ m .numbers .reached d)
+      → ((d : ℕ) → ¬ (d ≡ c) → reached d ≡ m .numbers .reached d)
+      → Open L (m .present) (m .numbers .base) reached (m .count) (j .undecided) (put (m .place) p after)
   opened-after reached same here =
       open-put L (m .place) p after
       (λ q l z oq. record {
@@ -215,34 +227,36 @@ module _ (L : Limits) (m : Model) (j : Journal) (r : Running L m j) (p c : ℕ) 
         session-given = r .session-given;
         carded = r .carded;
         ranges =
-          record {
-            from-start = r .ranges .from-start;
-            base-stored = r .ranges .base-stored;
-            stored-held = λ d ld. put-case (λ y x. m .numbers .stored y ≤ x) (m .numbers .held) c (suc (m .numbers .reached c)) d
-              (λ (q : d ≡ c). rw q (omega (arith, r .ranges .stored-held c is-card, r .ranges .held-reached c is-card))) (λ q. r .ranges .stored-held d ld);
-            held-reached = λ d ld. by-cases (ℕ-discrete d c) (λ (q : d ≡ c). rw (q, put-same (m .numbers .held) c (suc (m .numbers .reached c)), put-same (m .numbers .reached) c (suc (m .numbers .reached c))) (le-refl (suc (m .numbers .reached c))))
-              (λ q. rw (put-other (m .numbers .held) c (suc (m .numbers .reached c)) d q, put-other (m .numbers .reached) c (suc (m .numbers .reached c)) d q) (r .ranges .held-reached d ld));
-            in-hand = λ d ld. put-case (λ y x. x ≤ m .numbers .base y + L .inHand) (m .numbers .reached) c (suc (m .numbers .reached c)) d
-              (λ (q : d ≡ c). rw q (old .room c is-card tw .0)) (λ q. r .ranges .in-hand d ld);
-            all-held = λ u d ld. by-cases (ℕ-discrete d c) (λ (q : d ≡ c). rw (q, put-same (m .numbers .held) c (suc (m .numbers .reached c)), put-same (m .numbers .reached) c (suc (m .numbers .reached c))))
-              (λ q. put-other (m .numbers .held) c (suc (m .numbers .reached c)) d q ∙ r .ranges .all-held u d ld ∙ sym (put-other (m .numbers .reached) c (suc (m .numbers .reached c)) d q));
-          };
+            record {
+              from-start = r .ranges .from-start;
+              base-stored = r .ranges .base-stored;
+              stored-held = λ d ld. put-case (λ y x. m .numbers .stored y ≤ x) (m .numbers .held) c (suc (m .numbers .reached c)) d
+                  (λ (q : d ≡ c). rw q (omega (arith, r .ranges .stored-held c is-card, r .ranges .held-reached c is-card))) (λ q. r .ranges .stored-held d ld);
+              held-reached = λ d ld. by-cases (ℕ-discrete d c) (λ (q : d ≡ c). rw (q, put-same (m .numbers .held) c (suc (m .numbers .reached c)), put-same (m .numbers .reached) c (suc (m .numbers .reached c))) (le-refl (suc (m .numbers .reached c))))
+                  (λ q. rw (put-other (m .numbers .held) c (suc (m .numbers .reached c)) d q, put-other (m .numbers .reached) c (suc (m .numbers .reached c)) d q) (r .ranges .held-reached d ld));
+              in-hand = λ d ld. put-case (λ y x. x ≤ m .numbers .base y + L .inHand) (m .numbers .reached) c (suc (m .numbers .reached c)) d
+                  (λ (q : d ≡ c). rw q (old .room c is-card tw .0)) (λ q. r .ranges .in-hand d ld);
+              all-held = λ u d ld. by-cases (ℕ-discrete d c) (λ (q : d ≡ c). rw (q, put-same (m .numbers .held) c (suc (m .numbers .reached c)), put-same (m .numbers .reached) c (suc (m .numbers .reached c))))
+                  (λ q. put-other (m .numbers .held) c (suc (m .numbers .reached c)) d q ∙ r .ranges .all-held u d ld ∙ sym (put-other (m .numbers .reached) c (suc (m .numbers .reached c)) d q));
+            };
         stored-is = r .stored-is;
         not-fixed = r .not-fixed;
         places-open =
-          opened-after (put (m .numbers .reached) c (suc (m .numbers .reached c)))
-          (λ q l z oq d ld y. put-other (m .numbers .reached) c (suc (m .numbers .reached c)) d (λ (x : d ≡ c). no-other-writer H₀ about₀ e q l z oq (rw x at y)))
-          (λ d q. put-other (m .numbers .reached) c (suc (m .numbers .reached c)) d q);
+            opened-after (put (m .numbers .reached) c (suc (m .numbers .reached c)))
+            (λ q l z oq d ld y. put-other (m .numbers .reached) c (suc (m .numbers .reached c)) d (λ (x : d ≡ c). no-other-writer H₀ about₀ e q l z oq (rw x at y)))
+            (λ d q. put-other (m .numbers .reached) c (suc (m .numbers .reached c)) d q);
         places-down = λ d. clash d (not-down (m .phase) is-up);
         about = λ H agree. new H (r .about H agree);
       }
     where
       old : Opened L (m .present) (m .numbers .base) (m .numbers .reached) (m .count) (m .place p)
       old = r .places-open .opened p is-place is-open
+
       tw : toWrite (m .place p) c ≡ true
       tw = and-intro e (not-intro is-untaken)
+
       new : (H : History) → About L m (j .start) (length (j .history)) (r .took) (r .at) H
-        → About L (editedAll L (grow c (m .place p .change .number) (m .place p .vector) ∷ place p after ∷ []) m) (j .start) (length (j .history)) (alsoTook (r .took) (r .at p) c) (put (r .at) p (r .at p)) H
+          → About L (editedAll L (grow c (m .place p .change .number) (m .place p .vector) ∷ place p after ∷ []) m) (j .start) (length (j .history)) (alsoTook (r .took) (r .at p) c) (put (r .at) p (r .at p)) H
       new H a =
           record {
             orderly = orderly-took (L .width) H (j .start) N (r .took) (a .orderly) I c h is-card nt;
@@ -261,14 +275,19 @@ module _ (L : Limits) (m : Model) (j : Journal) (r : Running L m j) (p c : ℕ) 
         where
           N : ℕ
           N = length (j .history)
+
           I : ℕ
           I = r .at p
+
           s : Stood (L .width) H (j .start) (length (j .history)) (r .took) (m .place p) (r .at p)
           s = st H a
+
           h : r .at p < length (j .history)
           h = s .in-history
+
           nt : r .took (r .at p) c ≡ false
           nt = not-taken H a
+
           ei : H (r .at p) .writes c ≡ true
           ei = ap (λ (t : Change). t .writes c) (s .change-is) ∙ e
 
@@ -290,7 +309,7 @@ module _ (L : Limits) (m : Model) (j : Journal) (r : Running L m j) (p c : ℕ) 
       }
     where
       new : (H : History) → About L m (j .start) (length (j .history)) (r .took) (r .at) H
-        → About L (editedAll L (raise c (m .place p .vector) ∷ place p after ∷ []) m) (j .start) (length (j .history)) (alsoTook (r .took) (r .at p) c) (put (r .at) p (r .at p)) H
+          → About L (editedAll L (raise c (m .place p .vector) ∷ place p after ∷ []) m) (j .start) (length (j .history)) (alsoTook (r .took) (r .at p) c) (put (r .at) p (r .at p)) H
       new H a =
           record {
             orderly = orderly-took (L .width) H (j .start) (length (j .history)) (r .took) (a .orderly) (r .at p) c h is-card nt;
@@ -309,11 +328,15 @@ module _ (L : Limits) (m : Model) (j : Journal) (r : Running L m j) (p c : ℕ) 
         where
           s : Stood (L .width) H (j .start) (length (j .history)) (r .took) (m .place p) (r .at p)
           s = st H a
+
           h : r .at p < length (j .history)
           h = s .in-history
+
           nt : r .took (r .at p) c ≡ false
           nt = not-taken H a
+
           ei : H (r .at p) .writes c ≡ false
           ei = ap (λ (t : Change). t .writes c) (s .change-is) ∙ e
+
           di : H (r .at p) .reads c ≡ true
           di = ap (λ (t : Change). t .reads c) (s .change-is) ∙ d

@@ -26,7 +26,7 @@ use Rattle.protocol.proofs.Running.{Numbered, StandsFor, Remembers, Unf
 use Rattle.protocol.proofs.Openings.{not-down, meets-sym}
 
 module _ (L : Limits) (m : Model) (j : Journal) (r : Running L m j) (p : ℕ) (is-up : isUp (m .phase) ≡ true)
-  (is-place : p < L .places) (is-open : isOpen (m .place p) ≡ true) (undecided-yet : decided L (m .place p) ≡ false) where
+    (is-place : p < L .places) (is-open : isOpen (m .place p) ≡ true) (undecided-yet : decided L (m .place p) ≡ false) where
   -- a place that stands for a decided change is another
   other : {i : ℕ} (s : StandsFor L (m .place) (r .at) i) → ¬ (s .p ≡ p)
   other s q = clash (rw q at (s .is-decided)) undecided-yet
@@ -53,12 +53,12 @@ module _ (L : Limits) (m : Model) (j : Journal) (r : Running L m j) (p : ℕ) (i
 
   -- ---- nothing, or the same change with other votes, still undecided
   module _ (o : OpenChange) (notes : ℕ → Noted)
-    (same : isOpen o ≡ true → o .change ≡ m .place p .change)
-    (same-taken : isOpen o ≡ true → (c : ℕ) → c < L .width → o .taken c ≡ m .place p .taken c)
-    (same-vector : isOpen o ≡ true → (i : ℕ) → i < L .width → o .vector i ≡ m .place p .vector i)
-    (still : isOpen o ≡ true → decided L o ≡ false)
-    (noted : isOpen o ≡ true → notes (o .change .number) ≡ asked (o .change) (o .yes))
-    (elsewhere : (k : ℕ) → ¬ (k ≡ m .place p .change .number) → notes k ≡ j .undecided k) where
+      (same : isOpen o ≡ true → o .change ≡ m .place p .change)
+      (same-taken : isOpen o ≡ true → (c : ℕ) → c < L .width → o .taken c ≡ m .place p .taken c)
+      (same-vector : isOpen o ≡ true → (i : ℕ) → i < L .width → o .vector i ≡ m .place p .vector i)
+      (still : isOpen o ≡ true → decided L o ≡ false)
+      (noted : isOpen o ≡ true → notes (o .change .number) ≡ asked (o .change) (o .yes))
+      (elsewhere : (k : ℕ) → ¬ (k ≡ m .place p .change .number) → notes k ≡ j .undecided k) where
     pub replace-keeps : Running L (editedAll L (place p o ∷ []) m) (withUndecided j notes)
     replace-keeps =
         record {
@@ -71,22 +71,23 @@ module _ (L : Limits) (m : Model) (j : Journal) (r : Running L m j) (p : ℕ) (i
           stored-is = r .stored-is;
           not-fixed = r .not-fixed;
           places-open =
-            open-put L (m .place) p o
-            (λ q l z e. r .places-open .opened q l e)
-            (λ q l z e d. elsewhere (m .place q .change .number) (r .places-open .apart q p l is-place z e is-open) ∙ r .places-open .noted q l e d)
-            (r .places-open .apart) (r .places-open .strangers)
-            (λ e. same-room o (same e) (same-taken e))
-            (λ e d. noted e)
-            (λ e q l z oq y. r .places-open .apart q p l is-place z oq is-open (y ∙ ap (λ (t : Change). t .number) (same e)))
-            (λ e d q c l lc z oq dq.
-              (rw (same e) (r .places-open .strangers q p c l is-place lc z oq is-open dq undecided-yet),
-              rw (same e) (r .places-open .strangers p q c is-place l lc (λ y. z (sym y)) is-open oq undecided-yet dq)));
+              open-put L (m .place) p o
+              (λ q l z e. r .places-open .opened q l e)
+              (λ q l z e d. elsewhere (m .place q .change .number) (r .places-open .apart q p l is-place z e is-open) ∙ r .places-open .noted q l e d)
+              (r .places-open .apart) (r .places-open .strangers)
+              (λ e. same-room o (same e) (same-taken e))
+              (λ e d. noted e)
+              (λ e q l z oq y. r .places-open .apart q p l is-place z oq is-open (y ∙ ap (λ (t : Change). t .number) (same e)))
+              (λ e d q c l lc z oq dq. (
+                rw (same e) (r .places-open .strangers q p c l is-place lc z oq is-open dq undecided-yet),
+                rw (same e) (r .places-open .strangers p q c is-place l lc (λ y. z (sym y)) is-open oq undecided-yet dq),
+              ));
           places-down = λ d. clash d (not-down (m .phase) is-up);
           about = λ H a. new H (r .about H a);
         }
       where
         new : (H : History) → About L m (j .start) (length (j .history)) (r .took) (r .at) H
-          → About L (editedAll L (place p o ∷ []) m) (j .start) (length (j .history)) (r .took) (put (r .at) p 0) H
+            → About L (editedAll L (place p o ∷ []) m) (j .start) (length (j .history)) (r .took) (put (r .at) p 0) H
         new H a =
             let wt : Waits (L .width) H (length (j .history)) (r .took) (m .place p) = a .standing .waits p is-place is-open undecided-yet in
             record {
@@ -99,16 +100,16 @@ module _ (L : Limits) (m : Model) (j : Journal) (r : Running L m j) (p : ℕ) (i
               bounded = a .bounded;
               there = a .there;
               standing =
-                standing-put L (m .place) p o 0
-                (λ q l z. a .standing .stood q l) (λ q l z. a .standing .waits q l) (λ e d. clash d (still e))
-                (λ e d.
-                record {
-                  untaken = λ c l. same-taken e c l ∙ wt .untaken c l;
-                  blank = λ i l. same-vector e i l ∙ wt .blank i l;
-                  met-taken = λ i c h l y. wt .met-taken i c h l (rw (same e) at y);
-                  met-lower = λ i c h l y. rw (same e) (wt .met-lower i c h l (rw (same e) at y));
-                  unlike = λ i h y. wt .unlike i h (y ∙ ap (λ (t : Change). t .number) (same e));
-                });
+                  standing-put L (m .place) p o 0
+                  (λ q l z. a .standing .stood q l) (λ q l z. a .standing .waits q l) (λ e d. clash d (still e))
+                  (λ e d.
+                  record {
+                    untaken = λ c l. same-taken e c l ∙ wt .untaken c l;
+                    blank = λ i l. same-vector e i l ∙ wt .blank i l;
+                    met-taken = λ i c h l y. wt .met-taken i c h l (rw (same e) at y);
+                    met-lower = λ i c h l y. rw (same e) (wt .met-lower i c h l (rw (same e) at y));
+                    unlike = λ i h y. wt .unlike i h (y ∙ ap (λ (t : Change). t .number) (same e));
+                  });
               open-untaken = λ u i c h l e z. moved o 0 (a .open-untaken u i c h l e z);
               ended-untaken = λ d. clash d (not-down (m .phase) is-up);
               ended-real = λ d. clash d (not-down (m .phase) is-up);
@@ -198,18 +199,18 @@ module _ (L : Limits) (m : Model) (j : Journal) (r : Running L m j) (p : ℕ) (i
             tracks = tracks-decided (L .width) H (j .start) n (r .took) (a .orderly) (a .tracks);
             framed = framed-decided (L .width) H (j .start) n (r .took) (a .levels) (a .framed);
             based = based-decided (L .width) H (j .start) n (r .took) (a .levels)
-              (λ c l. le-trans (r .ranges .base-stored c l) (le-trans (r .ranges .stored-held c l) (r .ranges .held-reached c l))) (a .based);
+                (λ c l. le-trans (r .ranges .base-stored c l) (le-trans (r .ranges .stored-held c l) (r .ranges .held-reached c l))) (a .based);
             numbered = numbered-decided;
             bounded = bounded-decided;
             there = λ i c h l y. ⊎-elim (λ (q : i ≡ n). r .places-open .opened p is-place is-open .there c l (rw (q, e) at y)) (λ (z : i < n). a .there i c z l y) (below-suc h);
             standing =
-              standing-put L (m .place) p now n
-              (λ q l z oq dq. let old : Stood (L .width) H (j .start) n (r .took) (m .place q) (r .at q) = a .standing .stood q l oq dq in
+                standing-put L (m .place) p now n
+                (λ q l z oq dq. let old : Stood (L .width) H (j .start) n (r .took) (m .place q) (r .at q) = a .standing .stood q l oq dq in
                 record { in-history = le-step (old .in-history); change-is = old .change-is; taken-is = old .taken-is; vector-is = old .vector-is })
-              waits-on (λ o d. stood-now) (λ o d. clash is-decided d);
+                waits-on (λ o d. stood-now) (λ o d. clash is-decided d);
             open-untaken = λ u i c h l y z. ⊎-elim
-              (λ (q : i ≡ n). record { p = p; is-place = is-place; is-open = rw (put-same (m .place) p now) is-open; is-decided = rw (put-same (m .place) p now) is-decided; is-at = put-same (r .at) p n ∙ sym q })
-              (λ (x : i < n). moved now n (a .open-untaken u i c x l y z)) (below-suc h);
+                (λ (q : i ≡ n). record { p = p; is-place = is-place; is-open = rw (put-same (m .place) p now) is-open; is-decided = rw (put-same (m .place) p now) is-decided; is-at = put-same (r .at) p n ∙ sym q })
+                (λ (x : i < n). moved now n (a .open-untaken u i c x l y z)) (below-suc h);
             ended-untaken = λ d. clash d (not-down (m .phase) is-up);
             ended-real = λ d. clash d (not-down (m .phase) is-up);
           }
@@ -226,18 +227,18 @@ module _ (L : Limits) (m : Model) (j : Journal) (r : Running L m j) (p : ℕ) (i
           stored-is = r .stored-is;
           not-fixed = r .not-fixed;
           places-open =
-            open-put L (m .place) p now
-            (λ q l z oq. r .places-open .opened q l oq)
-            (λ q l z oq dq. put-other (j .undecided) (m .place p .change .number) struck (m .place q .change .number) (r .places-open .apart q p l is-place z oq is-open) ∙ r .places-open .noted q l oq dq)
-            (r .places-open .apart) (r .places-open .strangers)
-            (λ o. same-room now refl (λ c l. refl)) (λ o d. clash is-decided d)
-            (λ o q l z oq. r .places-open .apart q p l is-place z oq is-open) (λ o d. clash is-decided d);
+              open-put L (m .place) p now
+              (λ q l z oq. r .places-open .opened q l oq)
+              (λ q l z oq dq. put-other (j .undecided) (m .place p .change .number) struck (m .place q .change .number) (r .places-open .apart q p l is-place z oq is-open) ∙ r .places-open .noted q l oq dq)
+              (r .places-open .apart) (r .places-open .strangers)
+              (λ o. same-room now refl (λ c l. refl)) (λ o d. clash is-decided d)
+              (λ o q l z oq. r .places-open .apart q p l is-place z oq is-open) (λ o d. clash is-decided d);
           places-down = λ d. clash d (not-down (m .phase) is-up);
           about = grown;
         }
       where
         grown : (H : History) → Agree (historyOf (j .history ++ t ∷ [])) H (length (j .history ++ t ∷ []))
-          → About L (editedAll L (place p now ∷ []) m) (j .start) (length (j .history ++ t ∷ [])) (r .took) (put (r .at) p (length (j .history))) H
+            → About L (editedAll L (place p now ∷ []) m) (j .start) (length (j .history ++ t ∷ [])) (r .took) (put (r .at) p (length (j .history))) H
         grown H agree =
             rw (grown-length (j .history) t)
             (about-decided is-decided H
