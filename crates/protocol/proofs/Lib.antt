@@ -9,3 +9,4 @@ pub mod Stores
 pub mod Soundness
 pub mod Rolling
 pub mod Lost
+pub mod Steps
