@@ -173,6 +173,10 @@ first-below zero p e = clash e refl
 first-below (suc n) p e =
     test (anyBelow n p) (λ d. rw d (le-step (first-below n p d))) (λ d. rw (d, rw d at e) (lt-suc-self n))
 
+pub all-same : (n : ℕ) (p q : ℕ → Bool) → ((k : ℕ) → k < n → p k ≡ q k) → allBelow n p ≡ allBelow n q
+all-same zero p q f = refl
+all-same (suc n) p q f = ap₂ (λ (a b : Bool). a && b) (all-same n p q (λ k h. f k (le-step h))) (f n (lt-suc-self n))
+
 pub any-same : (n : ℕ) (p q : ℕ → Bool) → ((k : ℕ) → k < n → p k ≡ q k) → anyBelow n p ≡ anyBelow n q
 any-same zero p q f = refl
 any-same (suc n) p q f = ap₂ (λ (a b : Bool). a || b) (any-same n p q (λ k h. f k (le-step h))) (f n (lt-suc-self n))

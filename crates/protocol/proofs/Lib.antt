@@ -10,3 +10,4 @@ pub mod Soundness
 pub mod Rolling
 pub mod Lost
 pub mod Steps
+pub mod Invariant

@@ -37,7 +37,7 @@ Passed ((b ⇒ r) ∷ cs) = (b ≡ false) × Passed cs
 
 -- a fact of a plan: of each refusal, and of the acceptance where no check fails
 pub checked-case : (P : Plan → Type 0) (cs : List Check) (a : Answer) (es : List Edit) → ((r : Refusal) → P (record { reply = refused r; edits = [] }))
-  → (Passed cs → P (record { reply = accepted a; edits = es })) → P (checked cs a es)
+    → (Passed cs → P (record { reply = accepted a; edits = es })) → P (checked cs a es)
 checked-case P [] a es refusal acceptance = acceptance tt
 checked-case P ((b ⇒ r) ∷ cs) a es refusal acceptance =
     cond-case P b (λ e. refusal r) (λ e. checked-case P cs a es refusal (λ ps. acceptance (e, ps)))
@@ -48,7 +48,7 @@ noted j j' (accepted a) = j'
 noted j j' (refused r) = j
 
 -- ---- small facts of tests
-not-not : (b : Bool) → not b ≡ false → b ≡ true
+pub not-not : (b : Bool) → not b ≡ false → b ≡ true
 not-not true e = refl
 not-not false e = clash refl e
 
@@ -62,7 +62,7 @@ in-cabinet : (L : Limits) (m : Model) (s : CardSet) → strays L m s ≡ false �
 in-cabinet L m s e c l z =
     test (m .present c) (λ y. y) (λ y. clash (and-intro z (not-intro y)) (none-at (L .width) (λ d. s d && not (m .present d)) e c l))
 
-card-below : (L : Limits) (m : Model) (c : ℕ) → isCard L m c ≡ true → c < L .width
+pub card-below : (L : Limits) (m : Model) (c : ℕ) → isCard L m c ≡ true → c < L .width
 card-below L m c e = ltb-true c (L .width) (and-left (ltb c (L .width)) (m .present c) e)
 
 -- the place of a change that is known
@@ -93,9 +93,10 @@ module _ (L : Limits) (m : Model) (j : Journal) (r : Running L m j) where
       (some-card (ps .1 .1 .0))
       (λ p c lp lc. none-at (L .places) (λ q. bars (m .place q) reads writes c) (none-at (L .width) (barred L m reads writes) (ps .1 .1 .1 .1 .0) c lc) p lp)
       free (not-true (isOpen (m .place (freeAt L m))) (first-passes (L .places) (λ p. not (isOpen (m .place p))) free))
-      (λ c l z.
-      (leb-false (m .numbers .base c + L .inHand) (m .numbers .reached c) (fails (leb (m .numbers .base c + L .inHand) (m .numbers .reached c)) (λ y. clash (and-intro z y) (none-at (L .width) (λ d. writes d && leb (m .numbers .base d + L .inHand) (m .numbers .reached d)) (ps .1 .1 .1 .1 .1 .1 .0) c l))),
-      leb-false (L .greatestState) (m .numbers .reached c) (fails (leb (L .greatestState) (m .numbers .reached c)) (λ y. clash (and-intro z y) (none-at (L .width) (λ d. writes d && leb (L .greatestState) (m .numbers .reached d)) (or-none (someWritten L writes (λ d. leb (L .greatestState) (m .numbers .reached d))) (leb (L .greatestNumber) (m .count)) (ps .1 .1 .1 .1 .1 .1 .1 .0) .0) c l))))))
+      (λ c l z. (
+        leb-false (m .numbers .base c + L .inHand) (m .numbers .reached c) (fails (leb (m .numbers .base c + L .inHand) (m .numbers .reached c)) (λ y. clash (and-intro z y) (none-at (L .width) (λ d. writes d && leb (m .numbers .base d + L .inHand) (m .numbers .reached d)) (ps .1 .1 .1 .1 .1 .1 .0) c l))),
+        leb-false (L .greatestState) (m .numbers .reached c) (fails (leb (L .greatestState) (m .numbers .reached c)) (λ y. clash (and-intro z y) (none-at (L .width) (λ d. writes d && leb (L .greatestState) (m .numbers .reached d)) (or-none (someWritten L writes (λ d. leb (L .greatestState) (m .numbers .reached d))) (leb (L .greatestNumber) (m .count)) (ps .1 .1 .1 .1 .1 .1 .1 .0) .0) c l))),
+      )))
     where
       some-card : isEmpty L reads && isEmpty L writes ≡ false → (c : ℕ) × (c < L .width) × (reads c || writes c ≡ true)
       some-card e =
@@ -106,13 +107,16 @@ module _ (L : Limits) (m : Model) (j : Journal) (r : Running L m j) where
   module _ (k c : ℕ) (known : isKnown L m k ≡ true) (is-up : isUp (m .phase) ≡ true) (undecided-yet : decided L (m .place (placeOf L m k)) ≡ false) where
     abbrev p : ℕ
     p = placeOf L m k
+
     abbrev o : OpenChange
     o = m .place (placeOf L m k)
 
     is-place : placeOf L m k < L .places
     is-place = known-place L m k known .0
+
     is-open : isOpen (m .place (placeOf L m k)) ≡ true
     is-open = known-place L m k known .1
+
     is-number : m .place (placeOf L m k) .change .number ≡ k
     is-number = known-place L m k known .2
 
@@ -141,6 +145,7 @@ module _ (L : Limits) (m : Model) (j : Journal) (r : Running L m j) where
             Running L (editedAll L (place p (record { change = o .change; yes = withCard (o .yes) c; taken = o .taken; vector = vectorOf (L .width) (tracked m) (o .change) }) ∷ []) m)
             (record { start = j .start; stored = j .stored; undecided = put (j .undecided) i struck; history = j .history ++ o .change ∷ []; fix = j .fix }))
             is-number (decide-keeps L m j r p is-up is-place is-open undecided-yet (withCard (o .yes) c) e))
+
         waits : decided L waiting ≡ false → Running L (editedAll L (place p (votedYes L m o c) ∷ []) m) (noteVoteOn L j k c (asked (o .change) (o .yes)))
         waits e =
             rw e
@@ -174,8 +179,8 @@ module _ (L : Limits) (m : Model) (j : Journal) (r : Running L m j) where
       (not-true (m .place (placeOf L m k) .taken c) (and-right (touches (m .place (placeOf L m k) .change) c) (not (m .place (placeOf L m k) .taken c)) aw)))
     where
       share : isUp (m .phase) ≡ true → placeOf L m k < L .places → c < L .width → isOpen (m .place (placeOf L m k)) ≡ true → decided L (m .place (placeOf L m k)) ≡ true
-        → touches (m .place (placeOf L m k) .change) c ≡ true → m .place (placeOf L m k) .taken c ≡ false
-        → Running L (editedAll L (shareEdit (m .place (placeOf L m k)) c ∷ place (placeOf L m k) (tookShare L (m .place (placeOf L m k)) c) ∷ []) m) j
+          → touches (m .place (placeOf L m k) .change) c ≡ true → m .place (placeOf L m k) .taken c ≡ false
+          → Running L (editedAll L (shareEdit (m .place (placeOf L m k)) c ∷ place (placeOf L m k) (tookShare L (m .place (placeOf L m k)) c) ∷ []) m) j
       share u lp lc op d t nt =
           test (m .place (placeOf L m k) .change .writes c) (λ e. rw e (write-keeps L m j r (placeOf L m k) c u lp lc op d t nt e))
           (λ e. rw e (read-keeps L m j r (placeOf L m k) c u lp lc op d t nt e
