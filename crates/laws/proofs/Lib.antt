@@ -1,2 +1,3 @@
 pub mod Logic
 pub mod Below
+pub mod Seq
