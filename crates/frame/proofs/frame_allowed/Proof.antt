@@ -1,0 +1,31 @@
+-- `frame::frame_allowed` judges a frame. Assumes nothing.
+use mathlib.Core.Path.{_≡_, refl, sym, _∙_, ap}
+use borrow.Author.Needs.{needs}
+use borrow.Author.Tests.{lt-ltb, le-ltb, le-leb, lt-leb, eq-eqb, ne-eqb, not-true, not-false}
+use Rattle.frame.proofs.Judged.{frame-tests}
+use Rattle.frame.proofs.frame_allowed.Statement.{statement}
+use Rattle.frame.proofs.frame_allowed.Tie as tie
+use Rattle.frame.proofs.frame_allowed.Reads as reads
+use Rattle.frame.proofs.frame_allowed.Lts as lts
+use Rattle.frame.proofs.entries_allowed.Reads as entries-allowed-reads
+
+returns : tie.Need-returns
+returns c =
+    let a = c .before .args in
+    frame-tests (a .card) (a .n) (a .state) (a .told) (a .last) (a .next) (ne-eqb _ _ (c .if1 .taken)) refl refl
+
+returns-2 : tie.Need-returns-2
+returns-2 c =
+    let a = c .before .before .before .before .args in
+    frame-tests (a .card) (a .n) (a .state) (a .told) (a .last) (a .next) (eq-eqb _ _ (c .before .before .before .if1 .left)) (le-ltb _ _ (c .if2 .taken)) refl
+
+entries-allowed-requires : tie.Need-entries-allowed-requires
+entries-allowed-requires c κs = search needs
+
+returns-3 : tie.Need-returns-3
+returns-3 c =
+    let a = c .before .before .before .before .before .before .before .args in
+    c .entries-allowed .ensures ∙ frame-tests (a .card) (a .n) (a .state) (a .told) (a .last) (a .next) (eq-eqb _ _ (c .before .before .before .before .before .before .if1 .left)) (lt-ltb _ _ (c .before .before .before .if2 .left)) refl
+
+pub frame-allowed-spec : {M : Type 1} → statement M
+frame-allowed-spec = tie.close (tie.spec returns returns-2 entries-allowed-requires returns-3)
