@@ -10,7 +10,7 @@ ghost use Rattle.line.specs.Digits.{written};
 ghost use Rattle.line.specs.Line.{shapeOf};
 ghost use Rattle.line.specs.declared.Line.the-variants.{Whole};
 ghost use Rattle.frame.specs.Format.{format, dependency, entryOf};
-ghost use Rattle.frame.specs.Lines.{headerIn, headerAllowed, headerVerdict, headerOr, headerTold, entriesIn, entriesAllowed, frameIn, frameAllowed, frameVerdict, frameReadOf, padded, noFrame, entryAllowed, frameTold};
+ghost use Rattle.frame.specs.Lines.{headerIn, headerAllowed, headerVerdict, headerOr, headerTold, headerLine, entriesIn, entriesAllowed, frameIn, frameAllowed, frameVerdict, frameReadOf, padded, noFrame, entryAllowed, frameTold, frameLine};
 use refusal::Refusal;
 use line::Line;
 use line::Sums;
@@ -272,4 +272,42 @@ fn frame_judged(s: &[u8], at: usize, start: Sums, card: u32, n: u32, state: u32,
         return frame_refused(Refusal::BadFrame);
     }
     FrameRead { entries, line: FrameLine::Read(change) }
+}
+
+// Writes a header line at `at`.
+pub fn put_header(b: &mut [u8], at: usize, h: Header)
+    requires { ⌜ at + 25 ≤ length (now b) ⌝ }
+    ensures { λ r. ⌜ now (b .exit) ≡ sets (now (b .entry)) at (headerLine format h) ⌝ }
+{
+    line::put_number(b, at, 8, h.session);
+    line::put_number(b, at + 8, 2, h.card);
+    line::put_number(b, at + 10, 2, h.cards);
+    line::put_number(b, at + 12, 4, h.base);
+    line::put_number(b, at + 16, 4, h.count);
+    let start = start_of(h.card, h.session);
+    line::end_line(b, at, 20, start);
+}
+
+// Writes the first n of a frame's entries from `at` on.
+fn put_entries(b: &mut [u8], at: usize, n: usize, entries: [u32; 16])
+    requires { ⌜ (n ≤ 16) × (at + n * 4 ≤ length (now b)) ⌝ }
+    ensures { λ r. ⌜ now (b .exit) ≡ sets (now (b .entry)) at (written (replicate n 4) (map (entryOf 65535) entries)) ⌝ }
+{
+    let mut j = 0;
+    while j < n {
+        line::put_number(b, at + j * 4, 4, entry_of(entries[j]));
+        j += 1;
+    }
+}
+
+// Writes a frame line of n entries at `at`.
+pub fn put_frame(b: &mut [u8], at: usize, start: Sums, n: usize, state: u32, next: Frame)
+    requires { ⌜ (n ≤ 16) × (at + n * 4 + 17 ≤ length (now b)) ⌝ }
+    ensures { λ r. ⌜ now (b .exit) ≡ sets (now (b .entry)) at (frameLine format start n state next) ⌝ }
+{
+    line::put_number(b, at, 4, state);
+    line::put_number(b, at + 4, 8, next.change);
+    let entries = next.entries;
+    put_entries(b, at + 12, n, entries);
+    line::end_line(b, at, 12 + n * 4, start);
 }
