@@ -1,0 +1,11 @@
+-- `bits::union` is the union of its members. Assumes nothing.
+use Rattle.bits.proofs.Sets.{same-cards}
+use Rattle.bits.proofs.Members.{member-or}
+use Rattle.bits.proofs.union.Statement.{statement}
+use Rattle.bits.proofs.union.Tie as tie
+
+returns : tie.Need-returns
+returns c = same-cards (member-or (c .args .a) (c .args .b))
+
+pub union-spec : {M : Type 1} → statement M
+union-spec = tie.close (tie.spec returns)

@@ -1,0 +1,38 @@
+-- Sets of cards as tests: a card is in the set where the test passes. Every word here is over any width.
+use Prim.Native.Nat.{ℕ, zero, suc}
+use mathlib.Core.Bool.{Bool, not, _&&_, _||_, cond}
+use lib.Dec.{eqb, ltb}
+use Rattle.laws.specs.Below.{allBelow}
+
+-- the cards of p or of q
+abbrev pub either : (ℕ → Bool) → (ℕ → Bool) → ℕ → Bool
+either p q i = p i || q i
+
+-- the cards of p and of q
+abbrev pub both : (ℕ → Bool) → (ℕ → Bool) → ℕ → Bool
+both p q i = p i && q i
+
+-- the cards of p that are not in q
+abbrev pub except : (ℕ → Bool) → (ℕ → Bool) → ℕ → Bool
+except p q i = p i && not (q i)
+
+-- the card c alone
+abbrev pub one : ℕ → ℕ → Bool
+one c i = eqb i c
+
+-- every card below n
+abbrev pub below : ℕ → ℕ → Bool
+below n i = ltb i n
+
+-- the cards of p that a set of width w has room for: those below w
+abbrev pub cut : ℕ → (ℕ → Bool) → ℕ → Bool
+cut w p = both (below w) p
+
+-- of the cards below w, every card of p is in q
+abbrev pub subset : ℕ → (ℕ → Bool) → (ℕ → Bool) → Bool
+subset w p q = allBelow w (λ i. not (p i) || q i)
+
+-- the least number below n at which the test passes, and n where there is none
+abbrev pub firstBelow : ℕ → (ℕ → Bool) → ℕ
+firstBelow zero p = 0
+firstBelow (suc n) p = cond (p 0) 0 (suc (firstBelow n (λ i. p (suc i))))
