@@ -3,7 +3,7 @@
 use Prim.Native.Nat.{ℕ, zero, suc, _+_, _-_, _*_, _/_, _%_, _^_, _≤_, _<_, zero-le, suc-le-suc, min, max}
 use mathlib.Core.Path.{_≡_, refl, sym, _∙_, ap, ap₂}
 use mathlib.Core.Bool.{Bool, true, false, not, _&&_, _||_, cond}
-use native.Mathlib.Nat.{div-one, div-eq-of-lt, div-add-mod', mod-lt, pow-suc, zero-lt-suc, le-trans, lt-of-le-of-lt, add-zero, add-comm, one-mul, add-sub-of-le, le-add-right}
+use native.Mathlib.Nat.{div-one, div-eq-of-lt, div-add-mod', div-lt-iff-lt-mul, mod-lt, pow-suc, zero-lt-suc, le-trans, lt-of-le-of-lt, add-zero, add-comm, one-mul, add-sub-of-le, le-add-right}
 use native.Mathlib.Numerals.{one-add}
 use native.Mathlib.Omega.{arith}
 use lib.Arith.{lt-one, digits-div, digits-mod}
@@ -60,11 +60,11 @@ member-above w x i h l = ap (λ (n : ℕ). eqb (n % 2) 1) (div-eq-of-lt (le-tran
 
 -- ---- a number by its halves
 
-not-step : (w x : ℕ) → x < 2 ^ suc w → (2 ^ suc w - 1) - x ≡ ((2 ^ w - 1) - x / 2) * 2 + (1 - x % 2)
-not-step w x h = omega arith
+not-halves : (w x : ℕ) → x < 2 ^ suc w → (2 ^ suc w - 1) - x ≡ ((2 ^ w - 1) - x / 2) * 2 + (1 - x % 2)
+not-halves w x h = omega arith
 
-ones-step2 : (n : ℕ) → 2 ^ suc n - 1 ≡ (2 ^ n - 1) * 2 + 1
-ones-step2 n = omega (arith, pow-pos n)
+ones-halves : (n : ℕ) → 2 ^ suc n - 1 ≡ (2 ^ n - 1) * 2 + 1
+ones-halves n = omega (arith, pow-pos n)
 
 one-if-lt : (b : Bool) → one-if b < 2
 one-if-lt true = omega arith
@@ -108,12 +108,12 @@ member-and = member-op bitAnd min (λ x y. x && y) and-step (λ x y h l. omega a
 pub member-not : (w x i : ℕ) → x < 2 ^ w → i < w → member ((2 ^ w - 1) - x) i ≡ not (member x i)
 member-not zero x i h l = absurd (omega arith)
 member-not (suc w) x zero h l =
-    ap (λ (n : ℕ). member n 0) (not-step w x h)
+    ap (λ (n : ℕ). member n 0) (not-halves w x h)
     ∙ member-low ((2 ^ w - 1) - x / 2) (1 - x % 2) (omega arith)
     ∙ digit-case (λ (d : ℕ). eqb (1 - d) 1 ≡ not (eqb d 1)) refl refl (x % 2) (odd-lt x)
     ∙ ap not (sym (member-zero x))
 member-not (suc w) x (suc i) h l =
-    ap (λ (n : ℕ). member n (suc i)) (not-step w x h)
+    ap (λ (n : ℕ). member n (suc i)) (not-halves w x h)
     ∙ member-split ((2 ^ w - 1) - x / 2) (1 - x % 2) (omega arith) i
     ∙ member-not w (x / 2) i (omega arith) (omega arith)
     ∙ ap not (sym (member-suc x i))
@@ -137,9 +137,9 @@ member-one (suc c) (suc i) =
 -- one less than a power of two is every card below it
 pub member-below : (n i : ℕ) → member (2 ^ n - 1) i ≡ below n i
 member-below zero i = member-none i ∙ sym (le-ltb i 0 zero-le)
-member-below (suc n) zero = ap (λ (x : ℕ). member x 0) (ones-step2 n) ∙ member-low (2 ^ n - 1) 1 (omega arith) ∙ sym (lt-ltb 0 (suc n) (zero-lt-suc n))
+member-below (suc n) zero = ap (λ (x : ℕ). member x 0) (ones-halves n) ∙ member-low (2 ^ n - 1) 1 (omega arith) ∙ sym (lt-ltb 0 (suc n) (zero-lt-suc n))
 member-below (suc n) (suc i) =
-    ap (λ (x : ℕ). member x (suc i)) (ones-step2 n)
+    ap (λ (x : ℕ). member x (suc i)) (ones-halves n)
     ∙ member-split (2 ^ n - 1) 1 (omega arith) i
     ∙ member-below n i
     ∙ sym (leb·suc-suc (suc i) n)
@@ -167,6 +167,14 @@ below-inside w n h =
 pub below-outside : (w n : ℕ) → w ≤ n → member (2 ^ w - 1) ≡ cut w (below n)
 below-outside w n h =
     same-cards (λ i. member-below w i ∙ sym (test (ltb i w) (λ e. rw (e, lt-ltb i n (omega (arith, ltb-true i w e)))) (λ e. rw e)))
+
+-- a card below w that is put in has room, and so has every card below a bound that is no more
+pub put-inside : (w x c : ℕ) → x < 2 ^ w → c < w → cut w (either (member x) (one c)) ≡ either (member x) (one c)
+put-inside w x c h l =
+    cut-inside w (either (member x) (one c)) (λ i m. ap₂ (λ (a b : Bool). a || b) (member-above w x i h m) (ne-eqb i c (λ (e : i ≡ c). absurd (omega arith))))
+
+pub below-room : (w n : ℕ) → n ≤ w → cut w (below n) ≡ below n
+below-room w n h = cut-inside w (below n) (λ i l. le-ltb i n (omega arith))
 
 -- ---- a number is known by its members
 
@@ -248,6 +256,16 @@ shift-within w n x h = same-test (eqb (x / 2 ^ n) 0) (subset w (member x) (below
 ones-zero : ones 0 ≡ 0
 unfolding ones
 ones-zero = refl
+
+-- a number with no card at or above n is below 2 ^ n
+pub within-lt : (w n x : ℕ) → x < 2 ^ w → subset w (member x) (below n) ≡ true → x < 2 ^ n
+within-lt w n x h e = rest (eqb-true (x / 2 ^ n) 0 (shift-within w n x h ∙ e))
+  where
+    rest : x / 2 ^ n ≡ 0 → x < 2 ^ n
+    rest z =
+        let s : x / 2 ^ n < 1 = omega arith in
+        let t : x < 1 * 2 ^ n = div-lt-iff-lt-mul (pow-pos n) .0 s in
+        omega arith
 
 -- the ones are the members
 pub ones-count : (w x : ℕ) → x < 2 ^ w → ones x ≡ countBelow w (member x)

@@ -45,6 +45,17 @@ subset-intro w p q f =
 pub subset-below : (w n : ℕ) (p : ℕ → Bool) → w ≤ n → subset w p (below n) ≡ true
 subset-below w n p h = subset-intro w p (below n) (λ k l t. lt-ltb k n (omega arith))
 
+-- nothing of p is left without q where p is in q
+pub empty-except : (w : ℕ) (p q : ℕ → Bool) → not (anyBelow w (except p q)) ≡ subset w p q
+empty-except zero p q = refl
+empty-except (suc w) p q = parts (anyBelow w (except p q)) (p w) (q w) ∙ ap (λ (b : Bool). b && (not (p w) || q w)) (empty-except w p q)
+  where
+    parts : (a b d : Bool) → not (a || b && not d) ≡ not a && (not b || d)
+    parts true b d = refl
+    parts false true true = refl
+    parts false true false = refl
+    parts false false d = refl
+
 -- ---- how many
 
 -- what is in two sets counts twice
