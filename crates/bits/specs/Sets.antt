@@ -32,6 +32,10 @@ cut w p = both (below w) p
 abbrev pub subset : ℕ → (ℕ → Bool) → (ℕ → Bool) → Bool
 subset w p q = allBelow w (λ i. not (p i) || q i)
 
+-- of the cards below w, p has none at or above n
+abbrev pub inside : ℕ → ℕ → (ℕ → Bool) → Bool
+inside w n p = subset w p (below n)
+
 -- the least number below n at which the test passes, and n where there is none
 abbrev pub firstBelow : ℕ → (ℕ → Bool) → ℕ
 firstBelow zero p = 0

@@ -4,7 +4,7 @@ ghost use Prim.Native.Nat.{ℕ};
 ghost use mathlib.Core.Path.{_≡_};
 ghost use mathlib.Core.Bool.{not};
 ghost use Rattle.laws.specs.Below.{anyBelow, countBelow};
-ghost use Rattle.bits.specs.Sets.{either, both, except, one, below, cut, subset, firstBelow};
+ghost use Rattle.bits.specs.Sets.{either, both, except, one, below, cut, inside, firstBelow};
 ghost use Rattle.bits.specs.Member.{member};
 
 // Whether the card is in the set.
@@ -90,14 +90,14 @@ pub fn lowest(set: u16) -> u32
 
 // Whether every card of the set is below n.
 pub fn within(set: u16, n: u32) -> bool
-    ensures { λ r. ⌜ r ≡ subset 16 (member set) (below n) ⌝ }
+    ensures { λ r. ⌜ r ≡ inside 16 n (member set) ⌝ }
 {
     if n < 16 { set >> n == 0 } else { true }
 }
 
 // Whether every card that a number of 32 digits names is below n.
 pub fn names_within(set: u32, n: u32) -> bool
-    ensures { λ r. ⌜ r ≡ subset 32 (member set) (below n) ⌝ }
+    ensures { λ r. ⌜ r ≡ inside 32 n (member set) ⌝ }
 {
     if n < 32 { set >> n == 0 } else { true }
 }

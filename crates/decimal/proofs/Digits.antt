@@ -23,7 +23,9 @@ room zero w n h l = absurd (not-suc-le-zero h)
 room (suc v) zero n h l = absurd (not-suc-le-zero l)
 room (suc v) (suc w) n h l =
     test (ltb n 10) (λ e. rw e)
-    (λ e. let g : 10 ≤ n = ltb-false n 10 e in ap (λ (s : List ℕ). cond (ltb n 10) [] s ++ (digit (n % 10) ∷ [])) (room v w (n / 10) (omega arith) (omega arith)))
+    (λ e.
+    let g : 10 ≤ n = ltb-false n 10 e in
+    rw e (ap (λ (s : List ℕ). s ++ (digit (n % 10) ∷ [])) (room v w (n / 10) (omega arith) (omega arith))))
 
 -- a number below 10 is its own digit
 pub decimal-one : (n : ℕ) → n < 10 → decimal n ≡ digit (n % 10) ∷ []

@@ -88,18 +88,29 @@ read-over {s} {at} {v} {i} r h =
 
 -- ---- what was written is read back
 
--- a text that begins with the digits of a number, and no digit after them, reads as the number
+-- a run of digits in a text, with no digit after it, reads as the number that it stands for
+pub read-run : (d p r : List ℕ) → digitsOnly d ≡ true → 0 < length d → value d ≤ limit → run r ≡ []
+    → readAt (p ++ (d ++ r)) (length p) ≡ Number (value d) (length p + length d)
+read-run d p r o some h e =
+    ap (λ (l : List ℕ). reading (length p) (length p + length l) (value l)) here
+    ∙ ap (λ (b : Bool). cond b NotANumber (cond (leb (value d) limit) (Number (value d) (length p + length d)) NotANumber))
+    (ne-eqb (length p + length d) (length p) (λ (z : length p + length d ≡ length p). absurd (omega arith)))
+    ∙ ap (λ (b : Bool). cond b (Number (value d) (length p + length d)) NotANumber) (le-leb (value d) limit h)
+  where
+    here : run (drop (length p) (p ++ (d ++ r))) ≡ d
+    here =
+        ap run (drop-at p (d ++ r) (length p) refl) ∙ run-only d r o
+        ∙ ap (λ (l : List ℕ). d ++ l) e ∙ append-nil d
+
+-- and so a number's own digits read as the number
 pub read-decimal : (n : ℕ) (p r : List ℕ) → n ≤ limit → run r ≡ [] → readAt (p ++ (decimal n ++ r)) (length p) ≡ Number n (length p + length (decimal n))
 read-decimal n p r h e =
-    ap₂ (λ (l : List ℕ) (v : ℕ). reading (length p) (length p + length l) v) here (ap value here ∙ decimal-value n)
-    ∙ ap (λ (b : Bool). cond b NotANumber (cond (leb n limit) (Number n (length p + length (decimal n))) NotANumber))
-    (ne-eqb (length p + length (decimal n)) (length p) (λ (z : length p + length (decimal n) ≡ length p). absurd (omega (arith, decimal-leads n .some))))
-    ∙ ap (λ (b : Bool). cond b (Number n (length p + length (decimal n))) NotANumber) (le-leb n limit h)
-  where
-    here : run (drop (length p) (p ++ (decimal n ++ r))) ≡ decimal n
-    here =
-        ap run (drop-at p (decimal n ++ r) (length p) refl) ∙ run-only (decimal n) r (decimal-only n)
-        ∙ ap (λ (l : List ℕ). decimal n ++ l) e ∙ append-nil (decimal n)
+    read-run (decimal n) p r (decimal-only n) (decimal-leads n .some) (rw (decimal-value n) h) e
+    ∙ ap (λ (v : ℕ). Number v (length p + length (decimal n))) (decimal-value n)
+
+-- a leading zero adds nothing
+pub value-zero : (s : List ℕ) → value (48 ∷ s) ≡ value s
+value-zero s = refl
 
 -- Written at a place of a buffer that has room, with no digit in the byte after it, a number is read there again, and to its end.
 pub round-trip : (b : List ℕ) (at n : ℕ) → n ≤ limit → at + length (decimal n) ≤ length b → run (drop (at + length (decimal n)) b) ≡ []

@@ -11,7 +11,7 @@ digit d = 48 + d
 -- the digits of n, the highest first, but no more than the w lowest: those of n / 10, where n is 10 or more, and then the last one
 abbrev pub digitsIn : ℕ → ℕ → List ℕ
 digitsIn zero n = []
-digitsIn (suc w) n = cond (ltb n 10) [] (digitsIn w (n / 10)) ++ (digit (n % 10) ∷ [])
+digitsIn (suc w) n = let higher = digitsIn w (n / 10) in cond (ltb n 10) [] higher ++ (digit (n % 10) ∷ [])
 
 -- the digits of n, with no leading zero; 0 is "0". A number n has at most n + 1 digits.
 abbrev pub decimal : ℕ → List ℕ
