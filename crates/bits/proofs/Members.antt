@@ -3,14 +3,14 @@
 use Prim.Native.Nat.{ℕ, zero, suc, _+_, _-_, _*_, _/_, _%_, _^_, _≤_, _<_, zero-le, suc-le-suc, min, max}
 use mathlib.Core.Path.{_≡_, refl, sym, _∙_, ap, ap₂}
 use mathlib.Core.Bool.{Bool, true, false, not, _&&_, _||_, cond}
-use native.Mathlib.Nat.{div-one, div-eq-of-lt, div-add-mod', div-lt-iff-lt-mul, mod-lt, pow-suc, zero-lt-suc, le-trans, lt-of-le-of-lt, add-zero, add-comm, one-mul, add-sub-of-le, le-add-right}
-use native.Mathlib.Numerals.{one-add}
+use native.Mathlib.Nat.{div-one, div-eq-of-lt, div-add-mod', div-lt-iff-lt-mul, mod-lt, mod-one, pow-suc, zero-lt-suc, le-trans, lt-of-le-of-lt, add-zero, add-comm, one-mul, add-sub-of-le, le-add-right}
+use native.Mathlib.Numerals.{add-one, one-add}
 use native.Mathlib.Omega.{arith}
 use lib.Arith.{lt-one, digits-div, digits-mod}
 use lib.Bits.{bitAnd, bitOr, and-step, or-step}
 use lib.Count.{ones, trailingZeros, under, ones-step}
 use lib.Dec.{eqb, ltb, leb·suc-suc, eqb·zero-suc, eqb·suc-zero, eqb·suc-suc}
-use lib.Pow.{pow-pos, pow-mono, shr-shr, shr-le, shl-exact}
+use lib.Pow.{pow-pos, pow-mono, shr-shr, shr-le, shl-exact, mod-pow-add}
 use borrow.Author.Tests.{lt-ltb, le-ltb, ltb-true, ltb-false, eq-eqb, ne-eqb, eqb-true}
 use Rattle.laws.specs.Below.{one-if, anyBelow, countBelow}
 use Rattle.laws.proofs.Logic.{test, clash, fails, same-test}
@@ -27,12 +27,19 @@ digit-case P a b zero h = a
 digit-case P a b (suc zero) h = b
 digit-case P a b (suc (suc x)) h = absurd (omega arith)
 
+two-digits : (P : ℕ → ℕ → Type 0) → P 0 0 → P 0 1 → P 1 0 → P 1 1 → (x y : ℕ) → x < 2 → y < 2 → P x y
+two-digits P a b d e x y h l = digit-case (λ (i : ℕ). P i y) (digit-case (P 0) a b y l) (digit-case (P 1) d e y l) x h
+
 odd-lt : (x : ℕ) → x % 2 < 2
 odd-lt x = mod-lt x (zero-lt-suc 1)
 
 -- the lowest card is the lowest digit
 pub member-zero : (x : ℕ) → member x 0 ≡ eqb (x % 2) 1
 member-zero x = ap (λ (n : ℕ). eqb (n % 2) 1) (div-one x)
+
+-- and counts as that digit
+low-digit : (x : ℕ) → one-if (member x 0) ≡ x % 2
+low-digit x = ap one-if (member-zero x) ∙ digit-case (λ (d : ℕ). one-if (eqb d 1) ≡ d) refl refl (x % 2) (odd-lt x)
 
 -- every other card is a card of the half
 pub member-suc : (x i : ℕ) → member x (suc i) ≡ member (x / 2) i
@@ -66,6 +73,9 @@ not-halves w x h = omega arith
 ones-halves : (n : ℕ) → 2 ^ suc n - 1 ≡ (2 ^ n - 1) * 2 + 1
 ones-halves n = omega (arith, pow-pos n)
 
+low-halves : (w x : ℕ) → x % 2 ^ suc w ≡ x / 2 % 2 ^ w * 2 + x % 2
+low-halves w x = ap (λ (k : ℕ). x % 2 ^ k) (sym (add-one w)) ∙ mod-pow-add x w 1
+
 one-if-lt : (b : Bool) → one-if b < 2
 one-if-lt true = omega arith
 one-if-lt false = omega arith
@@ -93,16 +103,14 @@ module _ (op f : ℕ → ℕ → ℕ) (g : Bool → Bool → Bool)
       ∙ ap₂ g (sym (member-suc a i)) (sym (member-suc b i))
 
 pub member-or : (a b i : ℕ) → member (bitOr a b) i ≡ either (member a) (member b) i
-member-or = member-op bitOr max (λ x y. x || y) or-step (λ x y h l. omega arith) told
-  where
-    told : (x y : ℕ) → x < 2 → y < 2 → eqb (max x y) 1 ≡ eqb x 1 || eqb y 1
-    told x y h l = digit-case (λ (a : ℕ). eqb (max a y) 1 ≡ eqb a 1 || eqb y 1) (digit-case (λ (b : ℕ). eqb (max 0 b) 1 ≡ eqb 0 1 || eqb b 1) refl refl y l) (digit-case (λ (b : ℕ). eqb (max 1 b) 1 ≡ eqb 1 1 || eqb b 1) refl refl y l) x h
+member-or =
+    member-op bitOr max (λ x y. x || y) or-step (λ x y h l. omega arith)
+    (two-digits (λ x y. eqb (max x y) 1 ≡ eqb x 1 || eqb y 1) refl refl refl refl)
 
 pub member-and : (a b i : ℕ) → member (bitAnd a b) i ≡ both (member a) (member b) i
-member-and = member-op bitAnd min (λ x y. x && y) and-step (λ x y h l. omega arith) told
-  where
-    told : (x y : ℕ) → x < 2 → y < 2 → eqb (min x y) 1 ≡ eqb x 1 && eqb y 1
-    told x y h l = digit-case (λ (a : ℕ). eqb (min a y) 1 ≡ eqb a 1 && eqb y 1) (digit-case (λ (b : ℕ). eqb (min 0 b) 1 ≡ eqb 0 1 && eqb b 1) refl refl y l) (digit-case (λ (b : ℕ). eqb (min 1 b) 1 ≡ eqb 1 1 && eqb b 1) refl refl y l) x h
+member-and =
+    member-op bitAnd min (λ x y. x && y) and-step (λ x y h l. omega arith)
+    (two-digits (λ x y. eqb (min x y) 1 ≡ eqb x 1 && eqb y 1) refl refl refl refl)
 
 -- the complement to w digits
 pub member-not : (w x i : ℕ) → x < 2 ^ w → i < w → member ((2 ^ w - 1) - x) i ≡ not (member x i)
@@ -176,6 +184,20 @@ put-inside w x c h l =
 pub below-room : (w n : ℕ) → n ≤ w → cut w (below n) ≡ below n
 below-room w n h = cut-inside w (below n) (λ i l. le-ltb i n (omega arith))
 
+-- the w lowest digits are the cards below w
+pub member-low-digits : (w x i : ℕ) → member (x % 2 ^ w) i ≡ cut w (member x) i
+member-low-digits zero x i = ap (λ (n : ℕ). member n i) (mod-one x) ∙ member-none i ∙ sym (ap (λ (b : Bool). b && member x i) (le-ltb i 0 zero-le))
+member-low-digits (suc w) x zero =
+    ap (λ (n : ℕ). member n 0) (low-halves w x)
+    ∙ member-low (x / 2 % 2 ^ w) (x % 2) (odd-lt x)
+    ∙ sym (member-zero x)
+    ∙ sym (ap (λ (b : Bool). b && member x 0) (lt-ltb 0 (suc w) (zero-lt-suc w)))
+member-low-digits (suc w) x (suc i) =
+    ap (λ (n : ℕ). member n (suc i)) (low-halves w x)
+    ∙ member-split (x / 2 % 2 ^ w) (x % 2) (odd-lt x) i
+    ∙ member-low-digits w (x / 2) i
+    ∙ sym (ap₂ (λ (a b : Bool). a && b) (leb·suc-suc (suc i) w) (member-suc x i))
+
 -- ---- a number is known by its members
 
 -- the members of the number that stands for a set are the cards of the set
@@ -196,7 +218,7 @@ number-lt (suc w) p = let a : _ = number-lt w (λ i. p (suc i)) in omega (arith,
 pub number-members : (w x : ℕ) → x < 2 ^ w → number w (member x) ≡ x
 number-members zero x h = omega arith
 number-members (suc w) x h =
-    ap₂ (λ (p : ℕ → Bool) (d : ℕ). number w p * 2 + d) (same-cards (member-suc x)) (ap one-if (member-zero x) ∙ digit-case (λ (d : ℕ). one-if (eqb d 1) ≡ d) refl refl (x % 2) (odd-lt x))
+    ap₂ (λ (p : ℕ → Bool) (d : ℕ). number w p * 2 + d) (same-cards (member-suc x)) (low-digit x)
     ∙ ap (λ (n : ℕ). n * 2 + x % 2) (number-members w (x / 2) (omega arith))
     ∙ div-add-mod' x 2
 
@@ -273,7 +295,7 @@ ones-count zero x h = ap ones (lt-one h) ∙ ones-zero
 ones-count (suc w) x h =
     ones-step x
     ∙ add-comm (x % 2) (ones (x / 2))
-    ∙ ap₂ (λ (a b : ℕ). a + b) (ones-count w (x / 2) (omega arith)) (sym (ap one-if (member-zero x) ∙ digit-case (λ (d : ℕ). one-if (eqb d 1) ≡ d) refl refl (x % 2) (odd-lt x)))
+    ∙ ap₂ (λ (a b : ℕ). a + b) (ones-count w (x / 2) (omega arith)) (sym (low-digit x))
     ∙ ap (λ (p : ℕ → Bool). countBelow w p + one-if (member x 0)) (sym (same-cards (member-suc x)))
     ∙ sym (count-front w (member x))
 

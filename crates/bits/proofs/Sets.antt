@@ -2,8 +2,9 @@
 use Prim.Native.Nat.{ℕ, zero, suc, _+_, _≤_, _<_, zero-le, suc-le-suc}
 use mathlib.Core.Path.{_≡_, refl, sym, _∙_, ap, ap₂}
 use mathlib.Core.Bool.{Bool, true, false, not, _&&_, _||_, cond}
-use mathlib.Core.Logic.{⊎-elim}
-use native.Mathlib.Nat.{not-suc-le-zero, le-step, lt-suc-self, le-refl, le-of-suc-le-suc}
+use mathlib.Core.Logic.{⊎-elim, by-cases}
+use native.Mathlib.Nat.{not-suc-le-zero, le-step, lt-suc-self, le-refl, le-of-suc-le-suc, lt-of-not-le}
+use native.Mathlib.Decide.{decLe}
 use native.Mathlib.Omega.{arith}
 use lib.Dec.{eqb, ltb}
 use borrow.Author.Tests.{lt-ltb, ltb-false, eq-eqb, ne-eqb}
@@ -162,3 +163,12 @@ first-is zero p k h t f = absurd (not-suc-le-zero h)
 first-is (suc w) p zero h t f = rw t
 first-is (suc w) p (suc k) h t f =
     rw (f 0 (suc-le-suc zero-le)) (ap suc (first-is w (λ i. p (suc i)) k (le-of-suc-le-suc h) t (λ j l. f (suc j) (suc-le-suc l))))
+
+-- where some card is in the set, the lowest is one
+pub first-some : (w : ℕ) (p : ℕ → Bool) (k : ℕ) → k < w → p k ≡ true → firstBelow w p ≤ k
+first-some w p k h t = by-cases (decLe (firstBelow w p) k) (λ l. l) (λ l. clash t (first-before w p k (lt-of-not-le l)))
+
+-- and where none is, there is no lowest
+pub first-none : (w : ℕ) (p : ℕ → Bool) → ((k : ℕ) → k < w → p k ≡ false) → firstBelow w p ≡ w
+first-none zero p f = refl
+first-none (suc w) p f = rw (f 0 (suc-le-suc zero-le)) (ap suc (first-none w (λ i. p (suc i)) (λ k h. f (suc k) (suc-le-suc h))))

@@ -101,3 +101,10 @@ pub fn names_within(set: u32, n: u32) -> bool
 {
     if n < 32 { set >> n == 0 } else { true }
 }
+
+// The cards below 16 that a number of 32 digits names.
+pub fn narrow(set: u32) -> u16
+    ensures { λ r. ⌜ member r ≡ cut 16 (member set) ⌝ }
+{
+    (set % 65536) as u16
+}
