@@ -1,3 +1,4 @@
 pub mod Logic
 pub mod Below
 pub mod Seq
+pub mod Fill

@@ -1,0 +1,165 @@
+-- What a loop has done when it has passed the numbers below i, as records, and how each begins, goes on and ends. Assumes nothing.
+use Prim.Native.Nat.{ℕ, zero, suc, _+_, _-_, _≤_, _<_, max, zero-le}
+use mathlib.Core.Path.{_≡_, refl, sym, _∙_, ap, ap₂}
+use mathlib.Core.Bool.{Bool, true, false, not, _&&_, _||_, cond}
+use mathlib.Core.Logic.{_⊎_, inl, inr, ⊎-elim, by-cases}
+use mathlib.Core.List.{List, [], _∷_, _++_}
+use native.Mathlib.Nat.{not-suc-le-zero, le-step, lt-suc-self}
+use native.Mathlib.Numerals.{add-one}
+use native.Mathlib.Decide.{decLt}
+use native.Mathlib.Omega.{arith}
+use lib.ListN.{length, getD, set, length-append, length-set, List·getD-append, List·getD-eq-default}
+use lib.Seq.{getD-set-same, getD-set-other, getD-append-add, ext-getD}
+use Rattle.laws.specs.Below.{allBelow, anyBelow, greatest, tabulate, firstBelow}
+use Rattle.laws.proofs.Logic.{clash, fails, cond-true, cond-false}
+use Rattle.laws.proofs.Below.{below-suc, step-below, any-intro, any-elim, Found}
+
+-- tests that agree below n
+pub all-same : (n : ℕ) (p q : ℕ → Bool) → ((k : ℕ) → k < n → p k ≡ q k) → allBelow n p ≡ allBelow n q
+all-same zero p q f = refl
+all-same (suc n) p q f = ap₂ (λ (a b : Bool). a && b) (all-same n p q (λ k h. f k (le-step h))) (f n (lt-suc-self n))
+
+pub any-same : (n : ℕ) (p q : ℕ → Bool) → ((k : ℕ) → k < n → p k ≡ q k) → anyBelow n p ≡ anyBelow n q
+any-same zero p q f = refl
+any-same (suc n) p q f = ap₂ (λ (a b : Bool). a || b) (any-same n p q (λ k h. f k (le-step h))) (f n (lt-suc-self n))
+
+-- none passes where each fails
+pub not-any : (n : ℕ) (p : ℕ → Bool) → not (anyBelow n p) ≡ allBelow n (λ k. not (p k))
+not-any zero p = refl
+not-any (suc n) p = spread (anyBelow n p) (p n) ∙ ap (λ (a : Bool). a && not (p n)) (not-any n p)
+  where
+    spread : (a b : Bool) → not (a || b) ≡ not a && not b
+    spread true b = refl
+    spread false b = refl
+
+-- ---- every number passed passes the test
+pub record AllSoFar (n : ℕ) (p : ℕ → Bool) (ok : Bool) (i : ℕ) : Type 0 where
+  pub within : i ≤ n
+  pub so : ok ≡ allBelow i p
+
+pub all-none : {n : ℕ} {p : ℕ → Bool} → AllSoFar n p true 0
+all-none = record { within = zero-le; so = refl }
+
+pub all-more : {n : ℕ} {p : ℕ → Bool} {ok : Bool} {i : ℕ} {b : Bool} → AllSoFar n p ok i → i < n → b ≡ p i → AllSoFar n p (ok && b) (i + 1)
+all-more {n} {p} {ok} {i} {b} r h e =
+    record { within = omega arith; so = ap₂ (λ (x y : Bool). x && y) (r .so) e ∙ ap (λ (k : ℕ). allBelow k p) (sym (add-one i)) }
+
+pub all-done : {n : ℕ} {p : ℕ → Bool} {ok : Bool} {i : ℕ} → AllSoFar n p ok i → n ≤ i → ok ≡ allBelow n p
+all-done {n} {p} {ok} {i} r h = let w : i ≤ n = r .within in let e : i ≡ n = omega arith in r .so ∙ ap (λ (k : ℕ). allBelow k p) e
+
+-- ---- some number passed passes the test
+pub record AnySoFar (n : ℕ) (p : ℕ → Bool) (found : Bool) (i : ℕ) : Type 0 where
+  pub within : i ≤ n
+  pub so : found ≡ anyBelow i p
+
+pub any-none : {n : ℕ} {p : ℕ → Bool} → AnySoFar n p false 0
+any-none = record { within = zero-le; so = refl }
+
+pub any-more : {n : ℕ} {p : ℕ → Bool} {found : Bool} {i : ℕ} {b : Bool} → AnySoFar n p found i → i < n → b ≡ p i → AnySoFar n p (found || b) (i + 1)
+any-more {n} {p} {found} {i} {b} r h e =
+    record { within = omega arith; so = ap₂ (λ (x y : Bool). x || y) (r .so) e ∙ ap (λ (k : ℕ). anyBelow k p) (sym (add-one i)) }
+
+pub any-done : {n : ℕ} {p : ℕ → Bool} {found : Bool} {i : ℕ} → AnySoFar n p found i → n ≤ i → found ≡ anyBelow n p
+any-done {n} {p} {found} {i} r h = let w : i ≤ n = r .within in let e : i ≡ n = omega arith in r .so ∙ ap (λ (k : ℕ). anyBelow k p) e
+
+-- ---- the greatest of what was passed
+pub record GreatestSoFar (n : ℕ) (f : ℕ → ℕ) (most i : ℕ) : Type 0 where
+  pub within : i ≤ n
+  pub so : most ≡ greatest i f
+
+pub greatest-none : {n : ℕ} {f : ℕ → ℕ} → GreatestSoFar n f 0 0
+greatest-none = record { within = zero-le; so = refl }
+
+pub greatest-more : {n : ℕ} {f : ℕ → ℕ} {most i v : ℕ} → GreatestSoFar n f most i → i < n → v ≡ max most (f i) → GreatestSoFar n f v (i + 1)
+greatest-more {n} {f} {most} {i} {v} r h e =
+    record { within = omega arith; so = e ∙ ap (λ (x : ℕ). max x (f i)) (r .so) ∙ ap (λ (k : ℕ). greatest k f) (sym (add-one i)) }
+
+pub greatest-done : {n : ℕ} {f : ℕ → ℕ} {most i : ℕ} → GreatestSoFar n f most i → n ≤ i → most ≡ greatest n f
+greatest-done {n} {f} {most} {i} r h = let w : i ≤ n = r .within in let e : i ≡ n = omega arith in r .so ∙ ap (λ (k : ℕ). greatest k f) e
+
+-- ---- no number passed passes the test: a search for the first
+pub record NoneSoFar (n : ℕ) (p : ℕ → Bool) (i : ℕ) : Type 0 where
+  pub within : i ≤ n
+  pub so : anyBelow i p ≡ false
+
+pub search-none : {n : ℕ} {p : ℕ → Bool} → NoneSoFar n p 0
+search-none = record { within = zero-le; so = refl }
+
+pub search-more : {n : ℕ} {p : ℕ → Bool} {i : ℕ} → NoneSoFar n p i → i < n → p i ≡ false → NoneSoFar n p (i + 1)
+search-more {n} {p} {i} r h e =
+    record { within = omega arith; so = ap (λ (k : ℕ). anyBelow k p) (add-one i) ∙ ap₂ (λ (x y : Bool). x || y) (r .so) e }
+
+-- nothing passes below n: the first is n
+pub first-none : (n : ℕ) (p : ℕ → Bool) → anyBelow n p ≡ false → firstBelow n p ≡ n
+first-none zero p e = refl
+first-none (suc n) p e =
+    let a : anyBelow n p ≡ false = fails (anyBelow n p) (λ (t : anyBelow n p ≡ true). clash (rw t) e) in
+    let b : p n ≡ false = fails (p n) (λ (t : p n ≡ true). clash (any-intro (suc n) p n (lt-suc-self n) t) e) in
+    cond-false (firstBelow n p) (cond (p n) n (suc n)) a ∙ cond-false n (suc n) b
+
+pub first-here : (n : ℕ) (p : ℕ → Bool) (i : ℕ) → i < n → anyBelow i p ≡ false → p i ≡ true → firstBelow n p ≡ i
+first-here zero p i h a e = absurd (not-suc-le-zero h)
+first-here (suc n) p i h a e = ⊎-elim last (λ l. before l (first-here n p i l a e)) (below-suc h)
+  where
+    last : i ≡ n → firstBelow (suc n) p ≡ i
+    last q =
+        let a′ : anyBelow n p ≡ false = ap (λ (k : ℕ). anyBelow k p) (sym q) ∙ a in
+        let e′ : p n ≡ true = ap p (sym q) ∙ e in
+        cond-false (firstBelow n p) (cond (p n) n (suc n)) a′ ∙ cond-true n (suc n) e′ ∙ sym q
+
+    before : i < n → firstBelow n p ≡ i → firstBelow (suc n) p ≡ i
+    before l q = cond-true (firstBelow n p) (cond (p n) n (suc n)) (any-intro n p i l e) ∙ q
+
+pub search-done : {n : ℕ} {p : ℕ → Bool} {i : ℕ} → NoneSoFar n p i → n ≤ i → firstBelow n p ≡ i
+search-done {n} {p} {i} r h =
+    let w : i ≤ n = r .within in
+    let e : i ≡ n = omega arith in
+    first-none n p (ap (λ (k : ℕ). anyBelow k p) (sym e) ∙ r .so) ∙ sym e
+
+-- ---- a list filled so far with the values of f
+module _ {A : Type 0} where
+  pub length-tabulate : (n : ℕ) (f : ℕ → A) → length (tabulate n f) ≡ n
+  length-tabulate zero f = refl
+  length-tabulate (suc n) f = length-append (tabulate n f) (f n ∷ []) ∙ ap (λ (k : ℕ). k + 1) (length-tabulate n f) ∙ add-one n
+
+  pub getD-tabulate : (n : ℕ) (f : ℕ → A) (d : A) (k : ℕ) → k < n → getD (tabulate n f) k d ≡ f k
+  getD-tabulate zero f d k h = absurd (not-suc-le-zero h)
+  getD-tabulate (suc n) f d k h = ⊎-elim last (λ l. before l (getD-tabulate n f d k l)) (below-suc h)
+    where
+      last : k ≡ n → getD (tabulate n f ++ (f n ∷ [])) k d ≡ f k
+      last e =
+          let l : length (tabulate n f) + 0 ≡ k = omega (arith, length-tabulate n f) in
+          ap (λ (i : ℕ). getD (tabulate n f ++ (f n ∷ [])) i d) (sym l) ∙ getD-append-add (tabulate n f) (f n ∷ []) 0 d ∙ ap f (sym e)
+
+      before : k < n → getD (tabulate n f) k d ≡ f k → getD (tabulate n f ++ (f n ∷ [])) k d ≡ f k
+      before l e = List·getD-append (tabulate n f) (f n ∷ []) d k (omega (arith, length-tabulate n f)) ∙ e
+
+  pub tabulate-same : (n : ℕ) (f g : ℕ → A) → ((k : ℕ) → k < n → f k ≡ g k) → tabulate n f ≡ tabulate n g
+  tabulate-same zero f g e = refl
+  tabulate-same (suc n) f g e = ap₂ (λ (l : List A) (x : A). l ++ (x ∷ [])) (tabulate-same n f g (λ k h. e k (le-step h))) (e n (lt-suc-self n))
+
+  -- a list whose values are those of f is f as a list
+  pub tabulate-ext : (d : A) (n : ℕ) (f : ℕ → A) (l : List A) → length l ≡ n → ((k : ℕ) → k < n → getD l k d ≡ f k) → l ≡ tabulate n f
+  tabulate-ext d n f l e h =
+      ext-getD d l (tabulate n f) (e ∙ sym (length-tabulate n f)) (λ k g. let b : k < n = omega (arith, e) in h k b ∙ sym (getD-tabulate n f d k b))
+
+  pub record FilledSoFar (d : A) (n : ℕ) (f : ℕ → A) (l : List A) (i : ℕ) : Type 0 where
+    pub within : i ≤ n
+    pub long : length l ≡ n
+    pub so : (k : ℕ) → k < i → getD l k d ≡ f k
+
+  pub filled-none : {d : A} {n : ℕ} {f : ℕ → A} {l : List A} → length l ≡ n → FilledSoFar d n f l 0
+  filled-none e = record { within = zero-le; long = e; so = λ k h. absurd (not-suc-le-zero h) }
+
+  pub filled-more : {d : A} {n : ℕ} {f : ℕ → A} {l : List A} {i : ℕ} {v : A} → FilledSoFar d n f l i → i < n → v ≡ f i → FilledSoFar d n f (set l i v) (i + 1)
+  filled-more {d} {n} {f} {l} {i} {v} r h e =
+      record {
+        within = omega arith;
+        long = length-set l i v ∙ r .long;
+        so = λ k g. step-below (λ (k : ℕ). getD (set l i v) k d ≡ f k)
+            (λ k g. getD-set-other l i k v d (λ (z : k ≡ i). absurd (omega arith)) ∙ r .so k g)
+            (getD-set-same l i v d (omega (arith, r .long)) ∙ e) k (let g′ : k < i + 1 = g in omega arith);
+      }
+
+  pub filled-done : {d : A} {n : ℕ} {f : ℕ → A} {l : List A} {i : ℕ} → FilledSoFar d n f l i → n ≤ i → l ≡ tabulate n f
+  filled-done {d} {n} {f} {l} {i} r h = tabulate-ext d n f l (r .long) (λ k g. r .so k (omega arith))
