@@ -44,8 +44,9 @@ pub all-more : {n : ℕ} {p : ℕ → Bool} {ok : Bool} {i : ℕ} {b : Bool} →
 all-more {n} {p} {ok} {i} {b} r h e =
     record { within = omega arith; so = ap₂ (λ (x y : Bool). x && y) (r .so) e ∙ ap (λ (k : ℕ). allBelow k p) (sym (add-one i)) }
 
-pub all-done : {n : ℕ} {p : ℕ → Bool} {ok : Bool} {i : ℕ} → AllSoFar n p ok i → n ≤ i → ok ≡ allBelow n p
-all-done {n} {p} {ok} {i} r h = let w : i ≤ n = r .within in let e : i ≡ n = omega arith in r .so ∙ ap (λ (k : ℕ). allBelow k p) e
+-- w: the bound by its name
+pub all-done : {n w : ℕ} {p : ℕ → Bool} {ok : Bool} {i : ℕ} → AllSoFar n p ok i → n ≤ i → w ≡ n → ok ≡ allBelow w p
+all-done {n} {w} {p} {ok} {i} r h q = let l : i ≤ n = r .within in let e : i ≡ w = omega arith in r .so ∙ ap (λ (k : ℕ). allBelow k p) e
 
 -- ---- some number passed passes the test
 pub record AnySoFar (n : ℕ) (p : ℕ → Bool) (found : Bool) (i : ℕ) : Type 0 where
@@ -59,8 +60,8 @@ pub any-more : {n : ℕ} {p : ℕ → Bool} {found : Bool} {i : ℕ} {b : Bool} 
 any-more {n} {p} {found} {i} {b} r h e =
     record { within = omega arith; so = ap₂ (λ (x y : Bool). x || y) (r .so) e ∙ ap (λ (k : ℕ). anyBelow k p) (sym (add-one i)) }
 
-pub any-done : {n : ℕ} {p : ℕ → Bool} {found : Bool} {i : ℕ} → AnySoFar n p found i → n ≤ i → found ≡ anyBelow n p
-any-done {n} {p} {found} {i} r h = let w : i ≤ n = r .within in let e : i ≡ n = omega arith in r .so ∙ ap (λ (k : ℕ). anyBelow k p) e
+pub any-done : {n w : ℕ} {p : ℕ → Bool} {found : Bool} {i : ℕ} → AnySoFar n p found i → n ≤ i → w ≡ n → found ≡ anyBelow w p
+any-done {n} {w} {p} {found} {i} r h q = let l : i ≤ n = r .within in let e : i ≡ w = omega arith in r .so ∙ ap (λ (k : ℕ). anyBelow k p) e
 
 -- ---- the greatest of what was passed
 pub record GreatestSoFar (n : ℕ) (f : ℕ → ℕ) (most i : ℕ) : Type 0 where
@@ -74,8 +75,8 @@ pub greatest-more : {n : ℕ} {f : ℕ → ℕ} {most i v : ℕ} → GreatestSoF
 greatest-more {n} {f} {most} {i} {v} r h e =
     record { within = omega arith; so = e ∙ ap (λ (x : ℕ). max x (f i)) (r .so) ∙ ap (λ (k : ℕ). greatest k f) (sym (add-one i)) }
 
-pub greatest-done : {n : ℕ} {f : ℕ → ℕ} {most i : ℕ} → GreatestSoFar n f most i → n ≤ i → most ≡ greatest n f
-greatest-done {n} {f} {most} {i} r h = let w : i ≤ n = r .within in let e : i ≡ n = omega arith in r .so ∙ ap (λ (k : ℕ). greatest k f) e
+pub greatest-done : {n w : ℕ} {f : ℕ → ℕ} {most i : ℕ} → GreatestSoFar n f most i → n ≤ i → w ≡ n → most ≡ greatest w f
+greatest-done {n} {w} {f} {most} {i} r h q = let l : i ≤ n = r .within in let e : i ≡ w = omega arith in r .so ∙ ap (λ (k : ℕ). greatest k f) e
 
 -- ---- no number passed passes the test: a search for the first
 pub record NoneSoFar (n : ℕ) (p : ℕ → Bool) (i : ℕ) : Type 0 where
@@ -110,11 +111,15 @@ first-here (suc n) p i h a e = ⊎-elim last (λ l. before l (first-here n p i l
     before : i < n → firstBelow n p ≡ i → firstBelow (suc n) p ≡ i
     before l q = cond-true (firstBelow n p) (cond (p n) n (suc n)) (any-intro n p i l e) ∙ q
 
-pub search-done : {n : ℕ} {p : ℕ → Bool} {i : ℕ} → NoneSoFar n p i → n ≤ i → firstBelow n p ≡ i
-search-done {n} {p} {i} r h =
-    let w : i ≤ n = r .within in
-    let e : i ≡ n = omega arith in
-    first-none n p (ap (λ (k : ℕ). anyBelow k p) (sym e) ∙ r .so) ∙ sym e
+pub search-done : {n w : ℕ} {p : ℕ → Bool} {i : ℕ} → NoneSoFar n p i → n ≤ i → w ≡ n → firstBelow w p ≡ i
+search-done {n} {w} {p} {i} r h q =
+    let l : i ≤ n = r .within in
+    let e : i ≡ w = omega arith in
+    first-none w p (ap (λ (k : ℕ). anyBelow k p) (sym e) ∙ r .so) ∙ sym e
+
+-- the search stops at i, where the test passes
+pub search-found : {n w : ℕ} {p : ℕ → Bool} {i : ℕ} → NoneSoFar n p i → i < n → w ≡ n → p i ≡ true → firstBelow w p ≡ i
+search-found {n} {w} {p} {i} r h q e = first-here w p i (omega arith) (r .so) e
 
 -- ---- a list filled so far with the values of f
 module _ {A : Type 0} where
@@ -161,5 +166,5 @@ module _ {A : Type 0} where
             (getD-set-same l i v d (omega (arith, r .long)) ∙ e) k (let g′ : k < i + 1 = g in omega arith);
       }
 
-  pub filled-done : {d : A} {n : ℕ} {f : ℕ → A} {l : List A} {i : ℕ} → FilledSoFar d n f l i → n ≤ i → l ≡ tabulate n f
-  filled-done {d} {n} {f} {l} {i} r h = tabulate-ext d n f l (r .long) (λ k g. r .so k (omega arith))
+  pub filled-done : {d : A} {n w : ℕ} {f : ℕ → A} {l : List A} {i : ℕ} → FilledSoFar d n f l i → n ≤ i → w ≡ n → l ≡ tabulate w f
+  filled-done {d} {n} {w} {f} {l} {i} r h q = tabulate-ext d n f l (r .long) (λ k g. r .so k (omega arith)) ∙ ap (λ (m : ℕ). tabulate m f) (sym q)

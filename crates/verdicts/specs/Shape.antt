@@ -1,0 +1,150 @@
+-- How a cabinet of 16 cards is held in lists of numbers, and what each list says in the model.
+use Prim.Native.Nat.{ℕ, _+_, _*_, _%_}
+use mathlib.Core.Bool.{Bool, _&&_, cond}
+use mathlib.Core.List.{List, []}
+use lib.Dec.{leb, ltb}
+use lib.ListN.{getD}
+use Rattle.laws.specs.Below.{tabulate}
+use Rattle.bits.specs.Member.{member, number}
+use Rattle.history.specs.Change.{CardSet, Numbers}
+use Rattle.history.specs.Vector.{noEntries}
+use Rattle.history.specs.Vector as history
+use Rattle.protocol.specs.Model as model
+use Rattle.protocol.specs.Model.{Limits, Model, OpenChange, Memory, StateNumbers, noCards}
+use Rattle.protocol.specs.Sound.{numbersSound, lineSound, framesSound}
+use Rattle.verdicts.specs.declared.Phase.{Phase}
+use Rattle.verdicts.specs.declared.Phase.the-variants.{Up, Down, Rolling}
+use Rattle.verdicts.specs.declared.Head.{Head}
+use Rattle.verdicts.specs.declared.Vector.{Vector}
+use Rattle.verdicts.specs.declared.Place.{Place}
+
+-- "the limits 16, 48, 8 and 60,000", and 4,294,967,295
+unfoldable pub limits16 : Limits
+limits16 = record { width = 16; inHand = 48; places = 8; greatestState = 60000; greatestNumber = 4294967295 }
+
+abbrev pub phaseOf : Phase → model.Phase
+phaseOf Up = model.up
+phaseOf Down = model.down
+phaseOf Rolling = model.rolling
+
+-- the number that a list holds for card i: numbers by card, and the entries of a vector
+abbrev pub at : List ℕ → ℕ → ℕ
+at l i = getD l i 0
+
+-- cards 0 to n − 1 are in the cabinet
+abbrev pub presentOf : ℕ → CardSet
+presentOf n c = ltb c n
+
+-- the vector that a list of vectors holds for card c
+abbrev pub vectorAt : List Vector → ℕ → history.Vector
+vectorAt l c = at (getD l c (record { entries = [] }) .entries)
+
+-- Frames stand in a ring: state x of card c has the place c * 48 + x % 48, and its entries begin at 16 times that place.
+abbrev pub ringPlace : ℕ → ℕ → ℕ
+ringPlace c x = c * 48 + x % 48
+
+-- what stands at the ring's places, whether or not the state is in hand
+abbrev pub ringMaker : List ℕ → ℕ → ℕ → ℕ
+ringMaker makers c x = at makers (ringPlace c x)
+
+abbrev pub ringFrame : List ℕ → ℕ → ℕ → history.Vector
+ringFrame entries c x j = at entries (ringPlace c x * 16 + j)
+
+-- "Frames run from base + 1": state x of card c is in hand
+abbrev pub inHand : (base reached : List ℕ) → ℕ → ℕ → Bool
+inHand base reached c x = ltb (at base c) x && leb x (at reached c)
+
+-- the frames in hand; a state that is not in hand shows change 0 and no entries
+abbrev pub makerInHand : (makers base reached : List ℕ) → ℕ → ℕ → ℕ
+makerInHand makers base reached c x = cond (inHand base reached c x) (ringMaker makers c x) 0
+
+abbrev pub frameInHand : (entries base reached : List ℕ) → ℕ → ℕ → history.Vector
+frameInHand entries base reached c x = cond (inHand base reached c x) (ringFrame entries c x) noEntries
+
+-- the frames of the ring, whether or not they are in hand
+abbrev pub ring : (entries makers : List ℕ) → Memory
+ring entries makers =
+    record { last = λ c. noEntries; pending = λ c. noEntries; maker = ringMaker makers; frame = ringFrame entries }
+
+-- four numbers for whatever card
+abbrev pub numbersOf : (base stored held reached : ℕ) → StateNumbers
+numbersOf base stored held reached =
+    record { base = λ c. base; stored = λ c. stored; held = λ c. held; reached = λ c. reached }
+
+-- an open change as a place holds it
+abbrev pub openOf : Place → OpenChange
+openOf p =
+    record {
+      change = record { number = p .number; reads = member (p .reads); writes = member (p .writes) };
+      yes = member (p .yes);
+      taken = member (p .taken);
+      vector = at (p .vector);
+    }
+
+-- the open change in place p
+abbrev pub openAt : List Place → ℕ → OpenChange
+openAt l p = openOf (getD l p (record { vector = []; number = 0; reads = 0; writes = 0; yes = 0; taken = 0 }))
+
+-- the set as a number of 16 bits
+abbrev pub setOf : CardSet → ℕ
+setOf s = number (limits16 .width) s
+
+-- a number for each card, and the entries of a vector, as a list
+abbrev pub listOf : Numbers → List ℕ
+listOf f = tabulate (limits16 .width) f
+
+abbrev pub vectorFor : history.Vector → Vector
+vectorFor v = record { entries = listOf v }
+
+-- the place that holds an open change
+abbrev pub placeFor : OpenChange → Place
+placeFor o =
+    record {
+      vector = listOf (o .vector);
+      number = o .change .number;
+      reads = setOf (o .change .reads);
+      writes = setOf (o .change .writes);
+      yes = setOf (o .yes);
+      taken = setOf (o .taken);
+    }
+
+-- the model of a cabinet held in these lists
+abbrev pub modelOf : (entries makers : List ℕ) (last pending : List Vector) (places : List Place) (base stored kept reached line ended : List ℕ) (rolled : ℕ) → Head → Model
+modelOf entries makers last pending places base stored kept reached line ended rolled h =
+    record {
+      session = h .session;
+      phase = phaseOf (h .phase);
+      count = h .count;
+      present = presentOf (h .cards);
+      numbers = record { base = at base; stored = at stored; held = at kept; reached = at reached };
+      memory = record {
+        last = vectorAt last;
+        pending = vectorAt pending;
+        maker = makerInHand makers base reached;
+        frame = frameInHand entries base reached;
+      };
+      place = openAt places;
+      ended = at ended;
+      line = at line;
+      rolled = member rolled;
+    }
+
+-- the parts of a cabinet of n cards that a check of one card or one place looks at
+abbrev pub partOf : (n : ℕ) → model.Phase → StateNumbers → Memory → (line : ℕ) → Model
+partOf n phase numbers memory line =
+    record {
+      session = 0;
+      phase = phase;
+      count = 0;
+      present = presentOf n;
+      numbers = numbers;
+      memory = memory;
+      place = λ p. model.freePlace;
+      ended = λ p. 0;
+      line = λ c. line;
+      rolled = noCards;
+    }
+
+-- what refusal 28 looks at of a card that is there, besides its vectors
+abbrev pub thereSound : Model → ℕ → Bool
+thereSound m c = numbersSound limits16 (m .numbers) c && lineSound m c && framesSound limits16 m c
