@@ -1,11 +1,9 @@
-// What each call answers, as small functions over numbers and lent arrays, and the check for refusal 28.
+// What each call answers, as small functions over numbers, sets and small arrays.
 ghost use Prim.Native.Nat.{ℕ, _+_, _*_, _<_, _≤_};
 ghost use mathlib.Core.Path.{_≡_};
 ghost use Rattle.protocol.specs.Model.{isUp, isDown, isRolling};
 ghost use Rattle.verdicts.specs.Shape.{phaseOf, at};
 use refusal::Refusal;
-
-pub mod sound;
 
 pub enum Phase {
     Up,

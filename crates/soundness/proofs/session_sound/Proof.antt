@@ -1,0 +1,26 @@
+use Prim.Native.Nat.{ℕ, suc, _+_, _*_, _-_, _≤_, _<_}
+use mathlib.Core.Path.{_≡_, refl, sym, _∙_, ap, ap₂}
+use mathlib.Core.Bool.{Bool, true, false, not, _&&_, _||_, cond}
+use native.Mathlib.Omega.{arith}
+use lib.ListN.{length, getD, List·getD-eq-default}
+use lib.Dec.{leb, ltb, eqb}
+use Rattle.laws.proofs.Fill.{AllSoFar, all-none, all-more, all-done}
+use Rattle.verdicts.specs.Shape.{limits16, at}
+use borrow.Author.Needs.{needs}
+use Rattle.soundness.proofs.session_sound.Statement.{statement}
+use Rattle.soundness.proofs.session_sound.Tie as tie
+use Rattle.soundness.proofs.session_sound.Reads as reads
+use Rattle.soundness.proofs.session_sound.Lts as lts
+use Rattle.verdicts.proofs.is_rolling.Reads as is-rolling-reads
+
+-- src/sound.rt:24:9
+is-rolling-requires : tie.Need-is-rolling-requires
+is-rolling-requires c κs = search needs
+
+-- src/sound.rt:20:1
+returns : tie.Need-returns
+unfolding limits16
+returns c = rw (c .before .before .is-rolling .ensures)
+
+pub session-sound-spec : {M : Type 1} → statement M
+session-sound-spec = tie.close (tie.spec is-rolling-requires returns)

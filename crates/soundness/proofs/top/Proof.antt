@@ -1,0 +1,25 @@
+use Prim.Native.Nat.{ℕ, suc, _+_, _*_, _-_, _≤_, _<_}
+use mathlib.Core.Path.{_≡_, refl, sym, _∙_, ap, ap₂}
+use mathlib.Core.Bool.{Bool, true, false, not, _&&_, _||_, cond}
+use native.Mathlib.Omega.{arith}
+use lib.ListN.{length, getD, List·getD-eq-default}
+use lib.Dec.{leb, ltb, eqb}
+use Rattle.laws.proofs.Fill.{AllSoFar, all-none, all-more, all-done}
+use Rattle.verdicts.specs.Shape.{limits16, at}
+use borrow.Author.Needs.{needs}
+use Rattle.soundness.proofs.top.Statement.{statement}
+use Rattle.soundness.proofs.top.Tie as tie
+use Rattle.soundness.proofs.top.Reads as reads
+use Rattle.soundness.proofs.top.Lts as lts
+
+-- src/sound.rt:44:1
+returns : tie.Need-returns
+unfolding limits16
+returns c = rw (c .if1 .taken)
+
+-- src/sound.rt:44:1
+returns-2 : tie.Need-returns-2
+returns-2 c = rw (c .if1 .left)
+
+pub top-spec : {M : Type 1} → statement M
+top-spec = tie.close (tie.spec returns returns-2)

@@ -1,0 +1,342 @@
+// The check for refusal 28: what a cabinet must be, level by level.
+ghost use Prim.Native.Nat.{ℕ, _+_, _*_, _<_, _≤_};
+ghost use mathlib.Core.Path.{_≡_};
+ghost use mathlib.Core.Bool.{not, _&&_, _||_, cond};
+ghost use mathlib.Core.List.{[]};
+ghost use lib.ListN.{getD};
+ghost use lib.Dec.{leb};
+ghost use Rattle.laws.specs.Below.{allBelow};
+ghost use Rattle.bits.specs.Member.{member};
+ghost use Rattle.protocol.specs.Model.{toWrite, up};
+ghost use Rattle.protocol.specs.Sound.{sessionSound, cardsSound, numbersSound, entriesSound, frameSound, risesSound, framesSound, lineSound, cardSound, roomToWrite, placeSound, sound};
+ghost use Rattle.verdicts.specs.Shape.{limits16, phaseOf, at, presentOf, ring, ringFrame, ringPlace, numbersOf, openOf, openAt, partOf, modelOf, thereSound};
+use verdicts::Head;
+use verdicts::Phase;
+use verdicts::Place;
+use verdicts::Vector;
+use verdicts::is_rolling;
+
+// "session 0 (while rolling also 4,294,967,295)"
+pub fn session_sound(head: Head) -> bool
+    ensures { λ r. ⌜ r ≡ sessionSound limits16 (modelOf [] [] [] [] [] [] [] [] [] [] [] 0 head) ⌝ }
+{
+    let phase = head.phase;
+    let rolling = is_rolling(phase);
+    (head.session != 0) & !(rolling & (head.session == 4294967295))
+}
+
+// "a number of cards .. outside the limits"
+pub fn cards_sound(head: Head) -> bool
+    ensures { λ r. ⌜ r ≡ cardsSound limits16 (modelOf [] [] [] [] [] [] [] [] [] [] [] 0 head) ⌝ }
+{
+    (1 <= head.cards) & (head.cards <= 16)
+}
+
+// "a .. state number .. outside the limits"
+pub fn numbers_sound(base: u32, stored: u32, held: u32, reached: u32) -> bool
+    ensures { λ r. ⌜ r ≡ numbersSound limits16 (numbersOf base stored held reached) 0 ⌝ }
+{
+    let hand = (reached as u64) <= (base as u64) + 48;
+    (base <= stored) & (stored <= held) & (held <= reached) & hand & (reached <= 60000)
+}
+
+// The greatest dependency that an entry may hold: none for an absent card.
+fn top(there: bool) -> u32
+    ensures { λ r. ⌜ r ≡ cond there (limits16 .greatestState) 0 ⌝ }
+{
+    if there { 60000 } else { 0 }
+}
+
+// "an entry outside the limits .., an entry of an absent card that isn't none": a vector of a cabinet of so many cards.
+pub fn entries_sound(v: [u32; 16], cards: usize) -> bool
+    ensures { λ r. ⌜ r ≡ entriesSound limits16 (presentOf cards) (at v) ⌝ }
+{
+    let mut ok = true;
+    let mut j: usize = 0;
+    while j < 16 {
+        ok = ok & (v[j] <= top(j < cards));
+        j += 1;
+    }
+    ok
+}
+
+// The same of the vector of a frame.
+fn frame_entries_sound(entries: &[u32; 12288], from: usize, cards: usize) -> bool
+    requires { ⌜ from + 16 ≤ 12288 ⌝ }
+    ensures { λ r. ⌜ r ≡ entriesSound limits16 (presentOf cards) (λ j. at (now (entries .entry)) (from + j)) ⌝ }
+{
+    let mut ok = true;
+    let mut j: usize = 0;
+    while j < 16 {
+        ok = ok & (entries[from + j] <= top(j < cards));
+        j += 1;
+    }
+    ok
+}
+
+// "a kept frame that breaks 9": the frame of state x of card c, by itself.
+fn frame_sound<'a>(
+    entries: &'a [u32; 12288],
+    makers: &'a [u32; 768],
+    c: usize,
+    x: u32,
+    cards: usize,
+) -> bool
+    requires { ⌜ c < 16 ⌝ }
+    ensures { λ r. ⌜ r ≡ frameSound limits16 (partOf cards up (numbersOf 0 0 0 0) (ring (now (entries .entry)) (now (makers .entry))) 0) c x ⌝ }
+{
+    let place = c * 48 + (x % 48) as usize;
+    let from = place * 16;
+    let whole = frame_entries_sound(entries, from, cards);
+    (makers[place] != 0) & (entries[from + c] == x) & whole
+}
+
+// "an entry falling from frame to frame": no entry of the frame at one place is above that of the frame at the next.
+fn rising_entries(entries: &[u32; 12288], from: usize, next: usize) -> bool
+    requires { ⌜ (from + 16 ≤ 12288) × (next + 16 ≤ 12288) ⌝ }
+    ensures { λ r. ⌜ r ≡ allBelow (limits16 .width) (λ j. leb (at (now (entries .entry)) (from + j)) (at (now (entries .entry)) (next + j))) ⌝ }
+{
+    let mut ok = true;
+    let mut j: usize = 0;
+    while j < 16 {
+        ok = ok & (entries[from + j] <= entries[next + j]);
+        j += 1;
+    }
+    ok
+}
+
+// "change .. not rising, .. an entry falling": the frame of state x of card c and the next.
+fn rises_sound<'a>(entries: &'a [u32; 12288], makers: &'a [u32; 768], c: usize, x: u32) -> bool
+    requires { ⌜ (c < 16) × (x ≤ 60000) ⌝ }
+    ensures { λ r. ⌜ r ≡ risesSound limits16 (ring (now (entries .entry)) (now (makers .entry))) c x ⌝ }
+{
+    let place = c * 48 + (x % 48) as usize;
+    let next = c * 48 + ((x + 1) % 48) as usize;
+    let whole = rising_entries(entries, place * 16, next * 16);
+    (makers[place] < makers[next]) & whole
+}
+
+// The frames of card c, from base + 1 to reached.
+fn frames_sound<'a>(
+    entries: &'a [u32; 12288],
+    makers: &'a [u32; 768],
+    c: usize,
+    base: u32,
+    reached: u32,
+    cards: usize,
+) -> bool
+    requires { ⌜ (c < 16) × (base ≤ reached) × (reached ≤ 60000) ⌝ }
+    ensures { λ r. ⌜ r ≡ framesSound limits16 (partOf cards up (numbersOf base 0 0 reached) (ring (now (entries .entry)) (now (makers .entry))) 0) c ⌝ }
+{
+    let n = reached - base;
+    let mut ok = true;
+    let mut k: u32 = 0;
+    while k < n {
+        let x = base + k;
+        let frame = frame_sound(entries, makers, c, x + 1, cards);
+        let rises = rises_sound(entries, makers, c, x);
+        ok = ok & (frame & ((k == 0) | rises));
+        k += 1;
+    }
+    ok
+}
+
+// "while rolling a fixed line outside base to stored"
+fn line_sound(phase: Phase, base: u32, stored: u32, line: u32) -> bool
+    ensures { λ r. ⌜ r ≡ lineSound (partOf 0 (phaseOf phase) (numbersOf base stored 0 0) (ring [] []) line) 0 ⌝ }
+{
+    let rolling = is_rolling(phase);
+    !rolling | ((base <= line) & (line <= stored))
+}
+
+// The numbers, the fixed line and the frames of a card that is there.
+fn there_sound<'a>(
+    entries: &'a [u32; 12288],
+    makers: &'a [u32; 768],
+    head: Head,
+    c: usize,
+    base: u32,
+    stored: u32,
+    held: u32,
+    reached: u32,
+    line: u32,
+) -> bool
+    requires { ⌜ c < 16 ⌝ }
+    ensures { λ r. ⌜ r ≡ thereSound (partOf (head .cards) (phaseOf (head .phase)) (numbersOf base stored held reached) (ring (now (entries .entry)) (now (makers .entry))) line) c ⌝ }
+{
+    let numbers = numbers_sound(base, stored, held, reached);
+    let phase = head.phase;
+    let fixed = line_sound(phase, base, stored, line);
+    if numbers {
+        let cards = head.cards as usize;
+        let frames = frames_sound(entries, makers, c, base, reached, cards);
+        fixed & frames
+    } else {
+        false
+    }
+}
+
+// The cards that may have entries in the vectors of a card: none, where the card itself is not there.
+fn seen(there: bool, cards: usize) -> usize
+    ensures { λ r. ⌜ r ≡ cond there cards 0 ⌝ }
+{
+    if there { cards } else { 0 }
+}
+
+// What is looked at of card c.
+fn card_sound<'a>(
+    entries: &'a [u32; 12288],
+    makers: &'a [u32; 768],
+    last: [Vector; 16],
+    pending: [Vector; 16],
+    base: [u32; 16],
+    stored: [u32; 16],
+    held: [u32; 16],
+    reached: [u32; 16],
+    line: [u32; 16],
+    head: Head,
+    c: usize,
+) -> bool
+    requires { ⌜ c < 16 ⌝ }
+    ensures { λ r. ⌜ r ≡ cardSound limits16 (modelOf (now (entries .entry)) (now (makers .entry)) last pending [] base stored held reached line [] 0 head) c ⌝ }
+{
+    let cards = head.cards as usize;
+    let there = c < cards;
+    let n = seen(there, cards);
+    let l = last[c];
+    let l = l.entries;
+    let lasts = entries_sound(l, n);
+    let p = pending[c];
+    let p = p.entries;
+    let pendings = entries_sound(p, n);
+    let whole = there_sound(
+        entries,
+        makers,
+        head,
+        c,
+        base[c],
+        stored[c],
+        held[c],
+        reached[c],
+        line[c],
+    );
+    lasts & pendings & (!there | whole)
+}
+
+fn all_cards_sound<'a>(
+    entries: &'a [u32; 12288],
+    makers: &'a [u32; 768],
+    last: [Vector; 16],
+    pending: [Vector; 16],
+    base: [u32; 16],
+    stored: [u32; 16],
+    held: [u32; 16],
+    reached: [u32; 16],
+    line: [u32; 16],
+    head: Head,
+) -> bool
+    ensures { λ r. ⌜ r ≡ allBelow (limits16 .width) (cardSound limits16 (modelOf (now (entries .entry)) (now (makers .entry)) last pending [] base stored held reached line [] 0 head)) ⌝ }
+{
+    let mut ok = true;
+    let mut c: usize = 0;
+    while c < 16 {
+        ok = ok
+            & card_sound(
+                entries,
+                makers,
+                last,
+                pending,
+                base,
+                stored,
+                held,
+                reached,
+                line,
+                head,
+                c,
+            );
+        c += 1;
+    }
+    ok
+}
+
+// A card may be written: not "at base + 48 or 60,000".
+pub fn room(base: u32, reached: u32) -> bool
+    ensures { λ r. ⌜ r ≡ roomToWrite limits16 (numbersOf base 0 0 reached) 0 ⌝ }
+{
+    ((reached as u64) < (base as u64) + 48) & (reached < 60000)
+}
+
+// Every card that the change has yet to write has room.
+fn writes_fit(o: Place, base: [u32; 16], reached: [u32; 16]) -> bool
+    ensures { λ r. ⌜ r ≡ allBelow (limits16 .width) (λ c. not (toWrite (openOf o) c) || roomToWrite limits16 (numbersOf (at base c) 0 0 (at reached c)) 0) ⌝ }
+{
+    let mut ok = true;
+    let mut c: usize = 0;
+    while c < 16 {
+        let written = bits::has(o.writes, c as u32);
+        let taken = bits::has(o.taken, c as u32);
+        ok = ok & (!(written & !taken) | room(base[c], reached[c]));
+        c += 1;
+    }
+    ok
+}
+
+// An open change "that touches an absent card or has yet to write a card at base + 48 or 60,000", or whose vector is outside the limits, is not.
+pub fn place_sound(o: Place, base: [u32; 16], reached: [u32; 16], head: Head) -> bool
+    ensures { λ r. ⌜ r ≡ placeSound limits16 (modelOf [] [] [] [] [] base [] [] reached [] [] 0 head) (openOf o) ⌝ }
+{
+    let touched = bits::union(o.reads, o.writes);
+    let inside = bits::within(touched, head.cards);
+    let fit = writes_fit(o, base, reached);
+    let v = o.vector;
+    let cards = head.cards as usize;
+    let entries = entries_sound(v, cards);
+    !(o.number != 0) | (inside & fit & entries)
+}
+
+fn all_places_sound(places: [Place; 8], base: [u32; 16], reached: [u32; 16], head: Head) -> bool
+    ensures { λ r. ⌜ r ≡ allBelow (limits16 .places) (λ p. placeSound limits16 (modelOf [] [] [] [] [] base [] [] reached [] [] 0 head) (openAt places p)) ⌝ }
+{
+    let mut ok = true;
+    let mut p: usize = 0;
+    while p < 8 {
+        let o = places[p];
+        ok = ok & place_sound(o, base, reached, head);
+        p += 1;
+    }
+    ok
+}
+
+// A cabinet that is not refused with 28.
+pub fn cabinet_sound<'a>(
+    entries: &'a [u32; 12288],
+    makers: &'a [u32; 768],
+    last: [Vector; 16],
+    pending: [Vector; 16],
+    places: [Place; 8],
+    base: [u32; 16],
+    stored: [u32; 16],
+    held: [u32; 16],
+    reached: [u32; 16],
+    line: [u32; 16],
+    head: Head,
+) -> bool
+    ensures { λ r. ⌜ r ≡ sound limits16 (modelOf (now (entries .entry)) (now (makers .entry)) last pending places base stored held reached line [] 0 head) ⌝ }
+{
+    let session = session_sound(head);
+    let number = cards_sound(head);
+    let cards = all_cards_sound(
+        entries,
+        makers,
+        last,
+        pending,
+        base,
+        stored,
+        held,
+        reached,
+        line,
+        head,
+    );
+    let open = all_places_sound(places, base, reached, head);
+    session & number & cards & open
+}
