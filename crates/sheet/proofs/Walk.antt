@@ -1,0 +1,308 @@
+-- The walk over sheets and frames: what is left of it at each place gives the whole. Assumes nothing.
+use Prim.Native.Nat.{ℕ, zero, suc, _+_, _*_, _-_, _%_, _≤_, _<_, zero-le}
+use mathlib.Core.Path.{_≡_, refl, sym, _∙_, ap}
+use mathlib.Core.Bool.{Bool, true, false, _||_, cond}
+use mathlib.Core.List.{List, [], _∷_, _++_}
+use mathlib.Core.Logic.{_⊎_, inl, inr, ⊎-elim}
+use native.Mathlib.Omega.{arith}
+use lib.Dec.{eqb}
+use lib.ListN.{length, take, drop, getD, set, replicate, length-set}
+use lib.Seq.{sets, drop-drop, length-sets}
+use borrow.Author.Tests.{eq-eqb, ne-eqb, eqb-true}
+use Rattle.refusal.specs.declared.Refusal.{Refusal}
+use Rattle.laws.proofs.Logic.{test, or-elim, cond-case}
+use Rattle.line.specs.declared.Sums.{Sums}
+use Rattle.line.proofs.Lines.{whole-room}
+use Rattle.frame.specs.declared.Verdict.{Verdict}
+use Rattle.frame.specs.declared.Verdict.the-variants.{Accepted, Refused}
+use Rattle.frame.specs.declared.Header.{Header}
+use Rattle.frame.specs.declared.HeaderLine.the-variants.{Read as header-read, Fault as header-fault}
+use Rattle.frame.specs.declared.Frame.{Frame}
+use Rattle.frame.specs.declared.FrameRead.{FrameRead}
+use Rattle.frame.specs.declared.FrameLine.{FrameLine}
+use Rattle.frame.specs.declared.FrameLine.the-variants.{Read as frame-read, Fault as frame-fault}
+use Rattle.frame.specs.Format.{Format, format}
+use Rattle.frame.specs.Lines.{startOf, headerIn, headerVerdict, headerOr, headerTold, frameIn, frameAllowed, frameVerdict, frameReadOf, frameTold, padded, noFrame, entriesIn}
+use Rattle.frame.proofs.Passed.{header-passed, header-within, frame-passed, Header-in-limits}
+use Rattle.frame.proofs.Judged.{entries-same, padded-at, entries-count}
+use Rattle.sheet.specs.declared.Readout.{Readout}
+use Rattle.sheet.specs.declared.Reading.{Reading}
+use Rattle.sheet.specs.Pages.{Page, Frames, withFrame, readFrames, framesOf, Sheets, withSheet, readSheet, ended, moreSheets, readSheets}
+use Rattle.sheet.specs.Walk.{placeOf, noReadout, layHeader, layFrame, layFrames, layPage, layPages, laid, readingOf}
+
+-- ---- answers told apart
+
+-- a verdict accepts, or refuses with some refusal
+pub accepts-or : (v : Verdict) → (v ≡ Accepted) ⊎ ((r : Refusal) × (v ≡ Refused r))
+accepts-or Accepted = inl refl
+accepts-or (Refused r) = inr (r, refl)
+
+pub header-read-is : (v : Verdict) (h g : Header) → headerOr v h ≡ header-read g → (v ≡ Accepted) × (h ≡ g)
+header-read-is Accepted h g e = (refl, cc)
+header-read-is (Refused r) h g e = let z : _≡_ {A = ℕ} 0 1 = cc in absurd (omega arith)
+
+pub header-fault-is : (v : Verdict) (h : Header) (r : Refusal) → headerOr v h ≡ header-fault r → v ≡ Refused r
+header-fault-is Accepted h r e = let z : _≡_ {A = ℕ} 0 1 = cc in absurd (omega arith)
+header-fault-is (Refused q) h r e = let i : q ≡ r = cc in ap Refused i
+
+pub frame-read-is : (v : Verdict) (fr : Frame) (change : ℕ) → frameReadOf v fr .line ≡ frame-read change → (v ≡ Accepted) × (fr .change ≡ change)
+frame-read-is Accepted fr change e = (refl, cc)
+frame-read-is (Refused r) fr change e = let z : _≡_ {A = ℕ} 0 1 = cc in absurd (omega arith)
+
+pub frame-fault-is : (v : Verdict) (fr : Frame) (r : Refusal) → frameReadOf v fr .line ≡ frame-fault r → v ≡ Refused r
+frame-fault-is Accepted fr r e = let z : _≡_ {A = ℕ} 0 1 = cc in absurd (omega arith)
+frame-fault-is (Refused q) fr r e = let i : q ≡ r = cc in ap Refused i
+
+-- ---- what is left of the walk
+
+-- the sheets left where `first` is the first sheet's number of cards, or 0 before it
+abbrev pub going : Bool → ℕ → ℕ → ℕ → List ℕ → Sheets
+going all first left due input = cond (eqb first 0) (readSheets format all due input) (moreSheets format left due first input)
+
+-- frames laid from a state on, and what follows where they are accepted
+abbrev pub laidOn : Verdict → Readout → List ℕ → (List ℕ → Sheets) → Reading
+laidOn Accepted r rest next = laid r (next rest)
+laidOn (Refused x) r rest next = record { readout = r; verdict = Refused x }
+
+abbrev pub laidFrames : ℕ → ℕ → ℕ → Readout → Frames → (List ℕ → Sheets) → Reading
+laidFrames card state k r fs next = laidOn (fs .verdict) (layFrames card state k (fs .frames) r) (fs .rest) next
+
+-- a sheet whose header is accepted goes on with its frames
+pub sheet-on :
+    (v : Verdict) (h : Header) (fs : Frames) (input : List ℕ) (r : Readout) (next : List ℕ → Sheets) →
+    v ≡ Accepted →
+    laid r (withSheet v (fs .verdict) h fs input (next (fs .rest))) ≡ laidFrames (h .card) (h .base + 1) 0 (layHeader h r) fs next
+sheet-on v h fs input r next e = rw e (by (fs .verdict))
+  where
+    by : (w : Verdict) → laid r (withSheet Accepted w h fs input (next (fs .rest))) ≡ laidOn w (layFrames (h .card) (h .base + 1) 0 (fs .frames) (layHeader h r)) (fs .rest) next
+    by Accepted = refl
+    by (Refused x) = refl
+
+-- a frame that is accepted goes on with the frames behind it
+pub frame-on :
+    (card state k : ℕ) (r : Readout) (fr : Frame) (input : List ℕ) (fs : Frames) (next : List ℕ → Sheets) →
+    laidFrames card state k r (withFrame Accepted fr input fs) next ≡ laidFrames card (state + 1) (k + 1) (layFrame card state k fr r) fs next
+frame-on card state k r fr input fs next = refl
+
+-- the frame before, with its entries in an array
+abbrev pub paddedFrame : Frame → Frame
+paddedFrame fr = record { change = fr .change; entries = padded (fr .entries) }
+
+verdict-padded :
+    (start : Sums) (card n state : ℕ) (last : Frame) (input : List ℕ) → length (last .entries) ≤ 16 → frameVerdict format start card n state (paddedFrame last) input ≡ frameVerdict format start card n state last input
+unfolding frameVerdict frameAllowed
+verdict-padded start card n state last input h = rw (entries-same card state n (padded (last .entries)) (last .entries) (frameIn format n input .entries) (frameIn format n input .entries) (padded-at (last .entries) h) (λ j. refl))
+
+pub frames-padded :
+    (start : Sums) (card n k state : ℕ) (last : Frame) (input : List ℕ) → length (last .entries) ≤ 16 → readFrames format start card n k state (paddedFrame last) input ≡ readFrames format start card n k state last input
+frames-padded start card n zero state last input h = refl
+frames-padded start card n (suc k) state last input h = rw (verdict-padded start card n state last input h)
+
+-- ---- the records of the two loops
+
+-- at the head of the loop over sheets
+pub record Outer (s : List ℕ) (card : ℕ) (all : Bool) (r : Readout) (at due first left : ℕ) : Type 0 where
+  pub begun : first ≡ 0 → left ≡ 1
+  pub goes-on : laid r (going all first left due (drop at s)) ≡ readingOf all card s
+
+-- at the head of the loop over frames
+pub record Inner (s : List ℕ) (card : ℕ) (all : Bool) (due left n base count session i : ℕ) (r : Readout) (at : ℕ) (last : Frame) (k : ℕ) : Type 0 where
+  pub index : i ≡ due
+  pub below : due < n
+  pub cards : n ≤ 16
+  pub some : 0 < left
+  pub frames : count ≤ 48
+  pub states : base + count ≤ 60000
+  pub passed : k ≤ count
+  pub goes-on :
+    laidFrames due (base + 1 + k) k r (readFrames format (format .start due session) due n (count - k) (base + 1 + k) last (drop at s)) (moreSheets format (left - 1) (due + 1) n)
+    ≡ readingOf all card s
+
+-- a number is 0 or not
+pub zero-or : (n : ℕ) → (n ≡ 0) ⊎ (n ≡ 0 → ⊥)
+zero-or zero = inl refl
+zero-or (suc n) = inr (λ e. omega arith)
+
+-- a number of cards that agrees with the first sheet's is it
+same-cards : (n first : ℕ) → (first ≡ 0 → ⊥) → (eqb first 0 || eqb n first) ≡ true → n ≡ first
+same-cards n first z e = ⊎-elim (λ (p : eqb first 0 ≡ true). absurd (z (eqb-true first 0 p))) (λ (p : eqb n first ≡ true). eqb-true n first p) (or-elim (eqb first 0) (eqb n first) e)
+
+pub lift-pos : (n : ℕ) → (n ≡ 0 → ⊥) → 0 < n
+lift-pos n h = omega arith
+
+-- ---- from place to place
+
+pub outer-start : (s : List ℕ) (card : ℕ) (all : Bool) → Outer s card all noReadout 0 card 0 1
+unfolding readingOf
+outer-start s card all =
+    record { begun = λ e. refl; goes-on = refl }
+
+module _ {s : List ℕ} {card : ℕ} {all : Bool} {r : Readout} {at due first left : ℕ} (o : Outer s card all r at due first left) where
+  -- what is left at the head of the loop, where this is the first sheet and where it is not
+  first-on : first ≡ 0 → laid r (readSheets format all due (drop at s)) ≡ readingOf all card s
+  first-on e = rw (eq-eqb first 0 e) at (o .goes-on)
+
+  more-on : (first ≡ 0 → ⊥) → laid r (moreSheets format left due first (drop at s)) ≡ readingOf all card s
+  more-on e = rw (ne-eqb first 0 e) at (o .goes-on)
+
+  pub outer-end : left ≡ 0 → {v : Verdict} → v ≡ ended (drop at s) .verdict → _≡_ {A = Reading} (record { readout = r; verdict = v }) (readingOf all card s)
+  outer-end e {v} q =
+      let g : laid r (moreSheets format 0 due first (drop at s)) ≡ readingOf all card s = rw e at (more-on (λ z. omega (arith, o .begun z))) in
+      rw q g
+
+  fault-on : {x : Refusal} → 0 < left → headerVerdict format due first (drop at s) ≡ Refused x → (first ≡ 0) ⊎ (first ≡ 0 → ⊥) → _≡_ {A = Reading} (record { readout = r; verdict = Refused x }) (readingOf all card s)
+  unfolding readSheets
+  fault-on {x} l e (inl z) =
+      let e′ : headerVerdict format due 0 (drop at s) ≡ Refused x = rw z at e in
+      rw e′ at (first-on z)
+  fault-on {x} l e (inr z) =
+      let q : left ≡ suc (left - 1) = omega arith in
+      rw e at (rw q at (more-on z))
+
+  pub outer-fault : {x : Refusal} → 0 < left → headerVerdict format due first (drop at s) ≡ Refused x → _≡_ {A = Reading} (record { readout = r; verdict = Refused x }) (readingOf all card s)
+  outer-fault l e = fault-on l e (zero-or first)
+
+  -- the sheets left with this one, as the code counts them
+  abbrev now-left : ℕ → ℕ
+  now-left n = cond (eqb first 0) (cond all n left) left
+
+  -- what is left, where a sheet is due, as one sheet and what follows it
+  sheet-first : first ≡ 0 → left ≡ 1 → (n : ℕ) → cond all (n - 1) 0 ≡ now-left n - 1
+  sheet-first e l n = rw (eq-eqb first 0 e) (by all)
+    where
+      by : (b : Bool) → cond b (n - 1) 0 ≡ cond b n left - 1
+      by true = refl
+      by false = rw l refl
+
+  left-some : (n : ℕ) → 0 < n → 0 < left → 0 < now-left n
+  left-some n h l = cond-case (λ (x : ℕ). 0 < x) (eqb first 0) (λ e. cond-case (λ (x : ℕ). 0 < x) all (λ e. h) (λ e. l)) (λ e. l)
+
+  inner-on :
+      (h : Header) →
+      h ≡ headerIn format (drop at s) →
+      headerVerdict format due first (drop at s) ≡ Accepted →
+      0 < left →
+      (first ≡ 0) ⊎ (first ≡ 0 → ⊥) →
+      laidFrames (h .card) (h .base + 1) 0 (layHeader h r) (framesOf format h (drop at s)) (moreSheets format (now-left (h .cards) - 1) (due + 1) (h .cards)) ≡ readingOf all card s
+  unfolding readSheets
+  inner-on h q e l (inl z) =
+      let e′ : headerVerdict format due 0 (drop at s) ≡ Accepted = rw z at e in
+      rw (q, ← sheet-first z (o .begun z) (headerIn format (drop at s) .cards))
+      (sym (sheet-on (headerVerdict format due 0 (drop at s)) (headerIn format (drop at s)) (framesOf format (headerIn format (drop at s)) (drop at s)) (drop at s) r (moreSheets format (cond all (headerIn format (drop at s) .cards - 1) 0) (due + 1) (headerIn format (drop at s) .cards)) e′)
+      ∙ first-on z)
+  inner-on h q e l (inr z) =
+      let g = headerIn format (drop at s) in
+      let m : left ≡ suc (left - 1) = omega arith in
+      let n : now-left (g .cards) ≡ left = rw (ne-eqb first 0 z) refl in
+      let c : g .cards ≡ first = same-cards (g .cards) first z (header-within format due first (drop at s) e .agrees) in
+      rw (q, n)
+      (ap (λ (x : ℕ). laidFrames (g .card) (g .base + 1) 0 (layHeader g r) (framesOf format g (drop at s)) (moreSheets format (left - 1) (due + 1) x)) c
+      ∙ sym (sheet-on (headerVerdict format due first (drop at s)) g (framesOf format g (drop at s)) (drop at s) r (moreSheets format (left - 1) (due + 1) first) e)
+      ∙ rw m at (more-on z))
+
+  -- a header that is accepted leads to the loop over its frames
+  pub outer-inner :
+      (h : Header) {left′ i : ℕ} →
+      0 < left →
+      h ≡ headerIn format (drop at s) →
+      headerVerdict format due first (drop at s) ≡ Accepted →
+      left′ ≡ now-left (h .cards) →
+      i ≡ due →
+      Inner s card all due left′ (h .cards) (h .base) (h .count) (h .session) i (layHeader (record { session = h .session; card = due; cards = h .cards; base = h .base; count = h .count }) r) (at + 25) noFrame 0
+  outer-inner h {left′} l q e m i =
+      let w : Header-in-limits format due first h = rw q (header-within format due first (drop at s) e) in
+      let c : h .card ≡ due = w .card in
+      let b : h .base + 1 + 0 ≡ h .base + 1 = omega arith in
+      let k : h .count - 0 ≡ h .count = omega arith in
+      record
+        { index = i
+        ; below = rw (← c) (w .below)
+        ; cards = w .cards
+        ; some = rw m (left-some (h .cards) (omega (arith, w .below)) l)
+        ; frames = w .count
+        ; states = w .states
+        ; passed = zero-le
+        ; goes-on =
+            rw (b, k, m, ← drop-drop 25 at s)
+            (ap (λ (x : ℕ). laidFrames x (h .base + 1) 0 (layHeader (record { session = h .session; card = x; cards = h .cards; base = h .base; count = h .count }) r) (readFrames format (format .start due (h .session)) x (h .cards) (h .count) (h .base + 1) noFrame (drop 25 (drop at s))) (moreSheets format (now-left (h .cards) - 1) (due + 1) (h .cards))) (sym c)
+            ∙ inner-on h q e l (zero-or first))
+        }
+
+module _ {s : List ℕ} {card : ℕ} {all : Bool} {due left n base count session i : ℕ} {r : Readout} {at : ℕ} {last : Frame} {k : ℕ} (o : Inner s card all due left n base count session i r at last k) where
+  abbrev frames-left : ℕ → ℕ → Frame → List ℕ → Frames
+  frames-left m state before input = readFrames format (format .start due session) due n m state before input
+
+  abbrev then-sheets : List ℕ → Sheets
+  then-sheets = moreSheets format (left - 1) (due + 1) n
+
+  -- one frame is due: its verdict decides
+  frame-due : k < count → laidFrames due (base + 1 + k) k r (frames-left (suc (count - (k + 1))) (base + 1 + k) last (drop at s)) then-sheets ≡ readingOf all card s
+  frame-due h = let m : count - k ≡ suc (count - (k + 1)) = omega arith in rw m at (o .goes-on)
+
+  pub inner-fault : {x : Refusal} → k < count → frameVerdict format (format .start due session) due n (base + 1 + k) last (drop at s) ≡ Refused x → _≡_ {A = Reading} (record { readout = r; verdict = Refused x }) (readingOf all card s)
+  inner-fault h e = rw e at (frame-due h)
+
+  -- behind the last frame the next sheet is due
+  pub inner-end : count ≤ k → Outer s card all r at (due + 1) n (left - 1)
+  inner-end h =
+      let m : count - k ≡ 0 = omega arith in
+      let z : n ≡ 0 → ⊥ = λ (e : n ≡ 0). omega (arith, o .below) in
+      record { begun = λ e. absurd (z e); goes-on = rw (ne-eqb n 0 z) (rw m at (o .goes-on)) }
+
+  entries-within : length (frameIn format n (drop at s) .entries) ≤ 16
+  unfolding frameIn
+  entries-within = rw (entries-count n (drop 12 (drop at s))) (o .cards)
+
+  -- a frame that is accepted is taken in
+  pub inner-step :
+      (fr : Frame) →
+      k < count →
+      fr ≡ frameIn format n (drop at s) →
+      frameVerdict format (format .start due session) due n (base + 1 + k) last (drop at s) ≡ Accepted →
+      Inner s card all due left n base count session i (layFrame due (base + 1 + k) k fr r) (at + (17 + n * 4)) (paddedFrame fr) (k + 1)
+  inner-step fr h q e =
+      let b : base + 1 + (k + 1) ≡ base + 1 + k + 1 = omega arith in
+      let d : at + (17 + n * 4) ≡ at + (12 + n * 4 + 5) = omega arith in
+      let input = drop at s in
+      let l : length (frameIn format n input .entries) ≤ 16 = entries-within in
+      record
+        { index = o .index
+        ; below = o .below
+        ; cards = o .cards
+        ; some = o .some
+        ; frames = o .frames
+        ; states = o .states
+        ; passed = omega arith
+        ; goes-on =
+            rw (q, b, d, ← drop-drop (12 + n * 4 + 5) at s, frames-padded (format .start due session) due n (count - (k + 1)) (base + 1 + k + 1) (frameIn format n input) (drop (12 + n * 4 + 5) input) l)
+            (rw e at (frame-due h))
+        }
+
+  -- the same, with the frame as the code has it
+  pub inner-again :
+      {change : ℕ} {es stored : List ℕ} →
+      k < count →
+      frameVerdict format (format .start due session) due n (base + 1 + k) last (drop at s) ≡ Accepted →
+      frameIn format n (drop at s) .change ≡ change →
+      es ≡ padded (frameIn format n (drop at s) .entries) →
+      stored ≡ sets (r .entries) (placeOf due (base + 1 + k) * 16) es →
+      Inner s card all due left n base count session i
+      (record { changes = set (r .changes) (placeOf due (base + 1 + k)) change; entries = stored; sessions = r .sessions; bases = r .bases; counts = set (r .counts) i (k + 1); cards = r .cards })
+      (at + (17 + n * 4))
+      (record { change = change; entries = es })
+      (k + 1)
+  inner-again h e p q t = rw (t, q, ← p, o .index) (rw (o .index) at (inner-step (frameIn format n (drop at s)) h refl e))
+
+-- the measure of the loop over sheets falls
+pub sheets-fewer :
+    (all : Bool) (first left n left′ : ℕ) → left′ ≡ cond (eqb first 0) (cond all n left) left → (first ≡ 0 → left ≡ 1) → 0 < left → 0 < n → n ≤ 16 → cond (eqb n 0) 17 (left′ - 1) < cond (eqb first 0) 17 left
+sheets-fewer all first left n left′ e b l p q = rw (ne-eqb n 0 (λ (z : n ≡ 0). omega arith)) (by (zero-or first))
+  where
+    by : (first ≡ 0) ⊎ (first ≡ 0 → ⊥) → left′ - 1 < cond (eqb first 0) 17 left
+    by (inl z) =
+        let m : left′ ≡ cond all n left = e ∙ rw (eq-eqb first 0 z) in
+        let c : cond all n left ≤ 16 = cond-case (λ (x : ℕ). x ≤ 16) all (λ t. q) (λ t. omega (arith, b z)) in
+        rw (eq-eqb first 0 z) (omega arith)
+    by (inr z) =
+        let m : left′ ≡ left = e ∙ rw (ne-eqb first 0 z) in
+        rw (ne-eqb first 0 z) (omega arith)

@@ -1,0 +1,21 @@
+-- `sheet::end_at` judges what stands behind the last sheet. Assumes nothing.
+use Prim.Native.Nat.{_-_}
+use mathlib.Core.Path.{_≡_, refl, sym, _∙_, ap}
+use borrow.Author.Needs.{needs}
+use native.Mathlib.Omega.{arith}
+use borrow.Author.Tests.{eq-eqb, ne-eqb}
+use lib.Dec.{eqb}
+use lib.ListN.{length, drop, length-drop}
+use Rattle.sheet.proofs.end_at.Statement.{statement}
+use Rattle.sheet.proofs.end_at.Tie as tie
+use Rattle.sheet.proofs.end_at.Reads as reads
+use Rattle.sheet.proofs.end_at.Lts as lts
+
+returns : tie.Need-returns
+returns c = rw (length-drop (c .before .args .at) (c .before .args .s .now), ne-eqb (length (c .before .args .s .now) - c .before .args .at) 0 (omega arith))
+
+returns-2 : tie.Need-returns-2
+returns-2 c = rw (length-drop (c .before .args .at) (c .before .args .s .now), eq-eqb (length (c .before .args .s .now) - c .before .args .at) 0 (omega arith))
+
+pub end-at-spec : {M : Type 1} → statement M
+end-at-spec = tie.close (tie.spec returns returns-2)

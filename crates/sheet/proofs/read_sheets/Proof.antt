@@ -1,0 +1,292 @@
+-- `sheet::read_sheets` reads sheets. At each place, going on from what is taken in so far gives the whole. Assumes nothing.
+use Prim.Native.Nat.{ℕ, _+_, _*_, _-_, _≤_, _<_}
+use mathlib.Core.Bool.{cond}
+use mathlib.Core.Path.{_≡_, refl, sym, _∙_, ap}
+use borrow.Author.Needs.{needs}
+use native.Mathlib.Omega.{arith}
+use lib.Dec.{eqb}
+use lib.ListN.{length, drop}
+use Rattle.line.proofs.Lines.{whole-room}
+use mathlib.Core.List.{List}
+use Rattle.frame.specs.declared.Verdict.{Verdict}
+use Rattle.frame.specs.declared.Verdict.the-variants.{Accepted, Refused}
+use Rattle.frame.specs.declared.Header.{Header}
+use Rattle.frame.specs.declared.Frame.{Frame}
+use Rattle.frame.specs.declared.FrameRead.{FrameRead}
+use Rattle.frame.specs.declared.FrameLine.the-variants.{Read as frame-read}
+use Rattle.frame.specs.Format.{format}
+use Rattle.frame.specs.Lines.{headerIn, headerVerdict, headerTold, frameIn, frameVerdict, frameReadOf, frameTold, padded}
+use Rattle.frame.proofs.Passed.{Header-in-limits, header-within, header-passed, frame-passed}
+use Rattle.sheet.proofs.Walk.{Outer, Inner, header-read-is, header-fault-is, frame-read-is, frame-fault-is, outer-start, outer-end, outer-fault, outer-inner, inner-fault, inner-end, inner-again, sheets-fewer, lift-pos}
+use Rattle.sheet.proofs.read_sheets.Statement.{statement}
+use Rattle.sheet.proofs.read_sheets.Tie as tie
+use Rattle.sheet.proofs.read_sheets.Reads as reads
+use Rattle.sheet.proofs.read_sheets.Lts as lts
+use Rattle.frame.proofs.frame_at.Reads as frame-at-reads
+use Rattle.frame.proofs.frame_told.Reads as frame-told-reads
+use Rattle.frame.proofs.header_at.Reads as header-at-reads
+use Rattle.frame.proofs.header_told.Reads as header-told-reads
+use Rattle.frame.proofs.start_of.Reads as start-of-reads
+use Rattle.sheet.proofs.end_at.Reads as end-at-reads
+use Rattle.sheet.proofs.sheets_left.Reads as sheets-left-reads
+use Rattle.sheet.proofs.store_entries.Reads as store-entries-reads
+
+abbrev Inv-loop : tie.InvT-loop
+Inv-loop s card all r₀ at₀ due first left n base count session i last₀ k₀ r at last k = Inner s card all due left n base count session i r at last k
+
+abbrev μ-loop : tie.MeasureT-loop
+μ-loop s card all r₀ at₀ due first left n base count session i last₀ k₀ r at last k = count - k
+
+abbrev Inv-sheets : tie.InvT-sheets
+Inv-sheets s card all r₀ at₀ due₀ first₀ left₀ r at due first left = Outer s card all r at due first left
+
+abbrev μ-sheets : tie.MeasureT-sheets
+μ-sheets s card all r₀ at₀ due₀ first₀ left₀ r at due first left = cond (eqb first 0) 17 left
+
+-- the header that was read is accepted
+header-is : (c : tie.After-known-told Inv-loop μ-loop Inv-sheets μ-sheets) → (headerVerdict format (c .before .before .before .before .before .sheets .due) (c .before .before .before .before .before .sheets .first) (drop (c .before .before .before .before .before .sheets .at) (c .before .before .before .before .before .before .before .args .s .now)) ≡ Accepted) × (headerIn format (drop (c .before .before .before .before .before .sheets .at) (c .before .before .before .before .before .before .before .args .s .now)) ≡ c .before .line .given .0 .0)
+header-is c = header-read-is _ _ _ (sym (c .before .before .before .header-at .ensures) ∙ c .before .line .given .1)
+
+header-limits : (c : tie.After-known-told Inv-loop μ-loop Inv-sheets μ-sheets) → Header-in-limits format (c .before .before .before .before .before .sheets .due) (c .before .before .before .before .before .sheets .first) (headerIn format (drop (c .before .before .before .before .before .sheets .at) (c .before .before .before .before .before .before .before .args .s .now)))
+header-limits c = header-within format _ _ _ (header-is c .0)
+
+-- the card that is due is within the limits
+due-small : (c : tie.After-known-told Inv-loop μ-loop Inv-sheets μ-sheets) → c .before .before .before .before .before .sheets .due < 16
+due-small c =
+    let w = header-limits c in
+    let e = w .card in
+    omega (arith, w .below, w .cards, e)
+
+-- where a frame line was read: the header of its sheet, what is left of the input, the frame there and its verdict
+abbrev At-frame : Type 0
+At-frame = tie.After-frame-at Inv-loop μ-loop Inv-sheets μ-sheets
+
+abbrev head : At-frame → Header
+head c = c .before .before .before .before .before .before .line .given .0 .0
+
+abbrev input : At-frame → List ℕ
+input c = drop (c .before .before .before .loop .at) (c .before .before .before .before .before .before .before .before .before .before .before .before .args .s .now)
+
+abbrev frame-of : At-frame → Frame
+frame-of c = frameIn format (head c .cards) (input c)
+
+abbrev verdict-of : At-frame → Verdict
+verdict-of c =
+    frameVerdict format (format .start (c .before .before .before .before .before .before .before .before .before .before .sheets .due) (head c .session)) (c .before .before .before .before .before .before .before .before .before .before .sheets .due) (head c .cards) (head c .base + 1 + c .before .before .before .loop .k) (c .before .before .before .loop .last) (input c)
+
+frame-told-is : (c : At-frame) → c .frame-at .result ≡ frameReadOf (verdict-of c) (frame-of c)
+frame-told-is c = rw (c .before .start-of .ensures) at (c .frame-at .ensures)
+
+-- the frame that was read is accepted
+frame-is : (c : At-frame) (change : ℕ) → c .frame-at .result .line ≡ frame-read change → (verdict-of c ≡ Accepted) × (frame-of c .change ≡ change)
+frame-is c change e = frame-read-is (verdict-of c) (frame-of c) change (sym (ap (λ (x : FrameRead). x .line) (frame-told-is c)) ∙ e)
+
+entries-is : (c : At-frame) → verdict-of c ≡ Accepted → c .frame-at .result .entries ≡ padded (frame-of c .entries)
+entries-is c e = ap (λ (x : FrameRead). x .entries) (frame-told-is c) ∙ ap (λ (v : Verdict). frameReadOf v (frame-of c) .entries) e
+
+-- the place where the frame goes is within the read-out
+room : (c : At-frame) → verdict-of c ≡ Accepted → c .before .before .before .loop .at + (12 + head c .cards * 4) + 5 ≤ length (c .before .before .before .before .before .before .before .before .before .before .before .before .args .s .now)
+room c e = whole-room (12 + head c .cards * 4) (c .before .before .before .loop .at) (c .before .before .before .before .before .before .before .before .before .before .before .before .args .s .now) (frame-passed format _ _ _ _ _ _ e .whole)
+
+sheets-holds : tie.Need-sheets-holds Inv-loop μ-loop Inv-sheets μ-sheets
+sheets-holds c = outer-start (c .before .args .s .now) (c .before .args .card) (c .before .args .all)
+
+end-at-requires : tie.Need-end-at-requires Inv-loop μ-loop Inv-sheets μ-sheets
+end-at-requires c κs = search needs
+
+header-at-requires : tie.Need-header-at-requires Inv-loop μ-loop Inv-sheets μ-sheets
+header-at-requires c κs = search needs
+
+enum-known-line : tie.Need-enum-known-line Inv-loop μ-loop Inv-sheets μ-sheets
+enum-known-line c = search needs
+
+enum-told : tie.Need-enum-told Inv-loop μ-loop Inv-sheets μ-sheets
+enum-told c = search needs
+
+header-told-requires : tie.Need-header-told-requires Inv-loop μ-loop Inv-sheets μ-sheets
+header-told-requires c κs = search needs
+
+cast-i : tie.Need-cast-i Inv-loop μ-loop Inv-sheets μ-sheets
+cast-i c = omega (arith, due-small c)
+
+mul-r : tie.Need-mul-r Inv-loop μ-loop Inv-sheets μ-sheets
+mul-r c = omega (arith, due-small c)
+
+element-write-r : tie.Need-element-write-r Inv-loop μ-loop Inv-sheets μ-sheets
+element-write-r c = due-small c
+
+mul-r-2 : tie.Need-mul-r-2 Inv-loop μ-loop Inv-sheets μ-sheets
+mul-r-2 c = omega (arith, due-small c)
+
+element-write-r-2 : tie.Need-element-write-r-2 Inv-loop μ-loop Inv-sheets μ-sheets
+element-write-r-2 c = due-small c
+
+sheets-left-requires : tie.Need-sheets-left-requires Inv-loop μ-loop Inv-sheets μ-sheets
+sheets-left-requires c κs = search needs
+
+add-at : tie.Need-add-at Inv-loop μ-loop Inv-sheets μ-sheets
+add-at c =
+    let a = c .before .before .before .before .before .before .before .before .args in
+    let w : c .before .before .before .before .before .before .sheets .at + 20 + 5 ≤ length (a .s .now) = whole-room 20 (c .before .before .before .before .before .before .sheets .at) (a .s .now) (header-passed format _ _ _ (header-is (c .before) .0) .whole) in
+    omega (arith, c .before .before .before .before .before .before .before .before .good .0 .0)
+
+loop-holds : tie.Need-loop-holds Inv-loop μ-loop Inv-sheets μ-sheets
+loop-holds c =
+    let h = c .before .before .line .given .0 .0 in
+    outer-inner (c .before .before .before .before .before .before .sheets .inv) h (lift-pos _ (c .before .before .before .before .before .if1 .left)) (sym (header-is (c .before) .1)) (header-is (c .before) .0) (c .sheets-left .ensures) refl
+
+add-state : tie.Need-add-state Inv-loop μ-loop Inv-sheets μ-sheets
+add-state c = omega (arith, c .before .loop .inv .states)
+
+add-state-2 : tie.Need-add-state-2 Inv-loop μ-loop Inv-sheets μ-sheets
+add-state-2 c = omega (arith, c .before .loop .inv .states)
+
+start-of-requires : tie.Need-start-of-requires Inv-loop μ-loop Inv-sheets μ-sheets
+start-of-requires c κs = search needs
+
+frame-at-requires : tie.Need-frame-at-requires Inv-loop μ-loop Inv-sheets μ-sheets
+frame-at-requires c κs = c .before .before .loop .inv .cards
+
+enum-known-told : tie.Need-enum-known-told Inv-loop μ-loop Inv-sheets μ-sheets
+enum-known-told c = search needs
+
+enum-told-2 : tie.Need-enum-told-2 Inv-loop μ-loop Inv-sheets μ-sheets
+enum-told-2 c = search needs
+
+frame-told-requires : tie.Need-frame-told-requires Inv-loop μ-loop Inv-sheets μ-sheets
+frame-told-requires c κs = search needs
+
+mul-place : tie.Need-mul-place Inv-loop μ-loop Inv-sheets μ-sheets
+mul-place c = omega (arith, c .before .before .before .before .before .before .before .loop .inv .below, c .before .before .before .before .before .before .before .loop .inv .cards)
+
+add-place : tie.Need-add-place Inv-loop μ-loop Inv-sheets μ-sheets
+add-place c = omega (arith, c .before .before .before .before .before .before .before .loop .inv .below, c .before .before .before .before .before .before .before .loop .inv .cards)
+
+cast-place : tie.Need-cast-place Inv-loop μ-loop Inv-sheets μ-sheets
+cast-place c = omega (arith, c .before .before .before .before .before .before .before .loop .inv .below, c .before .before .before .before .before .before .before .loop .inv .cards)
+
+add-r : tie.Need-add-r Inv-loop μ-loop Inv-sheets μ-sheets
+add-r c = omega (arith, c .before .before .before .before .before .before .before .loop .inv .frames, c .before .before .before .before .before .before .before .loop .inv .passed, c .before .before .before .before .before .before .loop-test .taken)
+
+mul-r-3 : tie.Need-mul-r-3 Inv-loop μ-loop Inv-sheets μ-sheets
+mul-r-3 c = omega (arith, c .before .before .before .before .before .before .before .loop .inv .below, c .before .before .before .before .before .before .before .loop .inv .cards, c .before .before .before .before .before .before .before .loop .inv .index)
+
+element-write-r-3 : tie.Need-element-write-r-3 Inv-loop μ-loop Inv-sheets μ-sheets
+element-write-r-3 c = omega (arith, c .before .before .before .before .before .before .before .loop .inv .below, c .before .before .before .before .before .before .before .loop .inv .cards, c .before .before .before .before .before .before .before .loop .inv .index)
+
+mul-r-4 : tie.Need-mul-r-4 Inv-loop μ-loop Inv-sheets μ-sheets
+mul-r-4 c = omega (arith, c .before .before .before .before .before .before .before .loop .inv .below, c .before .before .before .before .before .before .before .loop .inv .cards)
+
+element-write-r-4 : tie.Need-element-write-r-4 Inv-loop μ-loop Inv-sheets μ-sheets
+element-write-r-4 c = omega (arith, c .before .before .before .before .before .before .before .loop .inv .below, c .before .before .before .before .before .before .before .loop .inv .cards)
+
+mul-store-entries : tie.Need-mul-store-entries Inv-loop μ-loop Inv-sheets μ-sheets
+mul-store-entries c = omega (arith, c .before .before .before .before .before .before .before .before .loop .inv .below, c .before .before .before .before .before .before .before .before .loop .inv .cards)
+
+store-entries-requires : tie.Need-store-entries-requires Inv-loop μ-loop Inv-sheets μ-sheets
+store-entries-requires c κs = omega (arith, c .before .before .before .before .before .before .before .before .loop .inv .below, c .before .before .before .before .before .before .before .before .loop .inv .cards)
+
+cast-at : tie.Need-cast-at Inv-loop μ-loop Inv-sheets μ-sheets
+cast-at c = omega (arith, c .before .before .before .before .before .before .before .before .before .loop .inv .cards)
+
+mul-at : tie.Need-mul-at Inv-loop μ-loop Inv-sheets μ-sheets
+mul-at c = omega (arith, c .before .before .before .before .before .before .before .before .before .loop .inv .cards)
+
+add-at-2 : tie.Need-add-at-2 Inv-loop μ-loop Inv-sheets μ-sheets
+add-at-2 c = omega (arith, c .before .before .before .before .before .before .before .before .before .loop .inv .cards)
+
+add-at-3 : tie.Need-add-at-3 Inv-loop μ-loop Inv-sheets μ-sheets
+add-at-3 c = omega (arith, room (c .before .before .before .before .before .before) (frame-is (c .before .before .before .before .before .before) _ (c .before .before .before .before .told .given .1) .0), c .before .before .before .before .before .before .before .before .before .before .before .before .before .before .before .before .before .before .good .0 .0)
+
+add-k : tie.Need-add-k Inv-loop μ-loop Inv-sheets μ-sheets
+add-k c = omega (arith, c .before .before .before .before .before .before .before .before .before .loop .inv .frames, c .before .before .before .before .before .before .before .before .loop-test .taken)
+
+loop-less : tie.Need-loop-less Inv-loop μ-loop Inv-sheets μ-sheets
+loop-less c = omega (arith, c .before .before .before .before .before .before .before .before .loop-test .taken)
+
+loop-again : tie.Need-loop-again Inv-loop μ-loop Inv-sheets μ-sheets
+loop-again c =
+    let e = frame-is (c .before .before .before .before .before .before) _ (c .before .before .before .before .told .given .1) in
+    inner-again (c .before .before .before .before .before .before .before .before .before .loop .inv) (c .before .before .before .before .before .before .before .before .loop-test .taken) (e .0) (e .1) (entries-is (c .before .before .before .before .before .before) (e .0)) (c .store-entries .ensures)
+
+add-due : tie.Need-add-due Inv-loop μ-loop Inv-sheets μ-sheets
+add-due c = omega (arith, c .before .loop .inv .below, c .before .loop .inv .cards)
+
+sub-left : tie.Need-sub-left Inv-loop μ-loop Inv-sheets μ-sheets
+sub-left c = omega (arith, c .before .loop .inv .some)
+
+sheets-less : tie.Need-sheets-less Inv-loop μ-loop Inv-sheets μ-sheets
+sheets-less c =
+    sheets-fewer (c .before .before .before .before .before .before .before .before .before .before .args .all) (c .before .before .before .before .before .before .before .before .sheets .first) (c .before .before .before .before .before .before .before .before .sheets .left) (c .before .before .before .before .line .given .0 .0 .cards) (c .before .before .sheets-left .result) (c .before .before .sheets-left .ensures) (c .before .before .before .before .before .before .before .before .sheets .inv .begun) (lift-pos _ (c .before .before .before .before .before .before .before .if1 .left)) (omega (arith, c .before .loop .inv .below)) (c .before .loop .inv .cards)
+
+sheets-again : tie.Need-sheets-again Inv-loop μ-loop Inv-sheets μ-sheets
+sheets-again c = inner-end (c .before .loop .inv) (c .loop-test .left)
+
+returns : tie.Need-returns Inv-loop μ-loop Inv-sheets μ-sheets
+returns c = outer-end (c .before .before .sheets .inv) (c .before .if1 .taken) (c .end-at .ensures)
+
+returns-2 : tie.Need-returns-2 Inv-loop μ-loop Inv-sheets μ-sheets
+returns-2 c =
+    let x = c .before .enum-told .given in
+    let e = header-fault-is _ _ (x .0 .0) (sym (c .before .before .before .header-at .ensures) ∙ x .1) in
+    rw (c .header-told .ensures, x .1) (outer-fault (c .before .before .before .before .before .sheets .inv) (lift-pos _ (c .before .before .before .before .if1 .left)) e)
+
+returns-3 : tie.Need-returns-3 Inv-loop μ-loop Inv-sheets μ-sheets
+returns-3 c =
+    let x = c .before .enum-told2 .given in
+    let e = frame-fault-is (verdict-of (c .before .before .before)) (frame-of (c .before .before .before)) (x .0 .0) (sym (ap (λ (y : FrameRead). y .line) (frame-told-is (c .before .before .before))) ∙ x .1) in
+    rw (c .frame-told .ensures, x .1) (inner-fault (c .before .before .before .before .before .before .loop .inv) (c .before .before .before .before .before .loop-test .taken) e)
+
+pub read-sheets-spec : {M : Type 1} → statement M
+read-sheets-spec =
+    tie.close
+    (tie.spec
+    Inv-loop
+    μ-loop
+    Inv-sheets
+    μ-sheets
+    sheets-holds
+    end-at-requires
+    header-at-requires
+    enum-known-line
+    enum-told
+    header-told-requires
+    cast-i
+    mul-r
+    element-write-r
+    mul-r-2
+    element-write-r-2
+    sheets-left-requires
+    add-at
+    loop-holds
+    add-state
+    add-state-2
+    start-of-requires
+    frame-at-requires
+    enum-known-told
+    enum-told-2
+    frame-told-requires
+    mul-place
+    add-place
+    cast-place
+    add-r
+    mul-r-3
+    element-write-r-3
+    mul-r-4
+    element-write-r-4
+    mul-store-entries
+    store-entries-requires
+    cast-at
+    mul-at
+    add-at-2
+    add-at-3
+    add-k
+    loop-less
+    loop-again
+    add-due
+    sub-left
+    sheets-less
+    sheets-again
+    returns
+    returns-2
+    returns-3)

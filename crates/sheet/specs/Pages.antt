@@ -1,0 +1,92 @@
+-- Document 01's sheets and read-outs as lists of frames: their bytes, and what a reader answers to any bytes.
+use Prim.Native.Nat.{ℕ, zero, suc, _+_, _-_}
+use mathlib.Core.Bool.{Bool, true, false, cond}
+use mathlib.Core.List.{List, [], _∷_, _++_}
+use lib.Dec.{eqb}
+use lib.ListN.{length, drop}
+use Rattle.refusal.specs.declared.Refusal.{Refusal}
+use Rattle.refusal.specs.declared.Refusal.the-variants.{EndOrMore}
+use Rattle.line.specs.declared.Sums.{Sums}
+use Rattle.frame.specs.declared.Verdict.{Verdict}
+use Rattle.frame.specs.declared.Verdict.the-variants.{Accepted, Refused}
+use Rattle.frame.specs.declared.Header.{Header}
+use Rattle.frame.specs.declared.Frame.{Frame}
+use Rattle.frame.specs.Format.{Format}
+use Rattle.frame.specs.Lines.{startOf, headerDigits, headerLine, headerIn, headerVerdict, frameDigits, frameLine, frameIn, frameVerdict, noFrame}
+
+-- a sheet: its header, and its frames from base + 1 on
+pub record Page : Type 0 where
+  pub header : Header
+  pub frames : List Frame
+
+-- ---- the bytes
+
+-- frames of n entries from a state on
+abbrev pub framesBytes : Format → Sums → ℕ → ℕ → List Frame → List ℕ
+framesBytes f start n state [] = []
+framesBytes f start n state (fr ∷ frs) = frameLine f start n state fr ++ framesBytes f start n (state + 1) frs
+
+-- a card's sheet
+abbrev pub pageBytes : Format → Page → List ℕ
+pageBytes f p = headerLine f (p .header) ++ framesBytes f (startOf f (p .header)) (p .header .cards) (p .header .base + 1) (p .frames)
+
+-- a read-out: "the sheets of all cards in card order, joined"
+abbrev pub pagesBytes : Format → List Page → List ℕ
+pagesBytes f [] = []
+pagesBytes f (p ∷ ps) = pageBytes f p ++ pagesBytes f ps
+
+-- ---- reading: "the reading stops at the first line at fault"
+
+-- frames read: those before the first line at fault, the verdict, what is left of the input
+pub record Frames : Type 0 where
+  pub frames : List Frame
+  pub verdict : Verdict
+  pub rest : List ℕ
+
+-- a frame line with its verdict, before the frames that follow where it is accepted
+abbrev pub withFrame : Verdict → Frame → List ℕ → Frames → Frames
+withFrame Accepted fr input next = record { frames = fr ∷ next .frames; verdict = next .verdict; rest = next .rest }
+withFrame (Refused r) fr input next = record { frames = []; verdict = Refused r; rest = input }
+
+-- k frames of n entries of a card, from a state on; `last` is the frame before
+abbrev pub readFrames : Format → Sums → ℕ → ℕ → ℕ → ℕ → Frame → List ℕ → Frames
+readFrames f start card n zero state last input = record { frames = []; verdict = Accepted; rest = input }
+readFrames f start card n (suc k) state last input =
+    withFrame (frameVerdict f start card n state last input) (frameIn f n input) input
+    (readFrames f start card n k (state + 1) (frameIn f n input) (drop (frameDigits f n + 5) input))
+
+-- the frames that a header declares, behind its line
+abbrev pub framesOf : Format → Header → List ℕ → Frames
+framesOf f h input = readFrames f (startOf f h) (h .card) (h .cards) (h .count) (h .base + 1) noFrame (drop (headerDigits f + 5) input)
+
+-- sheets read: those before the first line at fault, the last of them as far as it was read; the verdict; what is left of the input
+pub record Sheets : Type 0 where
+  pub pages : List Page
+  pub verdict : Verdict
+  pub rest : List ℕ
+
+-- a sheet with the verdicts of its header and of its frames, before the sheets that follow where both accept it
+abbrev pub withSheet : Verdict → Verdict → Header → Frames → List ℕ → Sheets → Sheets
+withSheet (Refused r) v h fs input next = record { pages = []; verdict = Refused r; rest = input }
+withSheet Accepted (Refused r) h fs input next = record { pages = record { header = h; frames = fs .frames } ∷ []; verdict = Refused r; rest = fs .rest }
+withSheet Accepted Accepted h fs input next =
+    record { pages = record { header = h; frames = fs .frames } ∷ next .pages; verdict = next .verdict; rest = next .rest }
+
+-- one sheet, where a card is due, and what follows it by its number of cards
+abbrev pub readSheet : Format → ℕ → ℕ → (ℕ → List ℕ → Sheets) → List ℕ → Sheets
+readSheet f due first next input =
+    withSheet (headerVerdict f due first input) (framesOf f (headerIn f input) input .verdict) (headerIn f input) (framesOf f (headerIn f input) input) input
+    (next (headerIn f input .cards) (framesOf f (headerIn f input) input .rest))
+
+-- after the last sheet: 8 where the input goes on
+abbrev pub ended : List ℕ → Sheets
+ended input = record { pages = []; verdict = cond (eqb (length input) 0) Accepted (Refused EndOrMore); rest = input }
+
+-- k further sheets of a read-out, in card order, each with the first sheet's number of cards
+abbrev pub moreSheets : Format → ℕ → ℕ → ℕ → List ℕ → Sheets
+moreSheets f zero due first input = ended input
+moreSheets f (suc k) due first input = readSheet f due first (λ cards rest. moreSheets f k (due + 1) first rest) input
+
+-- the first sheet, where a card is due, and then of a read-out (`all`) the sheets of the other cards
+unfoldable pub readSheets : Format → Bool → ℕ → List ℕ → Sheets
+readSheets f all due input = readSheet f due 0 (λ cards rest. moreSheets f (cond all (cards - 1) 0) (due + 1) cards rest) input

@@ -1,0 +1,73 @@
+-- What was read, as a read-out by value: for each card its session, base and count of frames; frames in a ring of 48 for each card, as a cabinet has them.
+use Prim.Native.Nat.{ℕ, _+_, _*_, _%_}
+use mathlib.Core.Bool.{Bool}
+use mathlib.Core.List.{List, [], _∷_}
+use lib.ListN.{set, replicate}
+use lib.Seq.{sets}
+use Rattle.frame.specs.declared.Verdict.{Verdict}
+use Rattle.frame.specs.declared.Header.{Header}
+use Rattle.frame.specs.declared.Frame.{Frame}
+use Rattle.frame.specs.Format.{format}
+use Rattle.frame.specs.Lines.{padded}
+use Rattle.sheet.specs.declared.Readout.{Readout}
+use Rattle.sheet.specs.declared.Reading.{Reading}
+use Rattle.sheet.specs.Pages.{Page, Sheets, readSheets}
+
+-- the place of a card's state among the frames
+abbrev pub placeOf : ℕ → ℕ → ℕ
+placeOf card state = card * 48 + state % 48
+
+-- the read-out of zeros
+abbrev pub noReadout : Readout
+noReadout =
+    record
+      { changes = replicate 768 0
+      ; entries = replicate 12288 0
+      ; sessions = replicate 16 0
+      ; bases = replicate 16 0
+      ; counts = replicate 16 0
+      ; cards = 0
+      }
+
+-- a header taken in
+abbrev pub layHeader : Header → Readout → Readout
+layHeader h r =
+    record
+      { changes = r .changes
+      ; entries = r .entries
+      ; sessions = set (r .sessions) (h .card) (h .session)
+      ; bases = set (r .bases) (h .card) (h .base)
+      ; counts = r .counts
+      ; cards = h .cards
+      }
+
+-- a frame taken in, k of its card's frames before it
+abbrev pub layFrame : ℕ → ℕ → ℕ → Frame → Readout → Readout
+layFrame card state k fr r =
+    record
+      { changes = set (r .changes) (placeOf card state) (fr .change)
+      ; entries = sets (r .entries) (placeOf card state * 16) (padded (fr .entries))
+      ; sessions = r .sessions
+      ; bases = r .bases
+      ; counts = set (r .counts) card (k + 1)
+      ; cards = r .cards
+      }
+
+abbrev pub layFrames : ℕ → ℕ → ℕ → List Frame → Readout → Readout
+layFrames card state k [] r = r
+layFrames card state k (fr ∷ frs) r = layFrames card (state + 1) (k + 1) frs (layFrame card state k fr r)
+
+abbrev pub layPage : Page → Readout → Readout
+layPage p r = layFrames (p .header .card) (p .header .base + 1) 0 (p .frames) (layHeader (p .header) r)
+
+abbrev pub layPages : List Page → Readout → Readout
+layPages [] r = r
+layPages (p ∷ ps) r = layPages ps (layPage p r)
+
+-- sheets read, taken in one after another
+abbrev pub laid : Readout → Sheets → Reading
+laid r w = record { readout = layPages (w .pages) r; verdict = w .verdict }
+
+-- all that was read up to the first line at fault, with the verdict
+unfoldable pub readingOf : Bool → ℕ → List ℕ → Reading
+readingOf all card input = laid noReadout (readSheets format all card input)

@@ -1,0 +1,127 @@
+// Card sheets and joined read-outs: read and written, by value.
+ghost use mathlib.Core.Path.{_≡_};
+ghost use Prim.Native.Nat.{_+_, _*_, _-_, _≤_, _<_};
+ghost use mathlib.Core.Bool.{cond};
+ghost use lib.ListN.{length, take, drop};
+ghost use lib.Seq.{sets};
+ghost use lib.Dec.{eqb};
+ghost use Rattle.sheet.specs.Pages.{ended};
+ghost use Rattle.sheet.specs.Walk.{readingOf};
+use refusal::Refusal;
+use frame::Header;
+use frame::Frame;
+use frame::HeaderLine;
+use frame::FrameLine;
+use frame::Verdict;
+
+// A read-out: for each card its session, base and number of frames, and the frames of all cards. The frame of a
+// card's state stands at card * 48 + state % 48, with 16 entries for each.
+pub struct Readout {
+    pub changes: [u32; 768],
+    pub entries: [u32; 12288],
+    pub sessions: [u32; 16],
+    pub bases: [u32; 16],
+    pub counts: [u32; 16],
+    pub cards: u32,
+}
+
+// What was read up to the first line at fault, and the verdict. The counts say how far it came.
+pub struct Reading {
+    pub readout: Readout,
+    pub verdict: Verdict,
+}
+
+// The verdict behind the last sheet: refused where the input goes on.
+fn end_at(s: &[u8], at: usize) -> Verdict
+    ensures { λ r. ⌜ r ≡ ended (drop at (now (s .entry))) .verdict ⌝ }
+{
+    if at < s.len() {
+        Verdict::Refused(Refusal::EndOrMore)
+    } else {
+        Verdict::Accepted
+    }
+}
+
+// How many sheets are left with this one: all cards' from the first sheet of a read-out on.
+fn sheets_left(all: bool, first: u32, left: u32, cards: u32) -> u32
+    ensures { λ r. ⌜ r ≡ cond (eqb first 0) (cond all cards left) left ⌝ }
+{
+    if first == 0 {
+        if all { cards } else { left }
+    } else {
+        left
+    }
+}
+
+// Stores the entries of a frame.
+fn store_entries(to: &mut [u32; 12288], at: usize, entries: [u32; 16])
+    requires { ⌜ at + 16 ≤ 12288 ⌝ }
+    ensures { λ r. ⌜ now (to .exit) ≡ sets (now (to .entry)) at entries ⌝ }
+{
+    let mut j = 0;
+    while j < 16 {
+        to[at + j] = entries[j];
+        j += 1;
+    }
+}
+
+// Reads the sheet of a card, and of a read-out (`all`) the sheets of the cards behind it. The reading stops at the
+// first line at fault.
+fn read_sheets(s: &[u8], card: u32, all: bool) -> Reading
+    ensures { λ r. ⌜ r ≡ readingOf all card (now (s .entry)) ⌝ }
+{
+    let mut r = Readout {
+        changes: [0u32; 768],
+        entries: [0u32; 12288],
+        sessions: [0u32; 16],
+        bases: [0u32; 16],
+        counts: [0u32; 16],
+        cards: 0,
+    };
+    let mut at: usize = 0;
+    let mut due = card;
+    let mut first: u32 = 0;
+    let mut left: u32 = 1;
+    let verdict = 'sheets: loop {
+        if left == 0 {
+            break 'sheets end_at(s, at);
+        }
+        let line = frame::header_at(s, at, due, first);
+        let HeaderLine::Read(h) = line else {
+            break 'sheets frame::header_told(line);
+        };
+        let n = h.cards;
+        let base = h.base;
+        let count = h.count;
+        let session = h.session;
+        let i = due as usize;
+        r.cards = n;
+        r.sessions[i] = session;
+        r.bases[i] = base;
+        left = sheets_left(all, first, left, n);
+        at += 25;
+        let mut last = Frame { change: 0, entries: [0u32; 16] };
+        let mut k: u32 = 0;
+        while k < count {
+            let state = base + 1 + k;
+            let start = frame::start_of(due, session);
+            let read = frame::frame_at(s, at, start, due, n, state, last);
+            let told = read.line;
+            let FrameLine::Read(change) = told else {
+                break 'sheets frame::frame_told(told);
+            };
+            let entries = read.entries;
+            let place = (due * 48 + state % 48) as usize;
+            r.counts[i] = k + 1;
+            r.changes[place] = change;
+            store_entries(&mut r.entries, place * 16, entries);
+            last = Frame { change, entries };
+            at += 17 + n as usize * 4;
+            k += 1;
+        }
+        first = n;
+        due += 1;
+        left -= 1;
+    };
+    Reading { readout: r, verdict }
+}
