@@ -180,8 +180,8 @@ unfolding frameAllowed stateIn frameIn
 frame-taken card n state at last s h e p q r =
     e
     ∙ rw (p, q, r, drop-drop 4 at s, drop-drop 12 at s)
-        (ap (λ (t : Bool). eqb (number (take 4 (drop at s))) state && (ltb (last .change) (number (take 8 (drop (at + 4) s))) && t))
-        (entries-same card state n (last .entries) (last .entries) (padded (entriesIn format n (drop (at + 12) s))) (entriesIn format n (drop (at + 12) s)) (λ j. refl) (padded-at (entriesIn format n (drop (at + 12) s)) (entries-length n (drop (at + 12) s) h))))
+    (ap (λ (t : Bool). eqb (number (take 4 (drop at s))) state && (ltb (last .change) (number (take 8 (drop (at + 4) s))) && t))
+    (entries-same card state n (last .entries) (last .entries) (padded (entriesIn format n (drop (at + 12) s))) (entriesIn format n (drop (at + 12) s)) (λ j. refl) (padded-at (entriesIn format n (drop (at + 12) s)) (entries-length n (drop (at + 12) s) h))))
 
 pub frame-kept :
     (n at : ℕ) (s : List ℕ) {change : ℕ} {entries : List ℕ} →

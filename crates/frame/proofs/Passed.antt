@@ -62,15 +62,15 @@ header-limits f due first h e =
     let e₃ = and-right c (d && (g && (i && j))) e₂ in
     let e₄ = and-right d (g && (i && j)) e₃ in
     let e₅ = and-right g (i && j) e₄ in
-    record
-      { session = eqb-false (h .session) 0 (not-true (eqb (h .session) 0) (and-left a (b && (c && (d && (g && (i && j))))) e))
-      ; card = eqb-true (h .card) due (and-left b (c && (d && (g && (i && j)))) e₁)
-      ; below = ltb-true (h .card) (h .cards) (and-left c (d && (g && (i && j))) e₂)
-      ; cards = leb-true (h .cards) (f .cards) (and-left d (g && (i && j)) e₃)
-      ; agrees = and-left g (i && j) e₄
-      ; count = leb-true (h .count) (f .frames) (and-left i j e₅)
-      ; states = leb-true (h .base + h .count) (f .states) (and-right i j e₅)
-      }
+    record {
+      session = eqb-false (h .session) 0 (not-true (eqb (h .session) 0) (and-left a (b && (c && (d && (g && (i && j))))) e));
+      card = eqb-true (h .card) due (and-left b (c && (d && (g && (i && j)))) e₁);
+      below = ltb-true (h .card) (h .cards) (and-left c (d && (g && (i && j))) e₂);
+      cards = leb-true (h .cards) (f .cards) (and-left d (g && (i && j)) e₃);
+      agrees = and-left g (i && j) e₄;
+      count = leb-true (h .count) (f .frames) (and-left i j e₅);
+      states = leb-true (h .base + h .count) (f .states) (and-right i j e₅);
+    }
 
 module _ (f : Format) (due first : ℕ) (input : List ℕ) (e : headerVerdict f due first input ≡ Accepted) where
   pub header-passed : Passed (shapeOf (headerDigits f) input) (checked (startOf f (headerIn f input)) (headerDigits f) input) (headerAllowed f due first (headerIn f input))

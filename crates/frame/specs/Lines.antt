@@ -51,13 +51,13 @@ headerLine f h = lineOf (startOf f h) (written (headerWidths f) (headerNumbers h
 -- the header whose digits stand first in the input
 unfoldable pub headerIn : Format → List ℕ → Header
 headerIn f input =
-    record
-      { session = number (take 8 input)
-      ; card = number (take 2 (drop 8 input))
-      ; cards = number (take 2 (drop 10 input))
-      ; base = number (take (f .width) (drop 12 input))
-      ; count = number (take 4 (drop (f .width + 12) input))
-      }
+    record {
+      session = number (take 8 input);
+      card = number (take 2 (drop 8 input));
+      cards = number (take 2 (drop 10 input));
+      base = number (take (f .width) (drop 12 input));
+      count = number (take 4 (drop (f .width + 12) input));
+    }
 
 -- a header that refusal 7 lets pass, where card `due` is due; `first` is the first sheet's number of cards, and 0 where this is the first sheet
 unfoldable pub headerAllowed : Format → ℕ → ℕ → Header → Bool

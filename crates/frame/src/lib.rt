@@ -11,17 +11,20 @@ ghost use Rattle.line.specs.Line.{shapeOf};
 ghost use Rattle.line.specs.declared.Line.the-variants.{Whole};
 ghost use Rattle.frame.specs.Format.{format, dependency, entryOf};
 ghost use Rattle.frame.specs.Lines.{headerIn, headerAllowed, headerVerdict, headerOr, headerTold, headerLine, entriesIn, entriesAllowed, frameIn, frameAllowed, frameVerdict, frameReadOf, padded, noFrame, entryAllowed, frameTold, frameLine};
-use refusal::Refusal;
 use line::Line;
 use line::Sums;
+use refusal::Refusal;
 
 // The limits of document 01, and the number that says none in a sheet.
 pub struct Limits {}
 
 impl Limits {
     pub const CARDS: u32 = 16;
+
     pub const FRAMES: u32 = 48;
+
     pub const STATES: u32 = 60000;
+
     pub const NONE: u32 = 65535;
 }
 
@@ -84,7 +87,10 @@ pub fn frame_told(l: FrameLine) -> Verdict
 pub fn start_of(card: u32, session: u32) -> Sums
     ensures { λ r. ⌜ r ≡ format .start card session ⌝ }
 {
-    Sums { first: 0, second: 0 }
+    Sums {
+        first: 0,
+        second: 0,
+    }
 }
 
 fn held(e: u32) -> u32
@@ -109,7 +115,13 @@ fn header_in(s: &[u8], at: usize) -> Header
     let cards = line::number_at(s, at + 10, 2);
     let base = line::number_at(s, at + 12, 4);
     let count = line::number_at(s, at + 16, 4);
-    Header { session, card, cards, base, count }
+    Header {
+        session,
+        card,
+        cards,
+        base,
+        count,
+    }
 }
 
 // Whether a number of cards is the first sheet's, or this is the first sheet.
@@ -245,7 +257,15 @@ fn frame_refused(r: Refusal) -> FrameRead
 }
 
 // Reads the frame line of n entries at `at`, where `state` is the next; `last` is the frame before, or zeros.
-pub fn frame_at(s: &[u8], at: usize, start: Sums, card: u32, n: u32, state: u32, last: Frame) -> FrameRead
+pub fn frame_at(
+    s: &[u8],
+    at: usize,
+    start: Sums,
+    card: u32,
+    n: u32,
+    state: u32,
+    last: Frame,
+) -> FrameRead
     requires { ⌜ n ≤ 16 ⌝ }
     ensures { λ r. ⌜ r ≡ frameReadOf (frameVerdict format start card n state last (drop at (now (s .entry)))) (frameIn format n (drop at (now (s .entry)))) ⌝ }
 {
@@ -257,7 +277,15 @@ pub fn frame_at(s: &[u8], at: usize, start: Sums, card: u32, n: u32, state: u32,
 }
 
 // The frame of a line whose shape is right.
-fn frame_judged(s: &[u8], at: usize, start: Sums, card: u32, n: u32, state: u32, last: Frame) -> FrameRead
+fn frame_judged(
+    s: &[u8],
+    at: usize,
+    start: Sums,
+    card: u32,
+    n: u32,
+    state: u32,
+    last: Frame,
+) -> FrameRead
     requires { ⌜ (n ≤ 16) × (at + n * 4 + 17 ≤ length (now s)) × (shapeOf (12 + n * 4) (drop at (now s)) ≡ Whole) ⌝ }
     ensures { λ r. ⌜ r ≡ frameReadOf (frameVerdict format start card n state last (drop at (now (s .entry)))) (frameIn format n (drop at (now (s .entry)))) ⌝ }
 {
@@ -271,7 +299,10 @@ fn frame_judged(s: &[u8], at: usize, start: Sums, card: u32, n: u32, state: u32,
     if !frame_allowed(card, n, state, last, told, Frame { change, entries }) {
         return frame_refused(Refusal::BadFrame);
     }
-    FrameRead { entries, line: FrameLine::Read(change) }
+    FrameRead {
+        entries,
+        line: FrameLine::Read(change),
+    }
 }
 
 // Writes a header line at `at`.

@@ -3,8 +3,8 @@ use Prim.Native.Nat.{ℕ, zero, suc, _+_, _≤_, _<_, max, zero-le}
 use mathlib.Core.Path.{_≡_, refl, sym, _∙_, ap, ap₂, subst}
 use mathlib.Core.Bool.{Bool, true, false, not, _&&_, _||_, cond}
 use mathlib.Core.Logic.{_⊎_, inl, inr, ⊎-elim, by-cases}
-use mathlib.Core.List.{List, [], _∷_, _++_}
-use native.Mathlib.Nat.{not-suc-le-zero, eq-or-lt-of-le, le-of-suc-le-suc, le-step, le-refl, le-trans, lt-suc-self, le-of-lt, lt-of-not-le, le-add-right, add-le-add, le-max-left, le-max-right, max-le, max-eq-left, max-eq-right}
+use mathlib.Core.List.{List, [], _∷_, _++_, append-nil}
+use native.Mathlib.Nat.{not-suc-le-zero, eq-or-lt-of-le, le-of-suc-le-suc, le-step, le-refl, le-trans, lt-suc-self, le-of-lt, lt-of-not-le, le-add-right, add-le-add, le-antisymm, le-max-left, le-max-right, max-le, max-eq-left, max-eq-right}
 use native.Mathlib.Decide.{decLe, decLt}
 use native.Mathlib.Omega.{arith}
 use Rattle.laws.specs.Below.{one-if, allBelow, anyBelow, countBelow, greatest, tabulate, selected, firstBelow, occurs}
@@ -202,3 +202,26 @@ occurs-selected (suc n) p f k =
     last : (b : Bool) → occurs k (cond b (f n ∷ []) []) ≡ one-if (b && eqb (f n) k)
     last true = omega arith
     last false = refl
+
+-- ---- a test that passes at the first n numbers alone
+module _ {A : Type 0} (p : ℕ → Bool) (f : ℕ → A) where
+  selected-all : (w : ℕ) → ((k : ℕ) → k < w → p k ≡ true) → selected w p f ≡ tabulate w f
+  selected-all zero e = refl
+  selected-all (suc w) e = rw (e w (lt-suc-self w), selected-all w (λ k h. e k (le-step h)))
+
+  pub selected-first : (w n : ℕ) → n ≤ w → ((k : ℕ) → k < n → p k ≡ true) → ((k : ℕ) → n ≤ k → k < w → p k ≡ false) → selected w p f ≡ tabulate n f
+  selected-first zero n h below above = rw (empty h)
+    where
+      empty : n ≤ 0 → n ≡ 0
+      empty g = omega arith
+  selected-first (suc w) n h below above =
+      by-cases (decLe n w)
+      (λ l. rw (above w l (lt-suc-self w)) (append-nil (selected w p f) ∙ selected-first w n l below (λ k a b. above k a (le-step b))))
+      (λ l. let q : n ≡ suc w = omega (arith, l) in rw q (selected-all (suc w) (λ k a. below k (omega arith))))
+
+pub count-first : (p : ℕ → Bool) (w n : ℕ) → n ≤ w → ((k : ℕ) → k < n → p k ≡ true) → ((k : ℕ) → n ≤ k → k < w → p k ≡ false) → countBelow w p ≡ n
+count-first p w n h below above = le-antisymm (le-trans (count-rest n w p above) (count-le n p)) (le-trans (full n below) (count-mono n w p h))
+  where
+    full : (k : ℕ) → ((i : ℕ) → i < k → p i ≡ true) → k ≤ countBelow k p
+    full zero e = zero-le
+    full (suc k) e = let z : one-if (p k) ≡ 1 = ap one-if (e k (lt-suc-self k)) in omega (arith, full k (λ i l. e i (le-step l)))

@@ -32,11 +32,11 @@ shape n input e =
     let p = leb (n + 5) (length input) in
     let q = allDigits (take (n + 4) input) in
     let r = eqb (getD input (n + 4) 0) 10 in
-    record
-      { long = leb-true (n + 5) (length input) (and-left p (q && r) e)
-      ; all = and-left q r (and-right p (q && r) e)
-      ; ends = eqb-true (getD input (n + 4) 0) 10 (and-right q r (and-right p (q && r) e))
-      }
+    record {
+      long = leb-true (n + 5) (length input) (and-left p (q && r) e);
+      all = and-left q r (and-right p (q && r) e);
+      ends = eqb-true (getD input (n + 4) 0) 10 (and-right q r (and-right p (q && r) e));
+    }
 
 pub shape-shaped : (n : ℕ) (input : List ℕ) → Shape n input → shaped n input ≡ true
 unfolding shaped
@@ -93,11 +93,11 @@ module _ (start : Sums) (n : ℕ) (body rest : List ℕ) (d : allDigits body ≡
   unfolding check
   line-shaped =
       shape-shaped n (lineOf start body ++ rest)
-      (record
-        { long = rw (length-append (lineOf start body) rest, line-length) (omega arith)
-        ; all = rw (take-add n 4 (lineOf start body ++ rest), line-take, line-check) (all-append body check d (digits-all 4 (checkOf (summed start body))))
-        ; ends = sym (getD-drop n (lineOf start body ++ rest) 4 0) ∙ rw line-drop (getD-at check 10 rest 0 4 (digits-length 4 (checkOf (summed start body))))
-        })
+      (record {
+        long = rw (length-append (lineOf start body) rest, line-length) (omega arith);
+        all = rw (take-add n 4 (lineOf start body ++ rest), line-take, line-check) (all-append body check d (digits-all 4 (checkOf (summed start body))));
+        ends = sym (getD-drop n (lineOf start body ++ rest) 4 0) ∙ rw line-drop (getD-at check 10 rest 0 4 (digits-length 4 (checkOf (summed start body))));
+      })
 
   pub line-checked : checkOf (summed start body) < 65536 → checked start n (lineOf start body ++ rest) ≡ true
   unfolding checked check
@@ -143,7 +143,7 @@ module _ (start : Sums) (n : ℕ) (input : List ℕ) (s : shaped n input ≡ tru
   unfolding checked lineOf
   line-bytes e =
       let c : number (take 4 (drop n input)) ≡ checkOf (summed start (take n input)) =
-          eqb-true (number (take 4 (drop n input))) (checkOf (summed start (take n input))) e
+      eqb-true (number (take 4 (drop n input))) (checkOf (summed start (take n input))) e
       in
       parts ∙ ap (λ (x : List ℕ). take n input ++ x ++ (10 ∷ [])) (sym check-own ∙ ap (λ (x : ℕ). digits 4 x) c)
 
@@ -188,50 +188,50 @@ same-check n xs ys s t e = sym (check-own (record { first = 0; second = 0 }) n x
 
 -- two lines that pass, of starts with one first sum, and that differ in one byte at most are the same
 module _
-  (start start′ : Sums) (n : ℕ) (input : List ℕ) (p b : ℕ) (f : start .first ≡ start′ .first) (same : take n input ≡ take n (set input p b) → start ≡ start′)
-  (s : shaped n input ≡ true) (c : checked start n input ≡ true) (s′ : shaped n (set input p b) ≡ true) (c′ : checked start′ n (set input p b) ≡ true)
+    (start start′ : Sums) (n : ℕ) (input : List ℕ) (p b : ℕ) (f : start .first ≡ start′ .first) (same : take n input ≡ take n (set input p b) → start ≡ start′)
+    (s : shaped n input ≡ true) (c : checked start n input ≡ true) (s′ : shaped n (set input p b) ≡ true) (c′ : checked start′ n (set input p b) ≡ true)
   where
-  told : number (take 4 (drop n input)) ≡ checkOf (summed start (take n input))
-  unfolding checked
-  told = eqb-true (number (take 4 (drop n input))) (checkOf (summed start (take n input))) c
+    told : number (take 4 (drop n input)) ≡ checkOf (summed start (take n input))
+    unfolding checked
+    told = eqb-true (number (take 4 (drop n input))) (checkOf (summed start (take n input))) c
 
-  told′ : number (take 4 (drop n (set input p b))) ≡ checkOf (summed start′ (take n (set input p b)))
-  unfolding checked
-  told′ = eqb-true (number (take 4 (drop n (set input p b)))) (checkOf (summed start′ (take n (set input p b)))) c′
+    told′ : number (take 4 (drop n (set input p b))) ≡ checkOf (summed start′ (take n (set input p b)))
+    unfolding checked
+    told′ = eqb-true (number (take 4 (drop n (set input p b)))) (checkOf (summed start′ (take n (set input p b)))) c′
 
-  put-there : p < n + 5 → getD (set input p b) p 0 ≡ b
-  put-there h = getD-set-same input p b 0 (omega (arith, shape n input s .long))
+    put-there : p < n + 5 → getD (set input p b) p 0 ≡ b
+    put-there h = getD-set-same input p b 0 (omega (arith, shape n input s .long))
 
-  at-end : p < n + 5 → (p < n + 4 → ⊥) → b ≡ getD input p 0
-  at-end h k =
-      let e : p ≡ n + 4 = omega arith in
-      let x : getD (set input p b) p 0 ≡ 10 = ap (λ (i : ℕ). getD (set input p b) i 0) e ∙ shape n (set input p b) s′ .ends in
-      let y : getD input p 0 ≡ 10 = ap (λ (i : ℕ). getD input i 0) e ∙ shape n input s .ends in
-      sym (put-there h) ∙ x ∙ sym y
+    at-end : p < n + 5 → (p < n + 4 → ⊥) → b ≡ getD input p 0
+    at-end h k =
+        let e : p ≡ n + 4 = omega arith in
+        let x : getD (set input p b) p 0 ≡ 10 = ap (λ (i : ℕ). getD (set input p b) i 0) e ∙ shape n (set input p b) s′ .ends in
+        let y : getD input p 0 ≡ 10 = ap (λ (i : ℕ). getD input i 0) e ∙ shape n input s .ends in
+        sym (put-there h) ∙ x ∙ sym y
 
-  in-check : p < n + 5 → (p < n → ⊥) → p < n + 4 → b ≡ getD input p 0
-  in-check h l k =
-      let t : take n (set input p b) ≡ take n input = take-set-le n input p b (omega arith) in
-      let g : start ≡ start′ = same (sym t) in
-      let e : number (take 4 (drop n (set input p b))) ≡ number (take 4 (drop n input)) = told′ ∙ ap (λ (bs : List ℕ). checkOf (summed start′ bs)) t ∙ ap (λ (a : Sums). checkOf (summed a (take n input))) (sym g) ∙ sym told in
-      sym (put-there h) ∙ sym (part-at n p (set input p b) l k) ∙ ap (λ (bs : List ℕ). getD bs (p - n) 0) (same-check n (set input p b) input s′ s e) ∙ part-at n p input l k
+    in-check : p < n + 5 → (p < n → ⊥) → p < n + 4 → b ≡ getD input p 0
+    in-check h l k =
+        let t : take n (set input p b) ≡ take n input = take-set-le n input p b (omega arith) in
+        let g : start ≡ start′ = same (sym t) in
+        let e : number (take 4 (drop n (set input p b))) ≡ number (take 4 (drop n input)) = told′ ∙ ap (λ (bs : List ℕ). checkOf (summed start′ bs)) t ∙ ap (λ (a : Sums). checkOf (summed a (take n input))) (sym g) ∙ sym told in
+        sym (put-there h) ∙ sym (part-at n p (set input p b) l k) ∙ ap (λ (bs : List ℕ). getD bs (p - n) 0) (same-check n (set input p b) input s′ s e) ∙ part-at n p input l k
 
-  in-body : p < n + 5 → p < n → b ≡ getD input p 0
-  in-body h l =
-      let u : take n (set input p b) ≡ set (take n input) p b = take-set-lt n input p b l in
-      let d : drop n (set input p b) ≡ drop n input = drop-set-lt n input p b l in
-      let e : checkOf (summed start (take n input)) ≡ checkOf (summed start′ (take n (set input p b))) = sym told ∙ ap (λ (bs : List ℕ). number (take 4 bs)) (sym d) ∙ told′ in
-      let w : (start .first + sumOf (take n input)) % 256 ≡ (start .first + sumOf (take n (set input p b))) % 256 =
-          sym (first-sum start (take n input)) ∙ check-first (summed start (take n input)) (summed start′ (take n (set input p b))) e ∙ first-sum start′ (take n (set input p b)) ∙ ap (λ (x : ℕ). (x + sumOf (take n (set input p b))) % 256) (sym f)
-      in
-      let q : p < length (take n input) = rw (body-length start n input s) l in
-      let q′ : p < length (take n (set input p b)) = rw (body-length start n (set input p b) s′) l in
-      let g : getD (take n input) p 0 ≡ getD input p 0 = getD-take n input p 0 l in
-      let g′ : getD (take n (set input p b)) p 0 ≡ b = getD-take n (set input p b) p 0 l ∙ put-there h in
-      let z : sumOf (take n (set input p b)) + getD input p 0 ≡ sumOf (take n input) + b = ap (λ (x : ℕ). sumOf (take n (set input p b)) + x) (sym g) ∙ ap (λ (bs : List ℕ). sumOf bs + getD (take n input) p 0) u ∙ sum-set (take n input) p b q in
-      let a : getD (take n input) p 0 < 71 = is-below (getD (take n input) p 0) (all-getD (take n input) p (body-all start n input s) q) in
-      let a′ : getD (take n (set input p b)) p 0 < 71 = is-below (getD (take n (set input p b)) p 0) (all-getD (take n (set input p b)) p (body-all start n (set input p b) s′) q′) in
-      sym (wraps (sumOf (take n input)) (sumOf (take n (set input p b))) (getD input p 0) b (start .first) z (omega arith) (omega arith) w)
+    in-body : p < n + 5 → p < n → b ≡ getD input p 0
+    in-body h l =
+        let u : take n (set input p b) ≡ set (take n input) p b = take-set-lt n input p b l in
+        let d : drop n (set input p b) ≡ drop n input = drop-set-lt n input p b l in
+        let e : checkOf (summed start (take n input)) ≡ checkOf (summed start′ (take n (set input p b))) = sym told ∙ ap (λ (bs : List ℕ). number (take 4 bs)) (sym d) ∙ told′ in
+        let w : (start .first + sumOf (take n input)) % 256 ≡ (start .first + sumOf (take n (set input p b))) % 256 =
+        sym (first-sum start (take n input)) ∙ check-first (summed start (take n input)) (summed start′ (take n (set input p b))) e ∙ first-sum start′ (take n (set input p b)) ∙ ap (λ (x : ℕ). (x + sumOf (take n (set input p b))) % 256) (sym f)
+        in
+        let q : p < length (take n input) = rw (body-length start n input s) l in
+        let q′ : p < length (take n (set input p b)) = rw (body-length start n (set input p b) s′) l in
+        let g : getD (take n input) p 0 ≡ getD input p 0 = getD-take n input p 0 l in
+        let g′ : getD (take n (set input p b)) p 0 ≡ b = getD-take n (set input p b) p 0 l ∙ put-there h in
+        let z : sumOf (take n (set input p b)) + getD input p 0 ≡ sumOf (take n input) + b = ap (λ (x : ℕ). sumOf (take n (set input p b)) + x) (sym g) ∙ ap (λ (bs : List ℕ). sumOf bs + getD (take n input) p 0) u ∙ sum-set (take n input) p b q in
+        let a : getD (take n input) p 0 < 71 = is-below (getD (take n input) p 0) (all-getD (take n input) p (body-all start n input s) q) in
+        let a′ : getD (take n (set input p b)) p 0 < 71 = is-below (getD (take n (set input p b)) p 0) (all-getD (take n (set input p b)) p (body-all start n (set input p b) s′) q′) in
+        sym (wraps (sumOf (take n input)) (sumOf (take n (set input p b))) (getD input p 0) b (start .first) z (omega arith) (omega arith) w)
 
-  pub altered : p < n + 5 → b ≡ getD input p 0
-  altered h = by-cases (decLt p n) (in-body h) (λ l. by-cases (decLt p (n + 4)) (in-check h l) (at-end h))
+    pub altered : p < n + 5 → b ≡ getD input p 0
+    altered h = by-cases (decLt p n) (in-body h) (λ l. by-cases (decLt p (n + 4)) (in-check h l) (at-end h))

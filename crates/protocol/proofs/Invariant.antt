@@ -184,7 +184,9 @@ module _ (L : Limits) (n : ℕ) (m : Model) (j : Journal) (v : Invariant L n m j
     same-left : within L cards (withCard (r .notes .marked) c) ≡ within L (m .present) (withCard (m .rolled) c)
     same-left =
         all-same (L .width) (λ i. not (cards i) || withCard (r .notes .marked) c i) (λ i. not (m .present i) || withCard (m .rolled) c i)
-        (λ i li. ap₂ (λ (a b : Bool). not a || (eqb i c || b)) (sym (v .present-is i)) (r .notes .marked-is i li))
+        (λ i li. test (m .present i)
+        (λ here. ap₂ (λ (a b : Bool). not a || (eqb i c || b)) (sym (v .present-is i)) (r .notes .marked-is i li here))
+        (λ e. rw (e, sym (v .present-is i) ∙ e)))
 
     -- the line of a card that is not there is its start number, 0
     absent-zero : (i : ℕ) → i < L .width → n ≤ i → r .notes .line i ≡ 0
@@ -210,7 +212,7 @@ module _ (L : Limits) (n : ℕ) (m : Model) (j : Journal) (v : Invariant L n m j
                 marked = withCard (r .notes .marked) c;
                 is-noted = refl;
                 line-is = r .notes .line-is;
-                marked-is = λ i li. ap (λ (b : Bool). eqb i c || b) (r .notes .marked-is i li);
+                marked-is = λ i li here. ap (λ (b : Bool). eqb i c || b) (r .notes .marked-is i li here);
               };
         }
 

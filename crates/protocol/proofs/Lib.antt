@@ -11,3 +11,4 @@ pub mod Rolling
 pub mod Lost
 pub mod Steps
 pub mod Invariant
+pub mod Restart

@@ -54,7 +54,7 @@ pub record Rolling (L : Limits) (m : Model) (j : Journal) : Type 0 where
   pub none-open : (p : ℕ) → p < L .places → isOpen (m .place p) ≡ false
   -- a card already rolled has all four numbers at the line, another its stored number
   pub lowered : (c : ℕ) → c < L .width → m .rolled c ≡ true → (m .numbers .base c ≡ m .line c) × (m .numbers .stored c ≡ m .line c) × (m .numbers .held c ≡ m .line c) × (m .numbers .reached c ≡ m .line c)
-  pub kept : (c : ℕ) → c < L .width → m .rolled c ≡ false → m .numbers .stored c ≡ j .stored c
+  pub kept : (c : ℕ) → c < L .width → m .present c ≡ true → m .rolled c ≡ false → m .numbers .stored c ≡ j .stored c
   pub some-left : within L (m .present) (m .rolled) ≡ false
   pub about : (H : History) → Agree (historyOf (j .history)) H (length (j .history)) → AboutLine L m (j .start) (length (j .history)) (j .stored) (m .line) H
 
@@ -64,7 +64,7 @@ pub record LineNoted (L : Limits) (m : Model) (j : Journal) : Type 0 where
   pub marked : CardSet
   pub is-noted : j .fix ≡ fixing line marked
   pub line-is : (c : ℕ) → c < L .width → line c ≡ m .line c
-  pub marked-is : (c : ℕ) → c < L .width → marked c ≡ m .rolled c
+  pub marked-is : (c : ℕ) → c < L .width → m .present c ≡ true → marked c ≡ m .rolled c
 
 module _ (L : Limits) (m : Model) (j : Journal) (r : Rolling L m j) where
   abbrev H₀ : History
@@ -156,7 +156,7 @@ module _ (L : Limits) (m : Model) (j : Journal) (r : Running L m j) where
         entries = tracks-sound L m j r;
         none-open = r .places-down is-down;
         lowered = λ c l e. clash e refl;
-        kept = λ c l e. same-stored c l;
+        kept = λ c l here e. same-stored c l;
         some-left =
             fails (within L (m .present) noCards)
             (λ e. ⊎-elim (λ (z : not (m .present (r .carded .one)) ≡ true). clash (r .carded .is-there) (not-true (m .present (r .carded .one)) z)) (λ (z : false ≡ true). clash z refl)
@@ -185,7 +185,7 @@ module _ (L : Limits) (m : Model) (j : Journal) (r : Running L m j) where
         marked = noCards;
         is-noted = refl;
         line-is = λ c l. line-in-selected (L .width) (m .present) (m .numbers .stored) (lineOf L m) (j .start) c ∙ same c l;
-        marked-is = λ c l. refl;
+        marked-is = λ c l here. refl;
       }
     where
       same : (c : ℕ) → c < L .width → cond (ltb c (L .width) && m .present c) (lineOf L m c) (j .start c) ≡ lines L m c
@@ -289,8 +289,8 @@ module _ (L : Limits) (m : Model) (j : Journal) (r : Rolling L m j) where
           entries = r .entries;
           none-open = r .none-open;
           lowered = now-lowered;
-          kept = λ d ld e. let q : ¬ (d ≡ c) = λ (y : d ≡ c). clash (or-left (m .rolled d) (eq-eqb d c y)) e in
-              put-other (m .numbers .stored) c (m .line c) d q ∙ r .kept d ld (fails (m .rolled d) (λ y. clash (or-right (eqb d c) y) e));
+          kept = λ d ld here e. let q : ¬ (d ≡ c) = λ (y : d ≡ c). clash (or-left (m .rolled d) (eq-eqb d c y)) e in
+              put-other (m .numbers .stored) c (m .line c) d q ∙ r .kept d ld here (fails (m .rolled d) (λ y. clash (or-right (eqb d c) y) e));
           some-left = left;
           about = λ H agree. let a : AboutLine L m (j .start) (length (j .history)) (j .stored) (m .line) H = r .about H agree in
               record { line-right = a .line-right; intact = intact-lowered H a; framed = framed-lowered H a; count = a .count; numbered = a .numbered; bounded = a .bounded; there = a .there };

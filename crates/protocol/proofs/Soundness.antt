@@ -28,7 +28,7 @@ use Rattle.protocol.proofs.Places.{Opened, Stood, Waits}
 use Rattle.protocol.proofs.Running.{Numbered, About, Running}
 
 -- an entry within the limits: 0, or of a card that is there and not above the greatest state
-entry-sound : (v G : ℕ) (b : Bool) → (0 < v → (b ≡ true) × (v ≤ G)) → leb v (cond b G 0) ≡ true
+pub entry-sound : (v G : ℕ) (b : Bool) → (0 < v → (b ≡ true) × (v ≤ G)) → leb v (cond b G 0) ≡ true
 entry-sound v G b f =
     by-cases (decLt 0 v) (λ h. rw (f h .0) (le-leb v G (f h .1)))
     (λ h. le-leb v (cond b G 0) (omega (arith, h)))
@@ -36,7 +36,7 @@ entry-sound v G b f =
 module _ (L : Limits) (present : CardSet) (start : Numbers) (n : ℕ) (H : History) (there : (i c : ℕ) → i < n → c < L .width → touches (H i) c ≡ true → present c ≡ true)
     (bounded : (c : ℕ) → c < L .width → start c + writers H c n ≤ L .greatestState) where
   -- the greatest state made on card j is that of a card that is there, within the limits
-  greatest-sound : {Q : ℕ → Type 0} {j v : ℕ} → j < L .width → Greatest H start Q j v → ((t : ℕ) → Q t → t < n) → 0 < v → (present j ≡ true) × (v ≤ L .greatestState)
+  pub greatest-sound : {Q : ℕ → Type 0} {j v : ℕ} → j < L .width → Greatest H start Q j v → ((t : ℕ) → Q t → t < n) → 0 < v → (present j ≡ true) × (v ≤ L .greatestState)
   greatest-sound {Q} {j} {v} l g inside z =
       let m : Makes H start Q j v = g .met z in
       (there (m .0) j (inside (m .0) (m .1)) l (writes-touches (H (m .0)) j (m .2)), omega (arith, m .3, made-found H start j (inside (m .0) (m .1)) (m .2), bounded j l))

@@ -4,3 +4,4 @@ pub mod Edit
 pub mod Plan
 pub mod Calls
 pub mod Journal
+pub mod Sheets

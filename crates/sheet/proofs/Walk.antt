@@ -115,8 +115,8 @@ pub record Inner (s : List ℕ) (card : ℕ) (all : Bool) (due left n base count
   pub states : base + count ≤ 60000
   pub passed : k ≤ count
   pub goes-on :
-    laidFrames due (base + 1 + k) k r (readFrames format (format .start due session) due n (count - k) (base + 1 + k) last (drop at s)) (moreSheets format (left - 1) (due + 1) n)
-    ≡ readingOf all card s
+      laidFrames due (base + 1 + k) k r (readFrames format (format .start due session) due n (count - k) (base + 1 + k) last (drop at s)) (moreSheets format (left - 1) (due + 1) n)
+      ≡ readingOf all card s
 
 -- a number is 0 or not
 pub zero-or : (n : ℕ) → (n ≡ 0) ⊎ (n ≡ 0 → ⊥)
@@ -214,19 +214,19 @@ module _ {s : List ℕ} {card : ℕ} {all : Bool} {r : Readout} {at due first le
       let c : h .card ≡ due = w .card in
       let b : h .base + 1 + 0 ≡ h .base + 1 = omega arith in
       let k : h .count - 0 ≡ h .count = omega arith in
-      record
-        { index = i
-        ; below = rw (← c) (w .below)
-        ; cards = w .cards
-        ; some = rw m (left-some (h .cards) (omega (arith, w .below)) l)
-        ; frames = w .count
-        ; states = w .states
-        ; passed = zero-le
-        ; goes-on =
+      record {
+        index = i;
+        below = rw (← c) (w .below);
+        cards = w .cards;
+        some = rw m (left-some (h .cards) (omega (arith, w .below)) l);
+        frames = w .count;
+        states = w .states;
+        passed = zero-le;
+        goes-on =
             rw (b, k, m, ← drop-drop 25 at s)
             (ap (λ (x : ℕ). laidFrames x (h .base + 1) 0 (layHeader (record { session = h .session; card = x; cards = h .cards; base = h .base; count = h .count }) r) (readFrames format (format .start due (h .session)) x (h .cards) (h .count) (h .base + 1) noFrame (drop 25 (drop at s))) (moreSheets format (now-left (h .cards) - 1) (due + 1) (h .cards))) (sym c)
-            ∙ inner-on h q e l (zero-or first))
-        }
+            ∙ inner-on h q e l (zero-or first));
+      }
 
 module _ {s : List ℕ} {card : ℕ} {all : Bool} {due left n base count session i : ℕ} {r : Readout} {at : ℕ} {last : Frame} {k : ℕ} (o : Inner s card all due left n base count session i r at last k) where
   abbrev frames-left : ℕ → ℕ → Frame → List ℕ → Frames
@@ -265,18 +265,18 @@ module _ {s : List ℕ} {card : ℕ} {all : Bool} {due left n base count session
       let d : at + (17 + n * 4) ≡ at + (12 + n * 4 + 5) = omega arith in
       let input = drop at s in
       let l : length (frameIn format n input .entries) ≤ 16 = entries-within in
-      record
-        { index = o .index
-        ; below = o .below
-        ; cards = o .cards
-        ; some = o .some
-        ; frames = o .frames
-        ; states = o .states
-        ; passed = omega arith
-        ; goes-on =
+      record {
+        index = o .index;
+        below = o .below;
+        cards = o .cards;
+        some = o .some;
+        frames = o .frames;
+        states = o .states;
+        passed = omega arith;
+        goes-on =
             rw (q, b, d, ← drop-drop (12 + n * 4 + 5) at s, frames-padded (format .start due session) due n (count - (k + 1)) (base + 1 + k + 1) (frameIn format n input) (drop (12 + n * 4 + 5) input) l)
-            (rw e at (frame-due h))
-        }
+            (rw e at (frame-due h));
+      }
 
   -- the same, with the frame as the code has it
   pub inner-again :

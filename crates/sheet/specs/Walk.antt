@@ -20,38 +20,38 @@ placeOf card state = card * 48 + state % 48
 -- the read-out of zeros
 abbrev pub noReadout : Readout
 noReadout =
-    record
-      { changes = replicate 768 0
-      ; entries = replicate 12288 0
-      ; sessions = replicate 16 0
-      ; bases = replicate 16 0
-      ; counts = replicate 16 0
-      ; cards = 0
-      }
+    record {
+      changes = replicate 768 0;
+      entries = replicate 12288 0;
+      sessions = replicate 16 0;
+      bases = replicate 16 0;
+      counts = replicate 16 0;
+      cards = 0;
+    }
 
 -- a header taken in
 abbrev pub layHeader : Header → Readout → Readout
 layHeader h r =
-    record
-      { changes = r .changes
-      ; entries = r .entries
-      ; sessions = set (r .sessions) (h .card) (h .session)
-      ; bases = set (r .bases) (h .card) (h .base)
-      ; counts = r .counts
-      ; cards = h .cards
-      }
+    record {
+      changes = r .changes;
+      entries = r .entries;
+      sessions = set (r .sessions) (h .card) (h .session);
+      bases = set (r .bases) (h .card) (h .base);
+      counts = r .counts;
+      cards = h .cards;
+    }
 
 -- a frame taken in, k of its card's frames before it
 abbrev pub layFrame : ℕ → ℕ → ℕ → Frame → Readout → Readout
 layFrame card state k fr r =
-    record
-      { changes = set (r .changes) (placeOf card state) (fr .change)
-      ; entries = sets (r .entries) (placeOf card state * 16) (padded (fr .entries))
-      ; sessions = r .sessions
-      ; bases = r .bases
-      ; counts = set (r .counts) card (k + 1)
-      ; cards = r .cards
-      }
+    record {
+      changes = set (r .changes) (placeOf card state) (fr .change);
+      entries = sets (r .entries) (placeOf card state * 16) (padded (fr .entries));
+      sessions = r .sessions;
+      bases = r .bases;
+      counts = set (r .counts) card (k + 1);
+      cards = r .cards;
+    }
 
 abbrev pub layFrames : ℕ → ℕ → ℕ → List Frame → Readout → Readout
 layFrames card state k [] r = r

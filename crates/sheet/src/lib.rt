@@ -7,12 +7,12 @@ ghost use lib.Seq.{sets};
 ghost use lib.Dec.{eqb};
 ghost use Rattle.sheet.specs.Pages.{ended};
 ghost use Rattle.sheet.specs.Walk.{readingOf};
-use refusal::Refusal;
-use frame::Header;
 use frame::Frame;
-use frame::HeaderLine;
 use frame::FrameLine;
+use frame::Header;
+use frame::HeaderLine;
 use frame::Verdict;
+use refusal::Refusal;
 
 // A read-out: for each card its session, base and number of frames, and the frames of all cards. The frame of a
 // card's state stands at card * 48 + state % 48, with 16 entries for each.
@@ -100,7 +100,10 @@ fn read_sheets(s: &[u8], card: u32, all: bool) -> Reading
         r.bases[i] = base;
         left = sheets_left(all, first, left, n);
         at += 25;
-        let mut last = Frame { change: 0, entries: [0u32; 16] };
+        let mut last = Frame {
+            change: 0,
+            entries: [0u32; 16],
+        };
         let mut k: u32 = 0;
         while k < count {
             let state = base + 1 + k;
@@ -123,5 +126,8 @@ fn read_sheets(s: &[u8], card: u32, all: bool) -> Reading
         due += 1;
         left -= 1;
     };
-    Reading { readout: r, verdict }
+    Reading {
+        readout: r,
+        verdict,
+    }
 }

@@ -33,7 +33,7 @@ is-digit-requires : tie.Need-is-digit-requires Inv-loop μ-loop
 is-digit-requires c κs = search needs
 
 returns : tie.Need-returns Inv-loop μ-loop
-returns c = 
+returns c =
     let a = c .before .before .before .before .before .before .args in
     all-stop (a .s .now) (a .at) (a .n) (c .before .before .before .before .loop .i) (omega arith) (c .before .before .before .before .before .before .pre) (c .before .before .before .before .loop .inv .1) (sym (c .before .is-digit .ensures) ∙ not-true _ (c .if1 .taken))
 
@@ -44,7 +44,7 @@ loop-less : tie.Need-loop-less Inv-loop μ-loop
 loop-less c = search needs
 
 loop-again : tie.Need-loop-again Inv-loop μ-loop
-loop-again c = 
+loop-again c =
     let a = c .before .before .before .before .before .before .args in
     (omega arith, all-step (a .s .now) (a .at) (a .n) (c .before .before .before .before .loop .i) (omega arith) (c .before .before .before .before .before .before .pre) (c .before .before .before .before .loop .inv .1) (sym (c .before .is-digit .ensures) ∙ not-false _ (c .if1 .left)))
 

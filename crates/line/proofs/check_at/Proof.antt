@@ -24,7 +24,7 @@ check-number-requires : tie.Need-check-number-requires
 check-number-requires c κs = search needs
 
 returns : tie.Need-returns
-returns c = 
+returns c =
     let a = c .before .before .before .before .args in
     check-judged (a .s .now) (a .at) (a .n) (a .start) (c .before .before .sums-over .ensures) (c .before .number-at .ensures) (c .check-number .ensures)
 

@@ -23,7 +23,7 @@ loop-holds : tie.Need-loop-holds Inv-loop μ-loop
 loop-holds c = (zero-le, refl)
 
 mul-n : tie.Need-mul-n Inv-loop μ-loop
-mul-n c = 
+mul-n c =
     let a = c .before .before .before .args in
     omega (arith, number-room (a .s .now) (a .at) (a .width) (c .before .loop .i) (omega arith) (c .before .before .before .pre .0) (c .before .before .before .pre .1))
 
@@ -37,7 +37,7 @@ value-of-requires : tie.Need-value-of-requires Inv-loop μ-loop
 value-of-requires c κs = search needs
 
 add-n : tie.Need-add-n Inv-loop μ-loop
-add-n c = 
+add-n c =
     let a = c .before .before .before .before .before .args in
     omega (arith, number-room (a .s .now) (a .at) (a .width) (c .before .before .before .loop .i) (omega arith) (c .before .before .before .before .before .pre .0) (c .before .before .before .before .before .pre .1), c .value-of .ensures .1)
 
@@ -48,12 +48,12 @@ loop-less : tie.Need-loop-less Inv-loop μ-loop
 loop-less c = search needs
 
 loop-again : tie.Need-loop-again Inv-loop μ-loop
-loop-again c = 
+loop-again c =
     let a = c .before .before .before .before .before .args in
     (omega arith, number-step (a .s .now) (a .at) (a .width) (c .before .before .before .loop .i) (omega arith) (c .before .before .before .before .before .pre .0) (c .before .before .before .loop .inv .1) (c .value-of .ensures .0))
 
 returns : tie.Need-returns Inv-loop μ-loop
-returns c = 
+returns c =
     let a = c .before .before .before .args in
     let e : c .before .loop .i ≡ a .width = omega arith in
     c .before .loop .inv .1 ∙ ap (λ (k : ℕ). number (take k (drop (a .at) (a .s .now)))) e

@@ -40,7 +40,7 @@ loop-less : tie.Need-loop-less Inv-loop μ-loop
 loop-less c = search needs
 
 loop-again : tie.Need-loop-again Inv-loop μ-loop
-loop-again c = 
+loop-again c =
     let a = c .before .before .before .before .args in
     let l = c .before .before .loop in
     (omega arith, length-set (l .b) (a .at + (l .k - 1)) (c .digit-of .result) ∙ l .inv .1, put-step (l .b) (a .at) (l .k) (l .rest) (c .digit-of .result) (omega arith) (c .digit-of .ensures) ∙ l .inv .2)
@@ -49,7 +49,7 @@ same-length : tie.Need-same-length Inv-loop μ-loop
 same-length c = c .before .loop .inv .1
 
 returns : tie.Need-returns Inv-loop μ-loop
-returns c = 
+returns c =
     let e : c .before .loop .k ≡ 0 = omega arith in
     sym (ap (λ (k : ℕ). sets (c .before .loop .b) (c .before .before .before .args .at) (digits k (c .before .loop .rest))) e) ∙ c .before .loop .inv .2
 

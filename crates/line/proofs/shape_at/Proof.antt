@@ -20,7 +20,7 @@ add-if2 : tie.Need-add-if2
 add-if2 c = search needs
 
 returns-2 : tie.Need-returns-2
-returns-2 c = 
+returns-2 c =
     let a = c .before .before .before .args in
     shape-tests (a .n) (a .at) (a .s .now) (omega arith) (lt-leb _ _ (c .if2 .taken)) refl refl
 
@@ -31,7 +31,7 @@ all-digits-requires : tie.Need-all-digits-requires
 all-digits-requires c κs = search needs
 
 returns-3 : tie.Need-returns-3
-returns-3 c = 
+returns-3 c =
     let a = c .before .before .before .before .before .args in
     shape-tests (a .n) (a .at) (a .s .now) (omega arith) (le-leb _ _ (c .before .before .if2 .left)) (sym (c .before .all-digits .ensures) ∙ not-true _ (c .if3 .taken)) refl
 
@@ -45,12 +45,12 @@ shared-slice-read-if4 : tie.Need-shared-slice-read-if4
 shared-slice-read-if4 c = search needs
 
 returns-4 : tie.Need-returns-4
-returns-4 c = 
+returns-4 c =
     let a = c .before .before .before .before .before .before .before .args in
     shape-tests (a .n) (a .at) (a .s .now) (omega arith) (le-leb _ _ (c .before .before .before .before .if2 .left)) (sym (c .before .before .before .all-digits .ensures) ∙ not-false _ (c .before .before .if3 .left)) (ne-eqb _ _ (c .if4 .taken))
 
 returns-5 : tie.Need-returns-5
-returns-5 c = 
+returns-5 c =
     let a = c .before .before .before .before .before .before .before .args in
     shape-tests (a .n) (a .at) (a .s .now) (omega arith) (le-leb _ _ (c .before .before .before .before .if2 .left)) (sym (c .before .before .before .all-digits .ensures) ∙ not-false _ (c .before .before .if3 .left)) (eq-eqb _ _ (c .if4 .left))
 

@@ -42,12 +42,12 @@ loop-less : tie.Need-loop-less Inv-loop μ-loop
 loop-less c = search needs
 
 loop-again : tie.Need-loop-again Inv-loop μ-loop
-loop-again c = 
+loop-again c =
     let a = c .before .before .before .before .before .before .args in
     (omega arith, sums-step (a .s .now) (a .at) (a .n) (c .before .before .before .before .loop .i) (omega arith) (c .before .before .before .before .before .before .pre) (c .before .before .before .before .loop .first) (c .before .before .before .before .loop .second) (c .before .before .before .before .loop .inv .1) (c .before .wrapping-add-u8 .ensures) (c .wrapping-add-u82 .ensures))
 
 returns : tie.Need-returns Inv-loop μ-loop
-returns c = 
+returns c =
     let a = c .before .before .before .args in
     sym (ap (summed _) (left-all (a .s .now) (a .at) (a .n) (c .before .loop .i) (c .loop-test .left))) ∙ c .before .loop .inv .1
 
