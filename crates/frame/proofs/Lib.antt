@@ -1,3 +1,4 @@
 pub mod Judged
 pub mod Puts
 pub mod Passed
+pub mod Round

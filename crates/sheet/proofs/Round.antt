@@ -1,0 +1,286 @@
+-- Sheets and read-outs: written and read back, read and written again, one byte altered, one frame too few; for any format, any number of entries and any width.
+-- Assumes nothing.
+use Prim.Native.Nat.{ℕ, zero, suc, _+_, _*_, _-_, _^_, _≤_, _<_}
+use mathlib.Core.Path.{_≡_, refl, sym, _∙_, ap}
+use mathlib.Core.Bool.{Bool, true, false, _&&_, cond}
+use mathlib.Core.List.{List, [], _∷_, _++_, append-assoc, append-nil}
+use mathlib.Core.Logic.{_⊎_, inl, inr, ⊎-elim, by-cases}
+use native.Mathlib.Nat.{suc-add, zero-add, add-zero}
+use native.Mathlib.Decide.{decLt}
+use native.Mathlib.Omega.{arith}
+use lib.Dec.{eqb, eqb·suc-zero}
+use lib.ListN.{length, take, drop, getD, set, length-append, length-set, length-drop}
+use lib.Seq.{getD-drop, drop-set-add}
+use borrow.Author.Tests.{eqb-true, eq-eqb}
+use Rattle.refusal.specs.declared.Refusal.{Refusal}
+use Rattle.refusal.specs.declared.Refusal.the-variants.{BadLine, BadCheck, BadFrame, EndOrMore}
+use Rattle.laws.proofs.Logic.{test, and-left, and-right}
+use Rattle.line.specs.declared.Sums.{Sums}
+use Rattle.line.specs.declared.Line.the-variants.{Whole, Fault}
+use Rattle.line.specs.Line.{shaped, checked, shapeOf}
+use Rattle.frame.specs.declared.Verdict.{Verdict}
+use Rattle.frame.specs.declared.Verdict.the-variants.{Accepted, Refused}
+use Rattle.frame.specs.declared.Header.{Header}
+use Rattle.frame.specs.declared.Frame.{Frame}
+use Rattle.frame.specs.Format.{Format}
+use Rattle.frame.specs.Lines.{startOf, headerDigits, headerLine, headerIn, headerAllowed, headerVerdict, frameDigits, frameLine, frameIn, stateIn, judged, frameAllowed, frameVerdict, noFrame}
+use Rattle.frame.proofs.Passed.{header-passed, header-within, frame-passed, header-limits}
+use Rattle.frame.proofs.Round.{Sound, header-back, header-rest, header-accepted, header-again, frame-back, frame-rest, frame-accepted, frame-again, Steady, header-altered, frame-altered, header-untouched, frame-untouched, header-room, frame-room}
+use Rattle.sheet.specs.Pages.{Page, framesBytes, pageBytes, pagesBytes, Frames, withFrame, readFrames, framesOf, Sheets, withSheet, readSheet, ended, moreSheets, readSheets}
+use Rattle.sheet.proofs.Walk.{accepts-or}
+use Rattle.sheet.specs.Allowed.{framesAllowed, Formed, Allowed, AllAllowed}
+
+-- ---- written, then read
+
+-- frames put before what was read
+abbrev pub before : List Frame → Frames → Frames
+before frs r = record { frames = frs ++ r .frames; verdict = r .verdict; rest = r .rest }
+
+-- the frame that is the last before a place
+abbrev pub lastOf : Frame → List Frame → Frame
+lastOf last [] = last
+lastOf last (fr ∷ frs) = lastOf fr frs
+
+module _ (f : Format) (s : Sound f) (start : Sums) (p : start .first < 256) (q : start .second < 256) (card n : ℕ) where
+  -- frames that are written read back, and the reading goes on behind them
+  pub frames-back :
+      (frs : List Frame) (k state : ℕ) (last : Frame) (rest : List ℕ) →
+      framesAllowed f card n state last frs ≡ true →
+      Formed n frs →
+      state + length frs ≤ suc (f .states) →
+      readFrames f start card n (length frs + k) state last (framesBytes f start n state frs ++ rest) ≡ before frs (readFrames f start card n k (state + length frs) (lastOf last frs) rest)
+  frames-back [] k state last rest a m b = rw (zero-add k, add-zero state)
+  frames-back (fr ∷ frs) k state last rest a m b =
+      let x = frameAllowed f card n state last state fr in
+      let a₀ = and-left x (framesAllowed f card n (state + 1) fr frs) a in
+      let a₁ = and-right x (framesAllowed f card n (state + 1) fr frs) a in
+      let tail = framesBytes f start n (state + 1) frs ++ rest in
+      let i : framesBytes f start n state (fr ∷ frs) ++ rest ≡ frameLine f start n state fr ++ tail = append-assoc (frameLine f start n state fr) (framesBytes f start n (state + 1) frs) rest in
+      let c : state + suc (length frs) ≡ state + 1 + length frs = omega arith in
+      let v = frame-accepted f s start p q card n state last fr tail a₀ (m .0) (m .1) (omega arith) in
+      let g = frame-back f s start p q card n state last fr tail a₀ (m .0) (m .1) (omega arith) in
+      let d = frame-rest f s start p q card n state last fr tail a₀ (m .0) (m .1) (omega arith) in
+      rw (suc-add (length frs) k, i, v, g, d, c, frames-back frs k (state + 1) fr rest a₁ (m .2) (omega arith))
+
+-- the frames of a sheet within the limits
+page-frames : (f : Format) → Sound f → (due first : ℕ) (p : Page) (rest : List ℕ) → Allowed f due first p → framesOf f (p .header) (pageBytes f p ++ rest) ≡ record { frames = p .frames; verdict = Accepted; rest = rest }
+page-frames f s due first p rest a =
+    let h = p .header in
+    let l = header-limits f due first h (a .header) in
+    let body = framesBytes f (startOf f h) (h .cards) (h .base + 1) (p .frames) in
+    let i : pageBytes f p ++ rest ≡ headerLine f h ++ (body ++ rest) = append-assoc (headerLine f h) body rest in
+    let c : h .count ≡ length (p .frames) + 0 = a .count ∙ sym (add-zero (length (p .frames))) in
+    let b = a .count in
+    rw (i, header-rest f s due first h (body ++ rest) (a .header) (a .session), c)
+    (frames-back f s (startOf f h) (s .first (h .card) (h .session)) (s .second (h .card) (h .session)) (h .card) (h .cards) (p .frames) 0 (h .base + 1) noFrame rest (a .frames) (a .formed) (omega (arith, l .states))
+    ∙ (λ i. record { frames = append-nil (p .frames) i; verdict = Accepted; rest = rest }))
+
+-- a sheet within the limits reads back, and the reading goes on behind it
+sheet-back :
+    (f : Format) → Sound f → (due first : ℕ) (p : Page) (rest : List ℕ) (next : ℕ → List ℕ → Sheets) → Allowed f due first p → readSheet f due first next (pageBytes f p ++ rest) ≡ withSheet Accepted Accepted (p .header) (record { frames = p .frames; verdict = Accepted; rest = rest }) (pageBytes f p ++ rest) (next (p .header .cards) rest)
+sheet-back f s due first p rest next a =
+    let h = p .header in
+    let body = framesBytes f (startOf f h) (h .cards) (h .base + 1) (p .frames) in
+    let i : pageBytes f p ++ rest ≡ headerLine f h ++ (body ++ rest) = append-assoc (headerLine f h) body rest in
+    let v : headerVerdict f due first (pageBytes f p ++ rest) ≡ Accepted = rw i (header-accepted f s due first h (body ++ rest) (a .header) (a .session)) in
+    let g : headerIn f (pageBytes f p ++ rest) ≡ h = rw i (header-back f s due first h (body ++ rest) (a .header) (a .session)) in
+    rw (v, g, page-frames f s due first p rest a)
+
+more-back : (f : Format) → Sound f → (due first : ℕ) (ps : List Page) → AllAllowed f due first ps → moreSheets f (length ps) due first (pagesBytes f ps) ≡ record { pages = ps; verdict = Accepted; rest = [] }
+more-back f s due first [] a = refl
+more-back f s due first (p ∷ ps) a =
+    sheet-back f s due first p (pagesBytes f ps) (λ cards rest. moreSheets f (length ps) (due + 1) first rest) (a .0) ∙ ap (withSheet Accepted Accepted (p .header) (record { frames = p .frames; verdict = Accepted; rest = pagesBytes f ps }) (pageBytes f p ++ pagesBytes f ps)) (more-back f s (due + 1) first ps (a .1))
+
+-- What is written reads back the same: a sheet (`all` false), and a read-out of as many sheets as its number of cards (`all` true).
+pub written-reads-back :
+    (f : Format) → Sound f → (all : Bool) (due : ℕ) (p : Page) (ps : List Page) →
+    Allowed f due 0 p →
+    AllAllowed f (due + 1) (p .header .cards) ps →
+    cond all (p .header .cards - 1) 0 ≡ length ps →
+    readSheets f all due (pagesBytes f (p ∷ ps)) ≡ record { pages = p ∷ ps; verdict = Accepted; rest = [] }
+unfolding readSheets
+written-reads-back f s all due p ps a more e =
+    sheet-back f s due 0 p (pagesBytes f ps) (λ cards rest. moreSheets f (cond all (cards - 1) 0) (due + 1) cards rest) a
+    ∙ rw e (ap (withSheet Accepted Accepted (p .header) (record { frames = p .frames; verdict = Accepted; rest = pagesBytes f ps }) (pageBytes f p ++ pagesBytes f ps)) (more-back f s (due + 1) (p .header .cards) ps more))
+
+-- ---- read, then written
+
+with-accepted : (v : Verdict) (fr : Frame) (input : List ℕ) (next : Frames) → withFrame v fr input next .verdict ≡ Accepted → (v ≡ Accepted) × (next .verdict ≡ Accepted)
+with-accepted Accepted fr input next e = (refl, e)
+with-accepted (Refused r) fr input next e = let z : _≡_ {A = ℕ} 0 1 = cc in absurd (omega arith)
+
+with-both : (v w : Verdict) (h : Header) (fs : Frames) (input : List ℕ) (next : Sheets) → withSheet v w h fs input next .verdict ≡ Accepted → (v ≡ Accepted) × (w ≡ Accepted) × (next .verdict ≡ Accepted)
+with-both (Refused r) w h fs input next e = let z : _≡_ {A = ℕ} 0 1 = cc in absurd (omega arith)
+with-both Accepted (Refused r) h fs input next e = let z : _≡_ {A = ℕ} 0 1 = cc in absurd (omega arith)
+with-both Accepted Accepted h fs input next e = (refl, refl, e)
+
+frames-again :
+    (f : Format) (start : Sums) (card n k state : ℕ) (last : Frame) (input : List ℕ) →
+    readFrames f start card n k state last input .verdict ≡ Accepted →
+    framesBytes f start n state (readFrames f start card n k state last input .frames) ++ readFrames f start card n k state last input .rest ≡ input
+frames-again f start card n zero state last input e = refl
+frames-again f start card n (suc k) state last input e =
+    let fr = frameIn f n input in
+    let more = drop (frameDigits f n + 5) input in
+    let next = readFrames f start card n k (state + 1) fr more in
+    let a = with-accepted (frameVerdict f start card n state last input) fr input next e in
+    let bytes = framesBytes f start n (state + 1) (next .frames) in
+    rw (a .0)
+    (append-assoc (frameLine f start n state fr) bytes (next .rest)
+    ∙ ap (λ (x : List ℕ). frameLine f start n state fr ++ x) (frames-again f start card n k (state + 1) fr more (a .1))
+    ∙ frame-again f start card n state last input (a .0))
+
+sheet-again :
+    (f : Format) (due first : ℕ) (next : ℕ → List ℕ → Sheets) (input : List ℕ) →
+    ((cards : ℕ) (rest : List ℕ) → next cards rest .verdict ≡ Accepted → pagesBytes f (next cards rest .pages) ≡ rest) →
+    readSheet f due first next input .verdict ≡ Accepted →
+    pagesBytes f (readSheet f due first next input .pages) ≡ input
+sheet-again f due first next input g e =
+    let h = headerIn f input in
+    let fs = framesOf f h input in
+    let a = with-both (headerVerdict f due first input) (fs .verdict) h fs input (next (h .cards) (fs .rest)) e in
+    let body = framesBytes f (startOf f h) (h .cards) (h .base + 1) (fs .frames) in
+    rw (a .0, a .1)
+    (append-assoc (headerLine f h) body (pagesBytes f (next (h .cards) (fs .rest) .pages))
+    ∙ ap (λ (x : List ℕ). headerLine f h ++ (body ++ x)) (g (h .cards) (fs .rest) (a .2))
+    ∙ ap (λ (x : List ℕ). headerLine f h ++ x) (frames-again f (startOf f h) (h .card) (h .cards) (h .count) (h .base + 1) noFrame (drop (headerDigits f + 5) input) (a .1))
+    ∙ header-again f due first input (a .0))
+
+empty-end : (input : List ℕ) → ended input .verdict ≡ Accepted → [] ≡ input
+empty-end [] e = refl
+empty-end (b ∷ bs) e = let q : eqb (suc (length bs)) 0 ≡ false = eqb·suc-zero (length bs) in let z : _≡_ {A = ℕ} 0 1 = cc (rw q at e) in absurd (omega arith)
+
+more-again : (f : Format) (k due first : ℕ) (input : List ℕ) → moreSheets f k due first input .verdict ≡ Accepted → pagesBytes f (moreSheets f k due first input .pages) ≡ input
+more-again f zero due first input e = empty-end input e
+more-again f (suc k) due first input e = sheet-again f due first (λ cards rest. moreSheets f k (due + 1) first rest) input (λ cards rest. more-again f k (due + 1) first rest) e
+
+-- Bytes that a reader accepts are the very bytes that are written of what was read: a sheet (`all` false), and a read-out (`all` true).
+pub read-writes-again : (f : Format) (all : Bool) (due : ℕ) (input : List ℕ) → readSheets f all due input .verdict ≡ Accepted → pagesBytes f (readSheets f all due input .pages) ≡ input
+unfolding readSheets
+read-writes-again f all due input e =
+    sheet-again f due 0 (λ cards rest. moreSheets f (cond all (cards - 1) 0) (due + 1) cards rest) input (λ cards rest. more-again f (cond all (cards - 1) 0) (due + 1) cards rest) e
+
+-- ---- one altered byte
+
+-- a byte that differs from the one at its place
+pub record Alters (input : List ℕ) (p b : ℕ) : Type 0 where
+  pub inside : p < length input
+  pub other : b ≡ getD input p 0 → ⊥
+
+-- behind the first k bytes
+later : (input : List ℕ) (p b k : ℕ) → Alters input p b → k ≤ p → Alters (drop k input) (p - k) b
+later input p b k a h =
+    let e : k + (p - k) ≡ p = omega arith in
+    record
+      { inside = rw length-drop (omega (arith, a .inside))
+      ; other = λ (q : b ≡ getD (drop k input) (p - k) 0). a .other (q ∙ getD-drop k input (p - k) 0 ∙ ap (λ (i : ℕ). getD input i 0) e)
+      }
+
+drop-later : (input : List ℕ) (p b k : ℕ) → k ≤ p → drop k (set input p b) ≡ set (drop k input) (p - k) b
+drop-later input p b k h =
+    let e : p ≡ k + (p - k) = omega arith in
+    ap (λ (i : ℕ). drop k (set input i b)) e ∙ drop-set-add k input (p - k) b
+
+-- an alteration that frames do not notice is behind them
+abbrev Passed-on : List ℕ → List ℕ → ℕ → Type 0
+Passed-on rest rest′ b = (p : ℕ) × Alters rest p b × (rest′ ≡ set rest p b)
+
+frames-altered :
+    (f : Format) (start : Sums) (card n k state : ℕ) (last : Frame) (input : List ℕ) (p b : ℕ) →
+    Alters input p b →
+    readFrames f start card n k state last input .verdict ≡ Accepted →
+    readFrames f start card n k state last (set input p b) .verdict ≡ Accepted →
+    Passed-on (readFrames f start card n k state last input .rest) (readFrames f start card n k state last (set input p b) .rest) b
+frames-altered f start card n zero state last input p b a e g = (p, a, refl)
+frames-altered f start card n (suc k) state last input p b a e g =
+    let l = frameDigits f n + 5 in
+    let fr = frameIn f n input in
+    let fr′ = frameIn f n (set input p b) in
+    let x = with-accepted (frameVerdict f start card n state last input) fr input (readFrames f start card n k (state + 1) fr (drop l input)) e in
+    let y = with-accepted (frameVerdict f start card n state last (set input p b)) fr′ (set input p b) (readFrames f start card n k (state + 1) fr′ (drop l (set input p b))) g in
+    by-cases (decLt p l) (λ h. absurd (a .other (frame-altered f start card n state last input p b h (x .0) (y .0))))
+    (λ h.
+    let z : l ≤ p = omega arith in
+    let u = frame-untouched f n input p b z (frame-room f start card n state last input (x .0)) in
+    let d = drop-later input p b l z in
+    rw (x .0, y .0, u, d) (frames-altered f start card n k (state + 1) fr (drop l input) (p - l) b (later input p b l a z) (x .1) (rw (u, d) at (y .1))))
+
+sheet-altered :
+    (f : Format) → Steady f → (due first : ℕ) (next : ℕ → List ℕ → Sheets) (input : List ℕ) (p b : ℕ) →
+    ((cards : ℕ) (rest : List ℕ) (q : ℕ) → Alters rest q b → next cards rest .verdict ≡ Accepted → next cards (set rest q b) .verdict ≡ Accepted → ⊥) →
+    Alters input p b →
+    readSheet f due first next input .verdict ≡ Accepted →
+    readSheet f due first next (set input p b) .verdict ≡ Accepted →
+    ⊥
+sheet-altered f t due first next input p b n a e g =
+    let l = headerDigits f + 5 in
+    let h = headerIn f input in
+    let h′ = headerIn f (set input p b) in
+    let fs = framesOf f h input in
+    let fs′ = framesOf f h′ (set input p b) in
+    let x = with-both (headerVerdict f due first input) (fs .verdict) h fs input (next (h .cards) (fs .rest)) e in
+    let y = with-both (headerVerdict f due first (set input p b)) (fs′ .verdict) h′ fs′ (set input p b) (next (h′ .cards) (fs′ .rest)) g in
+    by-cases (decLt p l) (λ q. a .other (header-altered f t due first input p b q (x .0) (y .0)))
+    (λ q.
+    let z : l ≤ p = omega arith in
+    let u = header-untouched f input p b z (header-room f due first input (x .0)) in
+    let d = drop-later input p b l z in
+    let w = frames-altered f (startOf f h) (h .card) (h .cards) (h .count) (h .base + 1) noFrame (drop l input) (p - l) b (later input p b l a z) (x .1) (rw (u, d) at (y .1)) in
+    n (h .cards) (fs .rest) (w .0) (w .1) (x .2) (rw (w .2) at (rw (u, d) at (y .2))))
+
+more-altered :
+    (f : Format) → Steady f → (k due first : ℕ) (input : List ℕ) (p b : ℕ) →
+    Alters input p b →
+    moreSheets f k due first input .verdict ≡ Accepted →
+    moreSheets f k due first (set input p b) .verdict ≡ Accepted →
+    ⊥
+more-altered f t zero due first input p b a e g = let q : length input ≡ 0 = ap length (sym (empty-end input e)) in omega (arith, a .inside)
+more-altered f t (suc k) due first input p b a e g =
+    sheet-altered f t due first (λ cards rest. moreSheets f k (due + 1) first rest) input p b (λ cards rest q. more-altered f t k (due + 1) first rest q b) a e g
+
+-- One altered byte in an accepted sheet (`all` false), or in an accepted read-out (`all` true), is refused, whichever byte, whatever it becomes.
+pub altered-refused :
+    (f : Format) → Steady f → (all : Bool) (due : ℕ) (input : List ℕ) (p b : ℕ) →
+    p < length input →
+    (b ≡ getD input p 0 → ⊥) →
+    readSheets f all due input .verdict ≡ Accepted →
+    (r : Refusal) × (readSheets f all due (set input p b) .verdict ≡ Refused r)
+unfolding readSheets
+altered-refused f t all due input p b h o e =
+    ⊎-elim
+    (λ (g : readSheets f all due (set input p b) .verdict ≡ Accepted).
+    absurd (sheet-altered f t due 0 (λ cards rest. moreSheets f (cond all (cards - 1) 0) (due + 1) cards rest) input p b (λ cards rest q. more-altered f t (cond all (cards - 1) 0) (due + 1) cards rest q b) (record { inside = h; other = o }) e g))
+    (λ (x : (r : Refusal) × (readSheets f all due (set input p b) .verdict ≡ Refused r)). x) (accepts-or (readSheets f all due (set input p b) .verdict))
+
+-- ---- one frame too few
+
+-- Frames within the limits, with one more declared: what stands where the next frame is due decides. The frames before it were read, and the verdict is that line's.
+pub one-frame-short :
+    (f : Format) (s : Sound f) (start : Sums) → start .first < 256 → start .second < 256 → (card n : ℕ) (frs : List Frame) (state : ℕ) (last : Frame) (rest : List ℕ) {r : Refusal} →
+    framesAllowed f card n state last frs ≡ true →
+    Formed n frs →
+    state + length frs ≤ suc (f .states) →
+    frameVerdict f start card n (state + length frs) (lastOf last frs) rest ≡ Refused r →
+    readFrames f start card n (length frs + 1) state last (framesBytes f start n state frs ++ rest) ≡ record { frames = frs; verdict = Refused r; rest = rest }
+one-frame-short f s start p q card n frs state last rest {r} a m b e =
+    frames-back f s start p q card n frs 1 state last rest a m b ∙ rw e (λ i. record { frames = append-nil frs i; verdict = Refused r; rest = rest })
+
+-- where the input ends there, it is 8
+pub ends-there : (f : Format) (start : Sums) (card n state : ℕ) (last : Frame) → frameVerdict f start card n state last [] ≡ Refused EndOrMore
+unfolding frameVerdict shapeOf
+ends-there f start card n state last = refl
+
+-- else, where a line is refused, it is 5, 6 or 9
+pub line-refused :
+    (f : Format) (start : Sums) (card n state : ℕ) (last : Frame) (b : ℕ) (bs : List ℕ) (r : Refusal) →
+    frameVerdict f start card n state last (b ∷ bs) ≡ Refused r →
+    (r ≡ BadLine) ⊎ ((r ≡ BadCheck) ⊎ (r ≡ BadFrame))
+unfolding frameVerdict shapeOf
+line-refused f start card n state last b bs r e =
+    judge (shaped (frameDigits f n) (b ∷ bs)) (checked start (frameDigits f n) (b ∷ bs)) (frameAllowed f card n state last (stateIn f (b ∷ bs)) (frameIn f n (b ∷ bs))) e
+  where
+    judge : (x y z : Bool) → judged (cond x Whole (Fault BadLine)) y z BadFrame ≡ Refused r → (r ≡ BadLine) ⊎ ((r ≡ BadCheck) ⊎ (r ≡ BadFrame))
+    judge false y z q = inl (cc)
+    judge true false z q = inr (inl (cc))
+    judge true true false q = inr (inr (cc))
+    judge true true true q = let w : _≡_ {A = ℕ} 0 1 = cc in absurd (omega arith)

@@ -1,0 +1,33 @@
+-- Sheets and read-outs within the limits: those that refusals 7 and 9 let pass.
+use Prim.Native.Nat.{ℕ, _+_, _-_, _^_, _<_}
+use mathlib.Core.Path.{_≡_}
+use mathlib.Core.Bool.{Bool, true, _&&_, cond}
+use mathlib.Core.List.{List, [], _∷_}
+use lib.ListN.{length}
+use Rattle.frame.specs.declared.Frame.{Frame}
+use Rattle.frame.specs.Format.{Format}
+use Rattle.frame.specs.Lines.{headerAllowed, frameAllowed, noFrame}
+use Rattle.sheet.specs.Pages.{Page}
+
+-- frames that refusal 9 lets pass, from a state on; `last` is the frame before
+abbrev pub framesAllowed : Format → ℕ → ℕ → ℕ → Frame → List Frame → Bool
+framesAllowed f card n state last [] = true
+framesAllowed f card n state last (fr ∷ frs) = frameAllowed f card n state last state fr && framesAllowed f card n (state + 1) fr frs
+
+-- each frame has an entry for each of n cards, and a change number of 8 digits
+abbrev pub Formed : ℕ → List Frame → Type 0
+Formed n [] = Unit {0}
+Formed n (fr ∷ frs) = (length (fr .entries) ≡ n) × (fr .change < 16 ^ 8) × Formed n frs
+
+-- a sheet within the limits, where a card is due; `first` is the first sheet's number of cards, and 0 where this is the first sheet
+pub record Allowed (f : Format) (due first : ℕ) (p : Page) : Type 0 where
+  pub header : headerAllowed f due first (p .header) ≡ true
+  pub session : p .header .session < 16 ^ 8
+  pub count : p .header .count ≡ length (p .frames)
+  pub formed : Formed (p .header .cards) (p .frames)
+  pub frames : framesAllowed f (p .header .card) (p .header .cards) (p .header .base + 1) noFrame (p .frames) ≡ true
+
+-- the sheets of a read-out from a card on
+abbrev pub AllAllowed : Format → ℕ → ℕ → List Page → Type 0
+AllAllowed f due first [] = Unit {0}
+AllAllowed f due first (p ∷ ps) = Allowed f due first p × AllAllowed f (due + 1) first ps
