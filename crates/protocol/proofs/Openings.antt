@@ -37,6 +37,7 @@ fresh-running L n low high =
       at = λ p. 0;
       not-rolling = refl;
       session-given = le-refl 1;
+      count-given = zero-le;
       carded = record { one = 0; is-card = le-trans low high; is-there = lt-ltb 0 n low; none-beyond = le-ltb (L .width) n high };
       ranges =
           record {
@@ -86,7 +87,7 @@ module _ (L : Limits) (m : Model) (j : Journal) (r : Running L m j) (reads write
     (there : (c : ℕ) → c < L .width → reads c || writes c ≡ true → m .present c ≡ true)
     (touched : (c : ℕ) × (c < L .width) × (reads c || writes c ≡ true))
     (unbarred : (p c : ℕ) → p < L .places → c < L .width → bars (m .place p) reads writes c ≡ false)
-    (is-place : f < L .places) (is-free : isOpen (m .place f) ≡ false)
+    (is-place : f < L .places) (is-free : isOpen (m .place f) ≡ false) (left : m .count < L .greatestNumber)
     (room : (c : ℕ) → c < L .width → writes c ≡ true → (m .numbers .reached c < m .numbers .base c + L .inHand) × (m .numbers .reached c < L .greatestState)) where
   abbrev t : Change
   t = record { number = suc (m .count); reads = reads; writes = writes }
@@ -138,6 +139,7 @@ module _ (L : Limits) (m : Model) (j : Journal) (r : Running L m j) (reads write
         at = put (r .at) f 0;
         not-rolling = r .not-rolling;
         session-given = r .session-given;
+        count-given = left;
         carded = r .carded;
         ranges = r .ranges;
         stored-is = r .stored-is;

@@ -228,6 +228,7 @@ module _ (L : Limits) (n : ℕ) (m : Model) (j : Journal) (few : n ≤ L .width)
                     vector-is = intact-again H a .vectors;
                   };
               count = a .count;
+            count-given = a .count-given;
               numbered = a .numbered;
               bounded = a .bounded;
               there = λ i c h l e. present-same c ∙ a .there i c h l e;

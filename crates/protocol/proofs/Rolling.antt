@@ -37,6 +37,7 @@ pub record AboutLine (L : Limits) (m : Model) (start : Numbers) (n : ℕ) (store
   pub intact : Intact (L .width) H start n stored (m .numbers .base) (m .numbers .stored) (m .numbers .reached) (m .memory .frame)
   pub framed : Framed (L .width) H start n (m .numbers .base) (m .numbers .reached) (m .memory .maker) (m .memory .frame)
   pub count : ℕ
+  pub count-given : count ≤ L .greatestNumber
   pub numbered : Numbered (L .width) H n count
   pub bounded : (c : ℕ) → c < L .width → start c + writers H c n ≤ L .greatestState
   pub there : (i c : ℕ) → i < n → c < L .width → touches (H i) c ≡ true → m .present c ≡ true
@@ -172,6 +173,7 @@ module _ (L : Limits) (m : Model) (j : Journal) (r : Running L m j) where
             intact = intact-same (L .width) H (j .start) (length (j .history)) same-stored (intact L m j r H a);
             framed = a .framed;
             count = m .count;
+            count-given = r .count-given;
             numbered = a .numbered;
             bounded = a .bounded;
             there = a .there;
@@ -215,7 +217,7 @@ module _ (L : Limits) (m : Model) (j : Journal) (r : Rolling L m j) where
         kept = r .kept;
         some-left = r .some-left;
         about = λ H agree. let a : AboutLine L m (j .start) (length (j .history)) (j .stored) (m .line) H = r .about H agree in
-            record { line-right = a .line-right; intact = a .intact; framed = a .framed; count = a .count; numbered = a .numbered; bounded = a .bounded; there = a .there };
+            record { line-right = a .line-right; intact = a .intact; framed = a .framed; count = a .count; count-given = a .count-given; numbered = a .numbered; bounded = a .bounded; there = a .there };
       }
 
   module _ (c : ℕ) (l : c < L .width) where
@@ -293,7 +295,7 @@ module _ (L : Limits) (m : Model) (j : Journal) (r : Rolling L m j) where
               put-other (m .numbers .stored) c (m .line c) d q ∙ r .kept d ld here (fails (m .rolled d) (λ y. clash (or-right (eqb d c) y) e));
           some-left = left;
           about = λ H agree. let a : AboutLine L m (j .start) (length (j .history)) (j .stored) (m .line) H = r .about H agree in
-              record { line-right = a .line-right; intact = intact-lowered H a; framed = framed-lowered H a; count = a .count; numbered = a .numbered; bounded = a .bounded; there = a .there };
+              record { line-right = a .line-right; intact = intact-lowered H a; framed = framed-lowered H a; count = a .count; count-given = a .count-given; numbered = a .numbered; bounded = a .bounded; there = a .there };
         }
 
     -- ---- the last roll: a session begins at the line
@@ -337,6 +339,7 @@ module _ (L : Limits) (m : Model) (j : Journal) (r : Rolling L m j) where
             at = λ p. 0;
             not-rolling = refl;
             session-given = omega arith;
+            count-given = zero-le;
             carded = r .carded;
             ranges =
                 record {

@@ -79,6 +79,7 @@ pub record Running (L : Limits) (m : Model) (j : Journal) : Type 0 where
   pub at : ℕ → ℕ
   pub not-rolling : isRolling (m .phase) ≡ false
   pub session-given : 0 < m .session
+  pub count-given : m .count ≤ L .greatestNumber
   pub carded : Carded L (m .present)
   pub ranges : Ranges L (m .phase) (j .start) (m .numbers)
   pub stored-is : (c : ℕ) → c < L .width → j .stored c ≡ m .numbers .stored c

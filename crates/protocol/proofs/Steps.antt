@@ -93,6 +93,7 @@ module _ (L : Limits) (m : Model) (j : Journal) (r : Running L m j) where
       (some-card (ps .1 .1 .0))
       (λ p c lp lc. none-at (L .places) (λ q. bars (m .place q) reads writes c) (none-at (L .width) (barred L m reads writes) (ps .1 .1 .1 .1 .0) c lc) p lp)
       free (not-true (isOpen (m .place (freeAt L m))) (first-passes (L .places) (λ p. not (isOpen (m .place p))) free))
+      (leb-false (L .greatestNumber) (m .count) (or-none (someWritten L writes (λ d. leb (L .greatestState) (m .numbers .reached d))) (leb (L .greatestNumber) (m .count)) (ps .1 .1 .1 .1 .1 .1 .1 .0) .1))
       (λ c l z. (
         leb-false (m .numbers .base c + L .inHand) (m .numbers .reached c) (fails (leb (m .numbers .base c + L .inHand) (m .numbers .reached c)) (λ y. clash (and-intro z y) (none-at (L .width) (λ d. writes d && leb (m .numbers .base d + L .inHand) (m .numbers .reached d)) (ps .1 .1 .1 .1 .1 .1 .0) c l))),
         leb-false (L .greatestState) (m .numbers .reached c) (fails (leb (L .greatestState) (m .numbers .reached c)) (λ y. clash (and-intro z y) (none-at (L .width) (λ d. writes d && leb (L .greatestState) (m .numbers .reached d)) (or-none (someWritten L writes (λ d. leb (L .greatestState) (m .numbers .reached d))) (leb (L .greatestNumber) (m .count)) (ps .1 .1 .1 .1 .1 .1 .1 .0) .0) c l))),

@@ -37,6 +37,7 @@ store-keeps L m j r c s l low high =
       at = r .at;
       not-rolling = r .not-rolling;
       session-given = r .session-given;
+      count-given = r .count-given;
       carded = r .carded;
       ranges =
           record {
@@ -147,6 +148,7 @@ module _ (L : Limits) (m : Model) (j : Journal) (r : Running L m j) where
         at = r .at;
         not-rolling = r .not-rolling;
         session-given = r .session-given;
+        count-given = r .count-given;
         carded = r .carded;
         ranges =
             record {
@@ -220,6 +222,7 @@ module _ (L : Limits) (m : Model) (j : Journal) (r : Running L m j) (cards : Car
         at = r .at;
         not-rolling = r .not-rolling;
         session-given = r .session-given;
+        count-given = r .count-given;
         carded = r .carded;
         ranges =
             record {
@@ -295,6 +298,7 @@ module _ (L : Limits) (m : Model) (j : Journal) (r : Running L m j) (cards : Car
         at = r .at;
         not-rolling = refl;
         session-given = r .session-given;
+        count-given = r .count-given;
         carded = r .carded;
         ranges =
             record {
