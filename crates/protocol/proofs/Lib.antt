@@ -12,3 +12,5 @@ pub mod Lost
 pub mod Steps
 pub mod Invariant
 pub mod Restart
+pub mod Claims
+pub mod Lists

@@ -5,3 +5,5 @@ pub mod Plan
 pub mod Calls
 pub mod Journal
 pub mod Sheets
+pub mod Run
+pub mod Demands

@@ -1,0 +1,155 @@
+-- Every list of calls keeps the invariant, and what follows of the cabinet after each call. Assumes nothing.
+use Prim.Native.Nat.{ℕ, zero, suc, _+_, _-_, _≤_, _<_, zero-le}
+use mathlib.Core.Path.{_≡_, refl, sym, _∙_, ap, ap₂, subst}
+use mathlib.Core.Bool.{Bool, true, false, not, _&&_, _||_, cond}
+use mathlib.Core.Logic.{_⊎_, inl, inr, by-cases, ⊎-elim}
+use mathlib.Core.List.{List, [], _∷_}
+use native.Mathlib.Nat.{le-refl, le-trans}
+use native.Mathlib.Decide.{decLe, decLt, ℕ-discrete}
+use native.Mathlib.Omega.{arith}
+use lib.Dec.{eqb, ltb}
+use lib.ListN.{length}
+use borrow.Author.Tests.{lt-ltb, le-ltb, eq-eqb}
+use Rattle.laws.proofs.Logic.{test, clash, fails, and-left, or-elim, not-true, cond-case}
+use Rattle.laws.proofs.Below.{all-at}
+use Rattle.frame.specs.Format.{Format}
+use Rattle.history.specs.Change.{CardSet, Change, History, Numbers, writers, made, UpTo, historyOf}
+use Rattle.history.specs.Vector.{Vector, vector, entryOf, LastPreceding}
+use Rattle.history.proofs.Writers.{Maker, maker, makers-order}
+use Rattle.history.proofs.Greatest.{Greatest, Makes, greatest-of}
+use Rattle.history.proofs.Vectors.{vector-greatest}
+use Rattle.history.proofs.Precedence.{up-to-trans}
+use Rattle.history.proofs.Cuts.{writers-precede}
+use Rattle.history.proofs.Entries.{entry-of-greatest}
+use Rattle.protocol.specs.Model.{Limits, Phase, up, down, rolling, isUp, isDown, isRolling, Model, within, withCard}
+use Rattle.protocol.specs.Edit.{put, Edit}
+use Rattle.protocol.specs.Plan.{CardRow, Answer, done, opened, fixed, Reply, accepted, refused, Check, Plan, checked, afterPlan}
+use Rattle.protocol.specs.Calls.{freshModel, cardRows, openChecks, voteChecks, takeChecks, withdrawChecks, storeChecks, trimChecks, safeChecks, loseChecks, fixChecks, rollChecks}
+use Rattle.protocol.specs.Sheets.{sheetChecks, sheetOf, pageStored}
+use Rattle.protocol.specs.Journal.{Journal, Fixing, unfixed, fixing, emptyJournal, noteOpen, noteVote, noteStruck, noteStore, noteLose, noteFix, noteRoll}
+use Rattle.protocol.specs.Run.{Call, openCall, voteCall, takeCall, withdrawCall, storeCall, trimCall, safeCall, loseCall, fixCall, rollCall, sheetCall, Choice, planOf, Calls, none, further, Run, start, next, note, journal}
+use Rattle.protocol.specs.Demands.{VectorsRight}
+use Rattle.protocol.proofs.Taking.{Framed, ByTakenWriters}
+use Rattle.protocol.proofs.Running.{About, Running}
+use Rattle.protocol.proofs.Rolling.{AboutLine, Rolling, LineNoted}
+use Rattle.protocol.proofs.Steps.{checked-case, noted}
+use Rattle.protocol.proofs.Invariant.{RollingBack, Invariant, fresh-invariant, invariant-sound, next-open, next-vote, next-withdraw, next-take, next-store, next-trim, next-safe, next-lose, next-fix, next-roll}
+
+-- the journal notes what the call's lemma says
+same-note : (L : Limits) (n : ℕ) (j j' : Journal) (call : Call) (cs : List Check) (a : Answer) (es : List Edit) → note L n j call (accepted a) ≡ j'
+  → noted j j' (checked cs a es .reply) ≡ note L n j call (checked cs a es .reply)
+same-note L n j j' call cs a es e =
+    checked-case (λ (p : Plan). noted j j' (p .reply) ≡ note L n j call (p .reply)) cs a es (λ r. refl) (λ ps. sym e)
+
+step : (F : Format) (L : Limits) (n : ℕ) (m : Model) (j : Journal) → Invariant L n m j → (call : Call) (x : Choice)
+  → Invariant L n (afterPlan L (planOf F L m call x) m) (note L n j call (planOf F L m call x .reply))
+step F L n m j v (openCall reads writes) x =
+    subst (Invariant L n _) (same-note L n j (noteOpen j (suc (m .count)) reads writes) (openCall reads writes) (openChecks L m reads writes (x .named)) _ _ refl) (next-open L n m j v reads writes (x .named))
+step F L n m j v (voteCall k c agrees) x = subst (Invariant L n _) (same-note L n j (noteVote L j k c agrees) (voteCall k c agrees) (voteChecks L m k c) _ _ refl) (next-vote L n m j v k c agrees)
+step F L n m j v (takeCall k c) x = subst (Invariant L n _) (same-note L n j j (takeCall k c) (takeChecks L m k c) _ _ refl) (next-take L n m j v k c)
+step F L n m j v (withdrawCall k) x = subst (Invariant L n _) (same-note L n j (noteStruck j k) (withdrawCall k) (withdrawChecks L m k) _ _ refl) (next-withdraw L n m j v k)
+step F L n m j v (storeCall c s) x = subst (Invariant L n _) (same-note L n j (noteStore j c s) (storeCall c s) (storeChecks L m c s) _ _ refl) (next-store L n m j v c s)
+step F L n m j v trimCall x = subst (Invariant L n _) (same-note L n j j trimCall (trimChecks L m) _ _ refl) (next-trim L n m j v)
+step F L n m j v (safeCall k) x = subst (Invariant L n _) (same-note L n j j (safeCall k) (safeChecks L m k) _ _ refl) (next-safe L n m j v k)
+step F L n m j v (loseCall cards) x = subst (Invariant L n _) (same-note L n j (noteLose j) (loseCall cards) (loseChecks L m cards) _ _ refl) (next-lose L n m j v cards)
+step F L n m j v (fixCall a b) x = subst (Invariant L n _) (same-note L n j (noteFix j (cardRows L m)) (fixCall a b) (fixChecks L m a b (x .lost)) _ _ refl) (next-fix L n m j v a b (x .lost))
+step F L n m j v (rollCall c) x = subst (Invariant L n _) (same-note L n j (noteRoll L (λ i. ltb i n) j c) (rollCall c) (rollChecks L m c) _ _ refl) (next-roll L n m j v c)
+step F L n m j v (sheetCall c places) x =
+    subst (Invariant L n _) (same-note L n j j (sheetCall c places) (sheetChecks F L m c places) _ _ refl)
+    (checked-case (λ (p : Plan). Invariant L n (afterPlan L p m) (noted j j (p .reply))) (sheetChecks F L m c places) _ _ (λ r. v) (λ ps. v))
+
+pub run-invariant : {F : Format} {L : Limits} {n : ℕ} → 1 ≤ n → n ≤ L .width → {cs : Calls} {m : Model} → Run F L n cs m → Invariant L n m (journal L n cs)
+run-invariant {F} {L} {n} low high start = fresh-invariant L n low high
+run-invariant {F} {L} {n} low high (next {cs} {m} r call x p) = step F L n m (journal L n cs) (run-invariant low high r) call x
+
+-- ---- demand 2 of a cabinet that meets the invariant
+module _ (L : Limits) (n : ℕ) (m : Model) (j : Journal) (v : Invariant L n m j) where
+  abbrev H₀ : History
+  H₀ = historyOf (j .history)
+  abbrev N : ℕ
+  N = length (j .history)
+
+  framed-right : Framed (L .width) H₀ (j .start) N (m .numbers .base) (m .numbers .reached) (m .memory .maker) (m .memory .frame)
+    → ((c : ℕ) → c < L .width → j .start c ≤ m .numbers .base c) → ((c : ℕ) → c < L .width → m .numbers .reached c ≤ j .start c + writers H₀ c N)
+    → (c x i : ℕ) → c < L .width → i < L .width → m .numbers .base c < x → x ≤ m .numbers .reached c → LastPreceding (L .width) H₀ (j .start) N c x i (entryOf (m .memory .frame c x i))
+  framed-right f low top c x i l li a b =
+      let k : Maker H₀ (j .start) N c x = maker H₀ (j .start) N c x (omega (arith, low c l, a)) (omega (arith, top c l, b)) in
+      let q : m .memory .frame c x i ≡ vector (L .width) H₀ (j .start) (k .at) i =
+        ap (λ (y : ℕ). m .memory .frame c y i) (sym (k .makes)) ∙ f .vector-is (k .at) c i (k .in-history) l li (k .wrote) (omega (arith, k .makes, a)) (omega (arith, k .makes, b)) in
+      rw q (entry-of-greatest (L .width) H₀ (j .start) N (k .at) c x i (vector (L .width) H₀ (j .start) (k .at) i) (k .in-history) (k .wrote) (k .makes) (vector-greatest (L .width) H₀ (j .start) (k .at) i li))
+
+  -- while rolling no phase is up
+  not-up : RollingBack L m j → isUp (m .phase) ≡ false
+  not-up r = cases (m .phase) (r .rolls .is-rolling)
+    where
+      cases : (p : Phase) → isRolling p ≡ true → isUp p ≡ false
+      cases up e = clash e refl
+      cases down e = refl
+      cases rolling e = refl
+
+  module _ (r : Running L m j) where
+    a : About L m (j .start) N (r .took) (r .at) H₀
+    a = r .about H₀ (λ i h. refl)
+
+    -- the last vector is that of the writer that made the present state
+    last-right : (c i : ℕ) → c < L .width → i < L .width → j .start c < m .numbers .reached c → LastPreceding (L .width) H₀ (j .start) N c (m .numbers .reached c) i (entryOf (m .memory .last c i))
+    last-right c i l li h =
+        let k : Maker H₀ (j .start) N c (m .numbers .reached c) = maker H₀ (j .start) N c (m .numbers .reached c) h (a .levels .high c l) in
+        entry-of-greatest (L .width) H₀ (j .start) N (k .at) c (m .numbers .reached c) i (m .memory .last c i) (k .in-history) (k .wrote) (k .makes)
+        (greatest-of (λ t b. from-taken k t b)
+        (λ t u. (k .at, k .in-history, a .levels .taken (k .at) c (k .in-history) l (k .wrote) (omega (arith, k .makes)), k .wrote, u)) (a .tracks .last-is c i l li))
+      where
+        from-taken : (k : Maker H₀ (j .start) N c (m .numbers .reached c)) (t : ℕ) → ByTakenWriters (L .width) H₀ N (r .took) c t → UpTo (L .width) H₀ t (k .at)
+        from-taken k t b =
+            let o : b .0 ≤ k .at = makers-order H₀ (j .start) c (b .3) (k .wrote) (omega (arith, k .makes, a .levels .up-to (b .0) c (b .1) l (b .3) (b .2))) in
+            up-to-trans (b .4) (by-cases (ℕ-discrete (b .0) (k .at)) (λ (q : b .0 ≡ k .at). inl q) (λ q. inr (writers-precede (L .width) H₀ c l (omega (arith, o, q)) (b .3) (k .wrote))))
+
+    last-none : (c i : ℕ) → c < L .width → i < L .width → m .numbers .reached c ≡ j .start c → m .memory .last c i ≡ 0
+    last-none c i l li e =
+        by-cases (decLt 0 (m .memory .last c i)) (λ z. absurd (none-taken (a .tracks .last-is c i l li .met z))) (λ z. omega (arith, z))
+      where
+        none-taken : Makes H₀ (j .start) (ByTakenWriters (L .width) H₀ N (r .took) c) i (m .memory .last c i) → ⊥
+        none-taken k = omega (arith, e, a .levels .up-to (k .1 .0) c (k .1 .1) l (k .1 .3) (k .1 .2))
+
+    vectors-running : VectorsRight L m j
+    vectors-running =
+        record {
+          in-hand = framed-right (a .framed) (r .ranges .from-start) (a .levels .high);
+          last = λ u c i l li h. last-right c i l li h;
+          none-yet = λ u c i l li e. last-none c i l li e;
+        }
+
+  vectors-rolling : RollingBack L m j → VectorsRight L m j
+  vectors-rolling r =
+      let a : AboutLine L m (j .start) N (j .stored) (m .line) H₀ = r .rolls .about H₀ (λ i h. refl) in
+      record {
+        in-hand = framed-right (a .framed) (a .intact .from-start) (a .intact .reached-top);
+        last = λ u. clash u (not-up r);
+        none-yet = λ u. clash u (not-up r);
+      }
+
+  pub vectors-right : VectorsRight L m j
+  vectors-right = ⊎-elim (λ (r : Running L m j). vectors-running r) (λ (r : RollingBack L m j). vectors-rolling r) (v .state)
+
+  -- ---- what each card has kept, by the journal
+  pub base-stored : (c : ℕ) → c < L .width → m .numbers .base c ≤ m .numbers .stored c
+  base-stored c l =
+      ⊎-elim (λ (r : Running L m j). r .ranges .base-stored c l)
+      (λ (r : RollingBack L m j). let a : AboutLine L m (j .start) N (j .stored) (m .line) H₀ = r .rolls .about H₀ (λ i h. refl) in le-trans (a .intact .base-line c l) (a .intact .line-stored c l)) (v .state)
+
+-- by the journal: the stored number, and the line once a card is marked
+abbrev pub keptOf : Numbers → Fixing → Numbers
+keptOf stored unfixed c = stored c
+keptOf stored (fixing line marked) c = cond (marked c) (line c) (stored c)
+
+pub stored-is-kept : (L : Limits) (n : ℕ) → n ≤ L .width → (m : Model) (j : Journal) → Invariant L n m j → (c : ℕ) → c < n → m .numbers .stored c ≡ keptOf (j .stored) (j .fix) c
+stored-is-kept L n few m j v c h =
+    ⊎-elim (λ (r : Running L m j). rw (r .not-fixed) (sym (r .stored-is c l)))
+    (λ (r : RollingBack L m j). rw (r .notes .is-noted) (test (r .notes .marked c)
+    (λ e. rw e (r .rolls .lowered c l (sym (r .notes .marked-is c l here) ∙ e) .1 ∙ sym (r .notes .line-is c l)))
+    (λ e. rw e (r .rolls .kept c l here (sym (r .notes .marked-is c l here) ∙ e))))) (v .state)
+  where
+    l : c < L .width
+    l = omega arith
+    here : m .present c ≡ true
+    here = v .present-is c ∙ lt-ltb c n h

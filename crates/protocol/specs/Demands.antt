@@ -1,0 +1,121 @@
+-- Demands 1 to 3 over whole lists of calls, and what belongs to them. Statements alone: the proofs are in proofs/Claims.antt.
+use Prim.Native.Nat.{ℕ, zero, suc, _+_, _≤_, _<_}
+use mathlib.Core.Path.{_≡_}
+use mathlib.Core.Bool.{Bool, true, false, not, _&&_, _||_}
+use mathlib.Core.Logic.{_⊎_, _↔_}
+use mathlib.Core.List.{List, [], _∷_}
+use lib.Dec.{eqb, ltb}
+use lib.ListN.{length}
+use Rattle.laws.specs.Below.{one-if, anyBelow, tabulate, occurs}
+use Rattle.refusal.specs.declared.Refusal.{Refusal}
+use Rattle.refusal.specs.Number.{numberOf}
+use Rattle.frame.specs.Format.{Format}
+use Rattle.history.specs.Change.{CardSet, Change, History, Numbers, writers, made, Cut, On, historyOf}
+use Rattle.history.specs.Vector.{Entry, entryOf, LastPreceding}
+use Rattle.history.specs.Line.{lost}
+use Rattle.protocol.specs.Model.{Limits, isUp, Model}
+use Rattle.protocol.specs.Sound.{sound}
+use Rattle.protocol.specs.Plan.{CardRow, Answer, done, safe, unsafe, fixed, Reply, accepted, refused, Plan, afterPlan}
+use Rattle.protocol.specs.Calls.{freshModel}
+use Rattle.protocol.specs.Sheets.{sheetOf, pageStored}
+use Rattle.protocol.specs.Journal.{Journal, Fixing, fixing, lineIn}
+use Rattle.protocol.specs.Run.{Call, voteCall, takeCall, withdrawCall, openCall, storeCall, trimCall, safeCall, loseCall, fixCall, rollCall, sheetCall, Choice, Proper, planOf, Calls, none, further, Run, start, next, journal, lineNoted, lastKept}
+
+-- ---- Demand 1, for any cabinet, a forged one too, and any arguments: "gets an answer or a refusal from document 01. A refusal changes neither the cabinet nor any lent list or buffer."
+-- (The lent lists and buffers are in the contracts of the calls.)
+
+-- a number of document 01's two tables
+abbrev pub Listed : ℕ → Type 0
+Listed k = ((1 ≤ k) × (k ≤ 12)) ⊎ ((20 ≤ k) × (k ≤ 30))
+
+pub record Refuses (F : Format) (L : Limits) (m : Model) (call : Call) (x : Choice) : Type 0 where
+  pub listed : (r : Refusal) → planOf F L m call x .reply ≡ refused r → Listed (numberOf r)
+  pub unchanged : (r : Refusal) → planOf F L m call x .reply ≡ refused r → afterPlan L (planOf F L m call x) m ≡ m
+
+abbrev pub Demand1 : Type 0
+Demand1 = (F : Format) (L : Limits) (m : Model) (call : Call) (x : Choice) → Refuses F L m call x
+
+-- ---- the history of the journal: "the changes decided since the last recovery"
+abbrev pub H : Journal → History
+H j = historyOf (j .history)
+
+abbrev pub decisions : Journal → ℕ
+decisions j = length (j .history)
+
+-- ---- Demand 2: "each state's vector is what Definitions 1 and 2 of EPFL report IC/2005/017 give for the changes decided since the last recovery: for every card its last state that precedes, or none"
+pub record VectorsRight (L : Limits) (m : Model) (j : Journal) : Type 0 where
+  -- of every state in hand
+  pub in-hand : (c x i : ℕ) → c < L .width → i < L .width → m .numbers .base c < x → x ≤ m .numbers .reached c
+    → LastPreceding (L .width) (H j) (j .start) (decisions j) c x i (entryOf (m .memory .frame c x i))
+  -- in phase up the last vector of a card is that of its present state, also where a trim has put its frame away
+  pub last : isUp (m .phase) ≡ true → (c i : ℕ) → c < L .width → i < L .width → j .start c < m .numbers .reached c
+    → LastPreceding (L .width) (H j) (j .start) (decisions j) c (m .numbers .reached c) i (entryOf (m .memory .last c i))
+  -- and none at the session's start
+  pub none-yet : isUp (m .phase) ≡ true → (c i : ℕ) → c < L .width → i < L .width → m .numbers .reached c ≡ j .start c → m .memory .last c i ≡ 0
+
+-- ---- Demand 3: "at each accepted fixing"
+pub record FixRight (L : Limits) (n : ℕ) (j : Journal) (rows : List CardRow) (numbers : List ℕ) : Type 0 where
+  -- the line answered, by card
+  pub line : Numbers
+  -- "the stored numbers answered are the book's"
+  pub answered : rows ≡ tabulate n (λ c. record { card = c; stored = j .stored c; line = line c })
+  -- "the line answered is a choice"
+  pub is-cut : Cut (L .width) (H j) (j .start) (decisions j) (j .stored) line
+  -- "and every other choice is on no card above it"
+  pub greatest : (g : Numbers) → Cut (L .width) (H j) (j .start) (decisions j) (j .stored) g → (c : ℕ) → c < L .width → g c ≤ line c
+  -- "a change is on every card it wrote or on none"
+  pub whole : (i c c' : ℕ) → i < decisions j → c < L .width → c' < L .width → H j i .writes c ≡ true → H j i .writes c' ≡ true
+    → On (H j) (j .start) line i c → On (H j) (j .start) line i c'
+  -- "Lost: decided in this session, wrote a card, not in the line. Each is listed once"
+  pub lost-listed : (k : ℕ) → occurs k numbers ≡ one-if (anyBelow (decisions j) (λ i. lost (L .width) (H j) (j .start) line i && eqb (H j i .number) k))
+
+-- "each roll sets its card's four numbers to that card's number in it"
+pub record RollRight (j : Journal) (c : ℕ) (m : Model) : Type 0 where
+  pub base : m .numbers .base c ≡ lineNoted (j .fix) c
+  pub stored : m .numbers .stored c ≡ lineNoted (j .fix) c
+  pub held : m .numbers .held c ≡ lineNoted (j .fix) c
+  pub reached : m .numbers .reached c ≡ lineNoted (j .fix) c
+
+-- Call 7: the change of number k is in the history, and it is answered safe exactly where the journal has all its states stored
+pub record SafeRight (L : Limits) (j : Journal) (k : ℕ) (answer : Answer) : Type 0 where
+  pub i : ℕ
+  pub decided : i < decisions j
+  pub number : H j i .number ≡ k
+  pub right : (answer ≡ safe) ↔ ((c : ℕ) → c < L .width → H j i .writes c ≡ true → made (H j) (j .start) i c ≤ j .stored c)
+
+-- what holds of an accepted call, made at the cabinet m after the calls cs, that leaves the cabinet m'
+abbrev pub CallRight : Limits → (n : ℕ) → Calls → Call → Answer → (m m' : Model) → Type 0
+CallRight L n cs (openCall reads writes) a m m' = Unit {0}
+CallRight L n cs (voteCall k c agrees) a m m' = Unit {0}
+CallRight L n cs (takeCall k c) a m m' = Unit {0}
+CallRight L n cs (withdrawCall k) a m m' = Unit {0}
+CallRight L n cs (storeCall c s) a m m' = Unit {0}
+CallRight L n cs trimCall a m m' = Unit {0}
+CallRight L n cs (safeCall k) a m m' = SafeRight L (journal L n cs) k a
+-- "on a lost card its last accepted store or roll stands .. and nothing above"
+CallRight L n cs (loseCall cards) a m m' = (c : ℕ) → c < n → cards c ≡ true → m' .numbers .held c ≡ lastKept L n cs c
+CallRight L n cs (fixCall x y) a m m' = (rows : List CardRow) (numbers : List ℕ) → a ≡ fixed rows numbers → FixRight L n (journal L n cs) rows numbers
+CallRight L n cs (rollCall c) a m m' = RollRight (journal L n cs) c m'
+CallRight L n cs (sheetCall c places) a m m' = Unit {0}
+
+-- what holds of the cabinet m after the calls cs
+pub record CabinetRight (L : Limits) (n : ℕ) (cs : Calls) (m : Model) : Type 0 where
+  -- never refused with 28
+  pub never-28 : sound L m ≡ true
+  -- demand 2
+  pub vectors : VectorsRight L m (journal L n cs)
+  -- cuts: the stored number of each card, and the last state of its sheet, is its last accepted store or roll
+  pub stored-kept : (c : ℕ) → c < n → m .numbers .stored c ≡ lastKept L n cs c
+  pub sheet-kept : (c : ℕ) → c < n → pageStored (sheetOf L m c) ≡ lastKept L n cs c
+
+-- throughout a list: of each call, and of the cabinet after it
+abbrev pub Throughout : {F : Format} {L : Limits} {n : ℕ} {cs : Calls} {m : Model} → Run F L n cs m → Type 0
+Throughout {F} {L} {n} start = CabinetRight L n none (freshModel n)
+Throughout {F} {L} {n} (next {cs} {m} r call x p) =
+    Throughout r
+    × ((a : Answer) → planOf F L m call x .reply ≡ accepted a → CallRight L n cs call a m (afterPlan L (planOf F L m call x) m))
+    × CabinetRight L n (further cs call (planOf F L m call x .reply)) (afterPlan L (planOf F L m call x) m)
+
+-- demands 2 and 3, for every list of calls from a fresh cabinet of any allowed size
+abbrev pub Demands : Format → Limits → Type 0
+Demands F L = (n : ℕ) → 1 ≤ n → n ≤ L .width → (cs : Calls) (m : Model) (r : Run F L n cs m) → Throughout r

@@ -1,0 +1,144 @@
+-- Lists of calls from a fresh cabinet, refused ones included, with every answer and the cabinet after each call.
+use Prim.Native.Nat.{ℕ, zero, suc, _<_}
+use mathlib.Core.Path.{_≡_}
+use mathlib.Core.Bool.{Bool, true, false}
+use mathlib.Core.List.{List, []}
+use lib.Dec.{ltb}
+use Rattle.laws.specs.Below.{one-if, anyBelow, occurs}
+use Rattle.frame.specs.Format.{Format}
+use Rattle.history.specs.Change.{CardSet, Numbers}
+use Rattle.protocol.specs.Model.{Limits, Model}
+use Rattle.protocol.specs.Edit.{put}
+use Rattle.protocol.specs.Plan.{CardRow, Answer, done, opened, safe, unsafe, fixed, written, Reply, accepted, refused, Plan, afterPlan}
+use Rattle.protocol.specs.Calls.{freshModel, barred, isLost, openPlan, votePlan, takePlan, withdrawPlan, storePlan, trimPlan, safePlan, losePlan, fixPlan, rollPlan}
+use Rattle.protocol.specs.Sheets.{sheetPlan}
+use Rattle.protocol.specs.Journal.{Journal, Fixing, unfixed, fixing, emptyJournal, noteOpen, noteVote, noteStruck, noteStore, noteLose, noteFix, noteRoll}
+
+-- calls 1 to 10 with the lengths of the lists lent, and sheet writing with the buffer's
+pub data Call : Type 0 where
+  openCall : (reads writes : CardSet) → Call
+  voteCall : (change card : ℕ) (agrees : Bool) → Call
+  takeCall : (change card : ℕ) → Call
+  withdrawCall : (change : ℕ) → Call
+  storeCall : (card state : ℕ) → Call
+  trimCall : Call
+  safeCall : (change : ℕ) → Call
+  loseCall : (cards : CardSet) → Call
+  fixCall : (cardPlaces lostPlaces : ℕ) → Call
+  rollCall : (card : ℕ) → Call
+  sheetCall : (card places : ℕ) → Call
+
+-- what document 01 leaves to the program: the card named with 21, and the order of the lost changes
+pub record Choice : Type 0 where
+  pub named : ℕ
+  pub lost : List ℕ
+
+-- "one such card is named"; "Each is listed once; their order is open"
+abbrev pub Proper : Limits → Model → Call → Choice → Type 0
+Proper L m (openCall reads writes) x =
+    anyBelow (L .width) (barred L m reads writes) ≡ true → (x .named < L .width) × (barred L m reads writes (x .named) ≡ true)
+Proper L m (voteCall k c agrees) x = Unit {0}
+Proper L m (takeCall k c) x = Unit {0}
+Proper L m (withdrawCall k) x = Unit {0}
+Proper L m (storeCall c s) x = Unit {0}
+Proper L m trimCall x = Unit {0}
+Proper L m (safeCall k) x = Unit {0}
+Proper L m (loseCall cards) x = Unit {0}
+Proper L m (fixCall a b) x = (k : ℕ) → occurs k (x .lost) ≡ one-if (isLost L m k)
+Proper L m (rollCall c) x = Unit {0}
+Proper L m (sheetCall c places) x = Unit {0}
+
+-- the plan of a call
+abbrev pub planOf : Format → Limits → Model → Call → Choice → Plan
+planOf F L m (openCall reads writes) x = openPlan L m reads writes (x .named)
+planOf F L m (voteCall k c agrees) x = votePlan L m k c agrees
+planOf F L m (takeCall k c) x = takePlan L m k c
+planOf F L m (withdrawCall k) x = withdrawPlan L m k
+planOf F L m (storeCall c s) x = storePlan L m c s
+planOf F L m trimCall x = trimPlan L m
+planOf F L m (safeCall k) x = safePlan L m k
+planOf F L m (loseCall cards) x = losePlan L m cards
+planOf F L m (fixCall a b) x = fixPlan L m a b (x .lost)
+planOf F L m (rollCall c) x = rollPlan L m c
+planOf F L m (sheetCall c places) x = sheetPlan F L m c places
+
+-- the calls of a list with their replies, the last one outermost
+pub data Calls : Type 0 where
+  none : Calls
+  further : Calls → Call → Reply → Calls
+
+-- a list of calls from a fresh cabinet of n cards, and the cabinet that it leads to. "Each call gets the cabinet that the last one returned".
+pub data Run (F : Format) (L : Limits) (n : ℕ) : Calls → Model → Type 0 where
+  start : Run F L n none (freshModel n)
+  next : {cs : Calls} {m : Model} → Run F L n cs m → (call : Call) (x : Choice) → Proper L m call x
+    → Run F L n (further cs call (planOf F L m call x .reply)) (afterPlan L (planOf F L m call x) m)
+
+-- ---- the journal of a list
+-- the number that an opening answers
+abbrev pub numberIn : Answer → ℕ
+numberIn done = 0
+numberIn (opened k) = k
+numberIn safe = 0
+numberIn unsafe = 0
+numberIn (fixed rows lost) = 0
+numberIn (written bytes) = 0
+
+-- the card records that a fix answers
+abbrev pub rowsIn : Answer → List CardRow
+rowsIn done = []
+rowsIn (opened k) = []
+rowsIn safe = []
+rowsIn unsafe = []
+rowsIn (fixed rows lost) = rows
+rowsIn (written bytes) = []
+
+-- what the journal notes of an accepted call
+abbrev pub noteAccepted : Limits → ℕ → Journal → Call → Answer → Journal
+noteAccepted L n j (openCall reads writes) a = noteOpen j (numberIn a) reads writes
+noteAccepted L n j (voteCall k c agrees) a = noteVote L j k c agrees
+noteAccepted L n j (takeCall k c) a = j
+noteAccepted L n j (withdrawCall k) a = noteStruck j k
+noteAccepted L n j (storeCall c s) a = noteStore j c s
+noteAccepted L n j trimCall a = j
+noteAccepted L n j (safeCall k) a = j
+noteAccepted L n j (loseCall cards) a = noteLose j
+noteAccepted L n j (fixCall x y) a = noteFix j (rowsIn a)
+noteAccepted L n j (rollCall c) a = noteRoll L (λ i. ltb i n) j c
+noteAccepted L n j (sheetCall c places) a = j
+
+-- "Refused call .. : nothing."
+abbrev pub note : Limits → ℕ → Journal → Call → Reply → Journal
+note L n j call (accepted a) = noteAccepted L n j call a
+note L n j call (refused r) = j
+
+abbrev pub journal : Limits → ℕ → Calls → Journal
+journal L n none = emptyJournal
+journal L n (further cs call reply) = note L n (journal L n cs) call reply
+
+-- ---- cuts: "on a lost card its last accepted store or roll stands (0 if there was none)"
+-- the line noted, by card
+abbrev pub lineNoted : Fixing → Numbers
+lineNoted unfixed c = 0
+lineNoted (fixing line marked) c = line c
+
+abbrev pub keptAfter : Journal → Call → Numbers → Numbers
+keptAfter j (openCall reads writes) x = x
+keptAfter j (voteCall k c agrees) x = x
+keptAfter j (takeCall k c) x = x
+keptAfter j (withdrawCall k) x = x
+keptAfter j (storeCall c s) x = put x c s
+keptAfter j trimCall x = x
+keptAfter j (safeCall k) x = x
+keptAfter j (loseCall cards) x = x
+keptAfter j (fixCall a b) x = x
+keptAfter j (rollCall c) x = put x c (lineNoted (j .fix) c)
+keptAfter j (sheetCall c places) x = x
+
+abbrev pub keptBy : Journal → Call → Reply → Numbers → Numbers
+keptBy j call (accepted a) x = keptAfter j call x
+keptBy j call (refused r) x = x
+
+-- by arguments and answers: each card's last accepted store or roll, and 0 if there was none
+abbrev pub lastKept : Limits → ℕ → Calls → Numbers
+lastKept L n none c = 0
+lastKept L n (further cs call reply) c = keptBy (journal L n cs) call reply (lastKept L n cs) c
