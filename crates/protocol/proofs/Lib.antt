@@ -14,3 +14,5 @@ pub mod Invariant
 pub mod Restart
 pub mod Claims
 pub mod Lists
+pub mod Kept
+pub mod Answers

@@ -70,7 +70,7 @@ pub record Numbered-as (H : History) (n k : ℕ) : Type 0 where
 module _ (L : Limits) (m : Model) (j : Journal) (r : Running L m j) (H : History) (a : About L m (j .start) (length (j .history)) (r .took) (r .at) H) where
   -- ---- frames above a bound that is not below base
   module _ (bound : Numbers) (base-bound : (c : ℕ) → c < L .width → m .numbers .base c ≤ bound c) where
-    frames-above : (k : ℕ) → someFrameAbove L m k bound ≡ true → (x : Numbered-as H (length (j .history)) k) × Above (L .width) H (j .start) bound (x .i)
+    pub frames-above : (k : ℕ) → someFrameAbove L m k bound ≡ true → (x : Numbered-as H (length (j .history)) k) × Above (L .width) H (j .start) bound (x .i)
     frames-above k e =
         let f : Found (L .width) (λ c. m .present c && frameAbove m k c (bound c)) = any-elim (L .width) (λ c. m .present c && frameAbove m k c (bound c)) e in
         let g : Found (m .numbers .reached (f .0) - bound (f .0)) (λ s. eqb (m .memory .maker (f .0) (suc (bound (f .0) + s))) k) =
@@ -89,7 +89,7 @@ module _ (L : Limits) (m : Model) (j : Journal) (r : Running L m j) (H : History
             )
 
     -- a change above the bound on a card that has taken it has a frame there
-    above-frames : (i : ℕ) → i < length (j .history) → (b : Above (L .width) H (j .start) bound i) → made H (j .start) i (b .c) ≤ m .numbers .reached (b .c) → someFrameAbove L m (H i .number) bound ≡ true
+    pub above-frames : (i : ℕ) → i < length (j .history) → (b : Above (L .width) H (j .start) bound i) → made H (j .start) i (b .c) ≤ m .numbers .reached (b .c) → someFrameAbove L m (H i .number) bound ≡ true
     above-frames i h b hi =
         any-intro (L .width) (λ c. m .present c && frameAbove m (H i .number) c (bound c)) (b .c) (b .is-card)
         (and-intro (a .there i (b .c) h (b .is-card) (writes-touches (H i) (b .c) (b .wrote-it)))

@@ -66,7 +66,7 @@ pub card-below : (L : Limits) (m : Model) (c : ℕ) → isCard L m c ≡ true �
 card-below L m c e = ltb-true c (L .width) (and-left (ltb c (L .width)) (m .present c) e)
 
 -- the place of a change that is known
-known-place : (L : Limits) (m : Model) (k : ℕ) → isKnown L m k ≡ true → (placeOf L m k < L .places) × (isOpen (m .place (placeOf L m k)) ≡ true) × (m .place (placeOf L m k) .change .number ≡ k)
+pub known-place : (L : Limits) (m : Model) (k : ℕ) → isKnown L m k ≡ true → (placeOf L m k < L .places) × (isOpen (m .place (placeOf L m k)) ≡ true) × (m .place (placeOf L m k) .change .number ≡ k)
 known-place L m k e =
     let l : placeOf L m k < L .places = ltb-true (placeOf L m k) (L .places) e in
     let q : isOpen (m .place (placeOf L m k)) && eqb (m .place (placeOf L m k) .change .number) k ≡ true = first-passes (L .places) (λ p. isOpen (m .place p) && eqb (m .place p .change .number) k) l in

@@ -1,0 +1,286 @@
+-- What accepted calls of a list answer: fixes, rolls, losses and safe questions; and with it demands 2 and 3. Assumes nothing.
+use Prim.Native.Nat.{ℕ, zero, suc, _+_, _-_, _≤_, _<_}
+use mathlib.Core.Path.{_≡_, refl, sym, _∙_, ap, ap₂, subst, subst₂}
+use mathlib.Core.Bool.{Bool, true, false, not, _&&_, _||_, cond}
+use mathlib.Core.Logic.{_⊎_, inl, inr, by-cases, ⊎-elim, _↔_}
+use mathlib.Core.List.{List, [], _∷_}
+use native.Mathlib.Nat.{le-refl, le-trans}
+use native.Mathlib.Decide.{decLe, decLt, ℕ-discrete}
+use native.Mathlib.Omega.{arith}
+use lib.Dec.{eqb, leb, ltb}
+use lib.ListN.{length}
+use borrow.Author.Tests.{lt-ltb, le-ltb, eq-eqb, eqb-true, ltb-true}
+use Rattle.laws.specs.Below.{one-if, anyBelow, tabulate, occurs}
+use Rattle.laws.proofs.Logic.{test, clash, fails, and-left, and-right, and-intro, or-elim, not-true, not-intro, cond-case, same-test}
+use Rattle.laws.proofs.Below.{Found, any-elim, any-intro, all-same, any-same, first-below, selected-first}
+use Rattle.laws.proofs.Fill.{tabulate-same}
+use Rattle.refusal.specs.declared.Refusal.{Refusal}
+use Rattle.frame.specs.Format.{Format}
+use Rattle.history.specs.Change.{CardSet, Change, History, Numbers, touches, writers, made, historyOf, Cut, On}
+use Rattle.history.specs.Vector.{Vector, stateVector, IsVector}
+use Rattle.history.specs.Line.{wrote, inLine, lost}
+use Rattle.history.proofs.Precedence.{writes-touches}
+use Rattle.history.proofs.Entries.{state-vector-is}
+use Rattle.history.proofs.Lines.{line-cut, cut-below}
+use Rattle.history.proofs.Theorems.{line-whole}
+use Rattle.protocol.specs.Model.{Limits, Phase, up, down, rolling, isUp, isDown, isRolling, OpenChange, Model, isCard, isOpen, decided, toWrite, awaitsWrite, placeOf, isKnown, withCard}
+use Rattle.protocol.specs.Edit.{put, Edit, fall, halt, lower, renew, editedAll}
+use Rattle.protocol.specs.Plan.{CardRow, Answer, done, safe, unsafe, fixed, Reply, accepted, refused, Check, Plan, checked, afterPlan}
+use Rattle.protocol.specs.Calls.{lineOf, cardRows, someFrameAbove, hasFrame, writesLeft, isSafe, isLost, safeChecks, loseChecks, fixChecks, rollChecks, allRolled}
+use Rattle.protocol.specs.Sheets.{sheetOf, pageStored}
+use Rattle.protocol.specs.Journal.{Journal, Fixing, fixing}
+use Rattle.protocol.specs.Run.{Call, openCall, voteCall, takeCall, withdrawCall, storeCall, trimCall, safeCall, loseCall, fixCall, rollCall, sheetCall, Choice, Proper, planOf, Calls, none, further, Run, start, next, journal, lineNoted, lastKept}
+use Rattle.protocol.specs.Demands.{H, decisions, VectorsRight, FixRight, RollRight, SafeRight, CallRight, CabinetRight, Throughout, Demands}
+use Rattle.protocol.proofs.Taking.{put-same}
+use Rattle.protocol.proofs.Intact.{lineAt, line-same}
+use Rattle.protocol.proofs.Places.{Stood}
+use Rattle.protocol.proofs.Running.{About, StandsFor, Running}
+use Rattle.protocol.proofs.Stores.{line-right, start-stored}
+use Rattle.protocol.proofs.Rolling.{Rolling, LineNoted}
+use Rattle.protocol.proofs.Lost.{Above, Numbered-as, frames-above, above-frames, lost-right, right-lost}
+use Rattle.protocol.proofs.Steps.{Passed, checked-case, not-not, card-below, known-place, up-only}
+use Rattle.protocol.proofs.Invariant.{RollingBack, Invariant, invariant-sound}
+use Rattle.protocol.proofs.Claims.{not-both}
+use Rattle.protocol.proofs.Lists.{run-invariant, vectors-right, base-stored}
+use Rattle.protocol.proofs.Kept.{stored-last}
+
+-- what an accepted plan answers
+pub answered : (P : Answer → Plan → Type 0) (cs : List Check) (a : Answer) (es : List Edit) → (Passed cs → P a (record { reply = accepted a; edits = es }))
+  → (b : Answer) → checked cs a es .reply ≡ accepted b → P b (checked cs a es)
+answered P cs a es f =
+    checked-case (λ (p : Plan). (b : Answer) → p .reply ≡ accepted b → P b p) cs a es (λ r b e. not-both b r (sym e))
+    (λ ps b e. let q : a ≡ b = cc in subst (λ (y : Answer). P y (record { reply = accepted a; edits = es })) q (f ps))
+
+-- a line goes by its cards alone
+lost-same : (w : ℕ) (G : History) (s l l' : Numbers) → ((c : ℕ) → c < w → l c ≡ l' c) → (i : ℕ) → lost w G s l i ≡ lost w G s l' i
+lost-same w G s l l' e i =
+    ap (λ (b : Bool). wrote w (G i) && not b)
+    (all-same w (λ c. not (G i .writes c) || leb (made G s i c) (l c)) (λ c. not (G i .writes c) || leb (made G s i c) (l' c)) (λ c h. ap (λ (x : ℕ). not (G i .writes c) || leb (made G s i c) x) (e c h)))
+
+module _ (L : Limits) (n : ℕ) (few : n ≤ L .width) (m : Model) (j : Journal) (v : Invariant L n m j) where
+  runs : isRolling (m .phase) ≡ false → Running L m j
+  runs e = ⊎-elim (λ (r : Running L m j). r) (λ (r : RollingBack L m j). clash (r .rolls .is-rolling) e) (v .state)
+
+  rolls : isRolling (m .phase) ≡ true → RollingBack L m j
+  rolls e = ⊎-elim (λ (r : Running L m j). clash e (r .not-rolling)) (λ (r : RollingBack L m j). r) (v .state)
+
+  -- ---- fix
+  module _ (r : Running L m j) (is-down : isDown (m .phase) ≡ true) where
+    a : About L m (j .start) (decisions j) (r .took) (r .at) (H j)
+    a = r .about (H j) (λ i h. refl)
+
+    abbrev line : Numbers
+    line = lineAt (L .width) (H j) (j .start) (decisions j) (j .stored)
+
+    line-is : (c : ℕ) → c < L .width → lineOf L m c ≡ line c
+    line-is c l =
+        line-right L m j r (H j) a c l ∙ line-same (L .width) (H j) (j .start) (decisions j) (m .numbers .stored) (j .stored) (λ d ld. sym (r .stored-is d ld)) c l
+
+    rows-are : cardRows L m ≡ tabulate n (λ c. record { card = c; stored = j .stored c; line = line c })
+    rows-are =
+        selected-first (m .present) (λ c. record { card = c; stored = m .numbers .stored c; line = lineOf L m c }) (L .width) n few
+        (λ c h. v .present-is c ∙ lt-ltb c n h) (λ c h l. v .present-is c ∙ le-ltb c n h)
+        ∙ tabulate-same n (λ c. record { card = c; stored = m .numbers .stored c; line = lineOf L m c }) (λ c. record { card = c; stored = j .stored c; line = line c })
+        (λ c h. ap₂ (λ (s l : ℕ). record { card = c; stored = s; line = l }) (sym (r .stored-is c (omega arith))) (line-is c (omega arith)))
+
+    lost-is : (k : ℕ) → isLost L m k ≡ anyBelow (decisions j) (λ i. lost (L .width) (H j) (j .start) line i && eqb (H j i .number) k)
+    lost-is k =
+        same-test (isLost L m k) (anyBelow (decisions j) (λ i. lost (L .width) (H j) (j .start) line i && eqb (H j i .number) k))
+        (λ e. let q : (y : Numbered-as (H j) (decisions j) k) × (lost (L .width) (H j) (j .start) (lineOf L m) (y .i) ≡ true) = lost-right L m j r (H j) a is-down k e in
+        any-intro (decisions j) (λ i. lost (L .width) (H j) (j .start) line i && eqb (H j i .number) k) (q .0 .i) (q .0 .in-history)
+        (and-intro (sym (lost-same (L .width) (H j) (j .start) (lineOf L m) line line-is (q .0 .i)) ∙ q .1) (eq-eqb (H j (q .0 .i) .number) k (q .0 .is-number))))
+        (λ e. let f : Found (decisions j) (λ i. lost (L .width) (H j) (j .start) line i && eqb (H j i .number) k) = any-elim (decisions j) (λ i. lost (L .width) (H j) (j .start) line i && eqb (H j i .number) k) e in
+        let q : H j (f .0) .number ≡ k = eqb-true (H j (f .0) .number) k (and-right (lost (L .width) (H j) (j .start) line (f .0)) (eqb (H j (f .0) .number) k) (f .2)) in
+        ap (isLost L m) (sym q) ∙ right-lost L m j r (H j) a is-down (f .0) (f .1)
+        (lost-same (L .width) (H j) (j .start) (lineOf L m) line line-is (f .0) ∙ and-left (lost (L .width) (H j) (j .start) line (f .0)) (eqb (H j (f .0) .number) k) (f .2)))
+
+    fix-right : (lost-numbers : List ℕ) → ((k : ℕ) → occurs k lost-numbers ≡ one-if (isLost L m k)) → FixRight L n j (cardRows L m) lost-numbers
+    fix-right lost-numbers proper =
+        record {
+          line = line;
+          answered = rows-are;
+          is-cut = line-cut (L .width) (H j) (j .start) (decisions j) sv sr (j .stored) (λ c l. rw (r .stored-is c l) (start-stored L m j r (H j) a c l));
+          greatest = λ g k c l. cut-below (L .width) (H j) (j .start) (decisions j) sv sr (j .stored) g k c l;
+          whole = λ i c c' h l l' e e' z. line-whole (L .width) (H j) (j .start) (decisions j) sv sr (j .stored) i c c' h l l' e e' z;
+          lost-listed = λ k. proper k ∙ ap one-if (lost-is k);
+        }
+      where
+        sv : ℕ → ℕ → Vector
+        sv = stateVector (L .width) (H j) (j .start) (decisions j)
+        sr : IsVector (L .width) (H j) (j .start) (decisions j) sv
+        sr = state-vector-is (L .width) (H j) (j .start) (decisions j)
+
+  -- ---- roll
+  roll-right : (c : ℕ) → c < L .width → isRolling (m .phase) ≡ true → RollRight j c (editedAll L (lower c ∷ cond (allRolled L m (withCard (m .rolled) c)) (renew ∷ []) []) m)
+  roll-right c l e =
+      cond-case (λ (zs : List Edit). RollRight j c (editedAll L (lower c ∷ zs) m)) (allRolled L m (withCard (m .rolled) c)) (λ y. four) (λ y. four′)
+    where
+      r : RollingBack L m j
+      r = rolls e
+      noted-line : m .line c ≡ lineNoted (j .fix) c
+      noted-line = sym (ap (λ (f : Fixing). lineNoted f c) (r .notes .is-noted) ∙ r .notes .line-is c l)
+      four : RollRight j c (editedAll L (lower c ∷ renew ∷ []) m)
+      four =
+          record {
+            base = put-same (m .numbers .base) c (m .line c) ∙ noted-line;
+            stored = put-same (m .numbers .stored) c (m .line c) ∙ noted-line;
+            held = put-same (m .numbers .held) c (m .line c) ∙ noted-line;
+            reached = put-same (m .numbers .reached) c (m .line c) ∙ noted-line;
+          }
+      four′ : RollRight j c (editedAll L (lower c ∷ []) m)
+      four′ =
+          record {
+            base = put-same (m .numbers .base) c (m .line c) ∙ noted-line;
+            stored = put-same (m .numbers .stored) c (m .line c) ∙ noted-line;
+            held = put-same (m .numbers .held) c (m .line c) ∙ noted-line;
+            reached = put-same (m .numbers .reached) c (m .line c) ∙ noted-line;
+          }
+
+  -- ---- safe
+  module _ (r : Running L m j) (is-up : isUp (m .phase) ≡ true) (k : ℕ) where
+    b : About L m (j .start) (decisions j) (r .took) (r .at) (H j)
+    b = r .about (H j) (λ i h. refl)
+
+    -- a number stands for one change
+    one-change : (i i' : ℕ) → i < decisions j → i' < decisions j → H j i .number ≡ k → H j i' .number ≡ k → i ≡ i'
+    one-change i i' h h' e e' =
+        by-cases (decLt i i') (λ z. absurd (b .numbered .distinct i i' z h' (e ∙ sym e')))
+        (λ z. by-cases (decLt i' i) (λ y. absurd (b .numbered .distinct i' i y h (e' ∙ sym e))) (λ y. omega (arith, z, y)))
+
+    stored-reached : (c : ℕ) → c < L .width → m .numbers .stored c ≤ m .numbers .reached c
+    stored-reached c l = le-trans (r .ranges .stored-held c l) (r .ranges .held-reached c l)
+
+    module _ (i : ℕ) (h : i < decisions j) (e : H j i .number ≡ k) where
+      -- all its states are stored
+      abbrev AllStored : Type 0
+      AllStored = (c : ℕ) → c < L .width → H j i .writes c ≡ true → made (H j) (j .start) i c ≤ j .stored c
+
+      -- a card that it has yet to write: its place is there
+      left-there : (c : ℕ) → c < L .width → H j i .writes c ≡ true → r .took i c ≡ false → writesLeft L m k ≡ true
+      left-there c l wr nt =
+          let s : StandsFor L (m .place) (r .at) i = b .open-untaken is-up i c h l (writes-touches (H j i) c wr) nt in
+          let st : Stood (L .width) (H j) (j .start) (decisions j) (r .took) (m .place (s .p)) (r .at (s .p)) = b .standing .stood (s .p) (s .is-place) (s .is-open) (s .is-decided) in
+          let same : H j i ≡ m .place (s .p) .change = ap (H j) (sym (s .is-at)) ∙ st .change-is in
+          let num : m .place (s .p) .change .number ≡ k = ap (λ (t : Change). t .number) (sym same) ∙ e in
+          let kn : isKnown L m k ≡ true = lt-ltb (placeOf L m k) (L .places) (first-below (L .places) (λ p. isOpen (m .place p) && eqb (m .place p .change .number) k)
+            (any-intro (L .places) (λ p. isOpen (m .place p) && eqb (m .place p .change .number) k) (s .p) (s .is-place) (and-intro (s .is-open) (eq-eqb (m .place (s .p) .change .number) k num)))) in
+          let kp : (placeOf L m k < L .places) × (isOpen (m .place (placeOf L m k)) ≡ true) × (m .place (placeOf L m k) .change .number ≡ k) = known-place L m k kn in
+          let q : s .p ≡ placeOf L m k = by-cases (ℕ-discrete (s .p) (placeOf L m k)) (λ (y : s .p ≡ placeOf L m k). y) (λ y. absurd (r .places-open .apart (s .p) (placeOf L m k) (s .is-place) (kp .0) y (s .is-open) (kp .1) (num ∙ sym (kp .2)))) in
+          let tw : toWrite (m .place (s .p)) c ≡ true = and-intro (rw same at wr) (not-intro (sym (st .taken-is c l) ∙ ap (λ (x : ℕ). r .took x c) (s .is-at) ∙ nt)) in
+          and-intro kn (ap (λ (p : ℕ). awaitsWrite L (m .place p)) (sym q) ∙ any-intro (L .width) (toWrite (m .place (s .p))) c l tw)
+
+      safe-stored : isSafe L m k ≡ true → (c : ℕ) → c < L .width → H j i .writes c ≡ true → made (H j) (j .start) i c ≤ j .stored c
+      safe-stored z c l wr = by-cases (decLe (made (H j) (j .start) i c) (j .stored c)) (λ y. y) (λ y. absurd (not-stored y))
+        where
+          none-above : someFrameAbove L m k (m .numbers .stored) ≡ false
+          none-above = not-true (someFrameAbove L m k (m .numbers .stored)) (and-left (not (someFrameAbove L m k (m .numbers .stored))) (not (writesLeft L m k)) z)
+          none-left : writesLeft L m k ≡ false
+          none-left = not-true (writesLeft L m k) (and-right (not (someFrameAbove L m k (m .numbers .stored))) (not (writesLeft L m k)) z)
+          not-stored : ¬ (made (H j) (j .start) i c ≤ j .stored c) → ⊥
+          not-stored y =
+              let above : Above (L .width) (H j) (j .start) (m .numbers .stored) i = record { c = c; is-card = l; wrote-it = wr; is-above = omega (arith, y, r .stored-is c l) } in
+              by-cases (decLe (made (H j) (j .start) i c) (m .numbers .reached c))
+              (λ t. clash (ap (λ (x : ℕ). someFrameAbove L m x (m .numbers .stored)) (sym e) ∙ above-frames L m j r (H j) b (m .numbers .stored) (r .ranges .base-stored) i h above t) none-above)
+              (λ t. clash (left-there c l wr (fails (r .took i c) (λ u. t (b .levels .up-to i c h l wr u)))) none-left)
+
+      stored-safe : ((c : ℕ) → c < L .width → H j i .writes c ≡ true → made (H j) (j .start) i c ≤ j .stored c) → isSafe L m k ≡ true
+      stored-safe all = and-intro (not-intro (fails (someFrameAbove L m k (m .numbers .stored)) no-frame)) (not-intro (fails (writesLeft L m k) no-place))
+        where
+          no-frame : someFrameAbove L m k (m .numbers .stored) ≡ true → ⊥
+          no-frame z =
+              let q : (y : Numbered-as (H j) (decisions j) k) × Above (L .width) (H j) (j .start) (m .numbers .stored) (y .i) = frames-above L m j r (H j) b (m .numbers .stored) (r .ranges .base-stored) k z in
+              let s : q .0 .i ≡ i = one-change (q .0 .i) i (q .0 .in-history) h (q .0 .is-number) e in
+              let u : Above (L .width) (H j) (j .start) (m .numbers .stored) i = rw s at (q .1) in
+              omega (arith, all (u .c) (u .is-card) (u .wrote-it), u .is-above, r .stored-is (u .c) (u .is-card))
+          no-place : writesLeft L m k ≡ true → ⊥
+          no-place z =
+              let kn : isKnown L m k ≡ true = and-left (isKnown L m k) (awaitsWrite L (m .place (placeOf L m k))) z in
+              let kp : (placeOf L m k < L .places) × (isOpen (m .place (placeOf L m k)) ≡ true) × (m .place (placeOf L m k) .change .number ≡ k) = known-place L m k kn in
+              let f : Found (L .width) (toWrite (m .place (placeOf L m k))) = any-elim (L .width) (toWrite (m .place (placeOf L m k))) (and-right (isKnown L m k) (awaitsWrite L (m .place (placeOf L m k))) z) in
+              test (decided L (m .place (placeOf L m k)))
+              (λ d. let st : Stood (L .width) (H j) (j .start) (decisions j) (r .took) (m .place (placeOf L m k)) (r .at (placeOf L m k)) = b .standing .stood (placeOf L m k) (kp .0) (kp .1) d in
+              let s : r .at (placeOf L m k) ≡ i = one-change (r .at (placeOf L m k)) i (st .in-history) h (ap (λ (t : Change). t .number) (st .change-is) ∙ kp .2) e in
+              let wr : H j i .writes (f .0) ≡ true = ap (λ (x : ℕ). H j x .writes (f .0)) (sym s) ∙ ap (λ (t : Change). t .writes (f .0)) (st .change-is) ∙ and-left (m .place (placeOf L m k) .change .writes (f .0)) (not (m .place (placeOf L m k) .taken (f .0))) (f .2) in
+              let nt : r .took i (f .0) ≡ false = ap (λ (x : ℕ). r .took x (f .0)) (sym s) ∙ st .taken-is (f .0) (f .1) ∙ not-true (m .place (placeOf L m k) .taken (f .0)) (and-right (m .place (placeOf L m k) .change .writes (f .0)) (not (m .place (placeOf L m k) .taken (f .0))) (f .2)) in
+              let hi : made (H j) (j .start) i (f .0) ≤ m .numbers .reached (f .0) = omega (arith, all (f .0) (f .1) wr, r .stored-is (f .0) (f .1), stored-reached (f .0) (f .1)) in
+              clash (b .levels .taken i (f .0) h (f .1) wr hi) nt)
+              (λ d. b .standing .waits (placeOf L m k) (kp .0) (kp .1) d .unlike i h (e ∙ sym (kp .2)))
+
+    safe-right : hasFrame L m k ≡ true → SafeRight L j k (cond (isSafe L m k) safe unsafe)
+    safe-right z =
+        let q : (y : Numbered-as (H j) (decisions j) k) × Above (L .width) (H j) (j .start) (m .numbers .base) (y .i) =
+          frames-above L m j r (H j) b (m .numbers .base) (λ c l. le-refl (m .numbers .base c)) k (and-right (not (eqb k 0)) (someFrameAbove L m k (m .numbers .base)) z) in
+        record {
+          i = q .0 .i;
+          decided = q .0 .in-history;
+          number = q .0 .is-number;
+          right = (λ e. safe-stored (q .0 .i) (q .0 .in-history) (q .0 .is-number) (is-safe e), λ all. rw (stored-safe (q .0 .i) (q .0 .in-history) (q .0 .is-number) all));
+        }
+      where
+        is-safe : cond (isSafe L m k) safe unsafe ≡ safe → isSafe L m k ≡ true
+        is-safe e = test (isSafe L m k) (λ y. y) (λ y. let d : unsafe ≡ safe = sym (ap (λ (x : Bool). cond x safe unsafe) y) ∙ e in let u : _≡_ {A = ℕ} 0 1 = cc in absurd (omega arith))
+
+-- ---- each accepted call of a list
+call-right : (F : Format) (L : Limits) (n : ℕ) → 1 ≤ n → n ≤ L .width → {cs : Calls} {m : Model} → Run F L n cs m → (call : Call) (x : Choice) → Proper L m call x
+  → (a : Answer) → planOf F L m call x .reply ≡ accepted a → CallRight L n cs call a m (afterPlan L (planOf F L m call x) m)
+call-right F L n low high r (openCall reads writes) x p a e = tt
+call-right F L n low high r (voteCall k c agrees) x p a e = tt
+call-right F L n low high r (takeCall k c) x p a e = tt
+call-right F L n low high r (withdrawCall k) x p a e = tt
+call-right F L n low high r (storeCall c s) x p a e = tt
+call-right F L n low high r trimCall x p a e = tt
+call-right F L n low high {cs} {m} r (safeCall k) x p a e =
+    answered (λ (b : Answer) (q : Plan). SafeRight L (journal L n cs) k b) (safeChecks L m k) _ _
+    (λ ps. safe-right L n high m (journal L n cs) v (runs L n high m (journal L n cs) v (up-runs (not-not (isUp (m .phase)) (ps .1 .0)))) (not-not (isUp (m .phase)) (ps .1 .0)) k (not-not (hasFrame L m k) (ps .1 .1 .0))) a e
+  where
+    v : Invariant L n m (journal L n cs)
+    v = run-invariant low high r
+    up-runs : isUp (m .phase) ≡ true → isRolling (m .phase) ≡ false
+    up-runs = up-only (m .phase)
+call-right F L n low high {cs} {m} r (loseCall cards) x p a e =
+    answered (λ (b : Answer) (q : Plan). (c : ℕ) → c < n → cards c ≡ true → afterPlan L q m .numbers .held c ≡ lastKept L n cs c) (loseChecks L m cards) _ _
+    (λ ps c h here. held-falls c here ∙ stored-last low high r c h) a e
+  where
+    held-falls : (c : ℕ) → cards c ≡ true → editedAll L (fall cards ∷ cond (isUp (m .phase)) (halt ∷ []) []) m .numbers .held c ≡ m .numbers .stored c
+    held-falls c here =
+        cond-case (λ (es : List Edit). editedAll L (fall cards ∷ es) m .numbers .held c ≡ m .numbers .stored c) (isUp (m .phase)) (λ y. rw here) (λ y. rw here)
+call-right F L n low high {cs} {m} r (fixCall u w) x p a e =
+    answered (λ (b : Answer) (q : Plan). (rows : List CardRow) (numbers : List ℕ) → b ≡ fixed rows numbers → FixRight L n (journal L n cs) rows numbers) (fixChecks L m u w (x .lost)) _ _
+    (λ ps rows numbers y.
+    let rows-same : cardRows L m ≡ rows = cc in
+    let numbers-same : x .lost ≡ numbers = cc in
+    subst₂ (FixRight L n (journal L n cs)) rows-same numbers-same
+    (fix-right L n high m (journal L n cs) v (runs L n high m (journal L n cs) v (down-runs (m .phase) (not-not (isDown (m .phase)) (ps .1 .0)))) (not-not (isDown (m .phase)) (ps .1 .0)) (x .lost) p)) a e
+  where
+    v : Invariant L n m (journal L n cs)
+    v = run-invariant low high r
+    down-runs : (q : Phase) → isDown q ≡ true → isRolling q ≡ false
+    down-runs up z = refl
+    down-runs down z = refl
+    down-runs rolling z = clash z refl
+call-right F L n low high {cs} {m} r (rollCall c) x p a e =
+    answered (λ (b : Answer) (q : Plan). RollRight (journal L n cs) c (afterPlan L q m)) (rollChecks L m c) _ _
+    (λ ps. roll-right L n high m (journal L n cs) (run-invariant low high r) c (card-below L m c (not-not (isCard L m c) (ps .1 .0))) (not-not (isRolling (m .phase)) (ps .1 .1 .0))) a e
+call-right F L n low high r (sheetCall c places) x p a e = tt
+
+cabinet-right : (F : Format) (L : Limits) (n : ℕ) → 1 ≤ n → n ≤ L .width → {cs : Calls} {m : Model} → Run F L n cs m → CabinetRight L n cs m
+cabinet-right F L n low high {cs} {m} r =
+    record {
+      never-28 = invariant-sound L n m (journal L n cs) v;
+      vectors = vectors-right L n m (journal L n cs) v;
+      stored-kept = stored-last low high r;
+      sheet-kept = λ c h. whole c (omega arith) ∙ stored-last low high r c h;
+    }
+  where
+    v : Invariant L n m (journal L n cs)
+    v = run-invariant low high r
+    whole : (c : ℕ) → c < L .width → m .numbers .base c + (m .numbers .stored c - m .numbers .base c) ≡ m .numbers .stored c
+    whole c l = omega (arith, base-stored L n m (journal L n cs) v c l)
+
+-- demands 2 and 3, for every list of calls
+pub demands : (F : Format) (L : Limits) → Demands F L
+demands F L n low high cs m r = throughout r
+  where
+    throughout : {cs : Calls} {m : Model} (r : Run F L n cs m) → Throughout r
+    throughout start = cabinet-right F L n low high start
+    throughout (next r call x p) = (throughout r, call-right F L n low high r call x p, cabinet-right F L n low high (next r call x p))
