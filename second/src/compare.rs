@@ -1,0 +1,287 @@
+//! Comparing two programs with the same text interface, and shrinking what
+//! differs.
+//!
+//! What document 01 leaves to the program is compared as what holds of it: the
+//! card of 21 must be a touched barred card, the lost changes must be the same
+//! set, each once.
+
+use crate::call::{read_call, write_call, Call};
+use crate::cards::{has, CardSet};
+use crate::lists::joined;
+use crate::answer::Answer;
+use crate::replay::{replay, Place};
+use crate::restart::line_text;
+use std::io::{self, Write};
+use std::process::{Command, Stdio};
+use std::thread;
+
+/// A program under comparison: a command, or this package itself.
+pub enum Program {
+    Own(fn(&[u8]) -> String),
+    Command(Vec<String>),
+}
+
+/// The word that stands for this package's own program, run in place.
+pub const OWN: &str = "own";
+
+impl Program {
+    pub fn of_lists(words: &str) -> Program {
+        Program::named(words, replay)
+    }
+
+    pub fn of_readouts(words: &str) -> Program {
+        Program::named(words, line_text)
+    }
+
+    fn named(words: &str, own: fn(&[u8]) -> String) -> Program {
+        if words == OWN {
+            Program::Own(own)
+        } else {
+            Program::Command(words.split_whitespace().map(String::from).collect())
+        }
+    }
+
+    /// What the program writes for an input.
+    pub fn run(&self, input: &[u8]) -> io::Result<Vec<u8>> {
+        match self {
+            Program::Own(own) => Ok(own(input).into_bytes()),
+            Program::Command(words) => run_command(words, input),
+        }
+    }
+}
+
+fn run_command(words: &[String], input: &[u8]) -> io::Result<Vec<u8>> {
+    let mut child = Command::new(&words[0])
+        .args(&words[1..])
+        .stdin(Stdio::piped())
+        .stdout(Stdio::piped())
+        .spawn()?;
+    let stdin = child.stdin.take();
+    let input = input.to_vec();
+    let writer = thread::spawn(move || {
+        if let Some(mut stdin) = stdin {
+            // A program that stops reading early shows in its answers.
+            let _ = stdin.write_all(&input);
+        }
+    });
+    let output = child.wait_with_output()?;
+    let _ = writer.join();
+    Ok(output.stdout)
+}
+
+/// Where two programs differ: the line's place in the list, and both answers.
+pub struct Difference {
+    pub place: usize,
+    pub first: String,
+    pub second: String,
+}
+
+/// The answers of a program, taken apart call by call.
+struct Answers<'a>(&'a [u8]);
+
+impl<'a> Answers<'a> {
+    fn line(&mut self) -> &'a [u8] {
+        let end = self.0.iter().position(|byte| *byte == 10).map_or(self.0.len(), |end| end + 1);
+        let (line, rest) = self.0.split_at(end);
+        self.0 = rest;
+        line
+    }
+
+    /// The next answer: its first line says how much belongs to it.
+    fn next(&mut self) -> Vec<u8> {
+        let mut answer = self.line().to_vec();
+        let text = String::from_utf8_lossy(&answer).into_owned();
+        let words: Vec<&str> = text.split_whitespace().collect();
+        let number = |place: usize| words.get(place).and_then(|word| word.parse::<usize>().ok()).unwrap_or(0);
+        let lines = match words.first() {
+            Some(&"fixed") => number(1) + 1,
+            Some(&"session") => number(4),
+            _ => 0,
+        };
+        for _ in 0..lines {
+            answer.extend(self.line());
+        }
+        if words.first() == Some(&"sheet") {
+            let bytes = number(1).min(self.0.len());
+            let (sheet, rest) = self.0.split_at(bytes);
+            answer.extend(sheet);
+            self.0 = rest;
+        }
+        answer
+    }
+}
+
+/// The first call whose answers differ in more than what is left open.
+pub fn difference(lines: &[Vec<u8>], first: &[u8], second: &[u8]) -> Option<Difference> {
+    let mut place = Place::default();
+    let (mut first, mut second) = (Answers(first), Answers(second));
+    for (number, line) in lines.iter().enumerate() {
+        let barred = barred_by(&place, line);
+        place.answer_line(line);
+        let (a, b) = (first.next(), second.next());
+        if !same(&a, &b, barred) {
+            return Some(different(number, &a, &b));
+        }
+    }
+    let same_end = first.0 == second.0;
+    (!same_end).then(|| different(lines.len(), first.0, second.0))
+}
+
+fn different(place: usize, first: &[u8], second: &[u8]) -> Difference {
+    let text = |bytes: &[u8]| String::from_utf8_lossy(bytes).into_owned();
+    Difference { place, first: text(first), second: text(second) }
+}
+
+/// The touched cards that are barred, if the line is an opening.
+fn barred_by(place: &Place, line: &[u8]) -> CardSet {
+    match (read_call(line), &place.cabinet) {
+        (Some(Call::Open { reads, writes }), Some(cabinet)) => {
+            cabinet.barred(reads as CardSet & !(writes as CardSet), writes as CardSet)
+        }
+        _ => 0,
+    }
+}
+
+fn same(a: &[u8], b: &[u8], barred: CardSet) -> bool {
+    if a.starts_with(b"refused 21 ") && b.starts_with(b"refused 21 ") {
+        return names_barred(a, barred) && names_barred(b, barred);
+    }
+    a == b || (a.starts_with(b"fixed ") && with_lost_sorted(a) == with_lost_sorted(b))
+}
+
+fn names_barred(answer: &[u8], barred: CardSet) -> bool {
+    let text = String::from_utf8_lossy(answer);
+    let card = text.strip_prefix("refused 21 ").and_then(|card| card.trim_end().parse::<usize>().ok());
+    card.is_some_and(|card| card < 16 && has(barred, card))
+}
+
+/// A fix's answer with its lost changes in rising order. Doubles stay, so a
+/// change named twice shows.
+fn with_lost_sorted(answer: &[u8]) -> String {
+    let text = String::from_utf8_lossy(answer).into_owned();
+    let Some((front, lost)) = text.rsplit_once("lost") else {
+        return text;
+    };
+    let mut numbers: Vec<&str> = lost.trim_end_matches('\n').split(' ').collect();
+    numbers.sort_by_key(|number| (number.len(), number.to_string()));
+    format!("{front}lost{}\n", numbers.join(" "))
+}
+
+/// How many tries a shrinking makes at most.
+const MOST_TRIES: usize = 4000;
+
+/// Shrinks a list while the programs still differ on it.
+pub fn shrink_list(first: &Program, second: &Program, lines: Vec<Vec<u8>>) -> Vec<Vec<u8>> {
+    let mut tries = 0;
+    let mut differs = |lines: &[Vec<u8>]| {
+        tries += 1;
+        tries <= MOST_TRIES && list_difference(first, second, lines).ok().flatten().is_some()
+    };
+    let mut lines = lines;
+    loop {
+        let before = lines.len();
+        lines = without_changes(lines, &mut differs);
+        lines = without_parts(lines, &mut differs);
+        if lines.len() == before {
+            return lines;
+        }
+    }
+}
+
+/// Runs both programs over a list.
+pub fn list_difference(first: &Program, second: &Program, lines: &[Vec<u8>]) -> io::Result<Option<Difference>> {
+    let text = joined(lines);
+    Ok(difference(lines, &first.run(&text)?, &second.run(&text)?))
+}
+
+/// Takes out parts, long ones first, while what is left still differs.
+pub fn without_parts<T: Clone>(mut list: Vec<T>, differs: &mut impl FnMut(&[T]) -> bool) -> Vec<T> {
+    let mut length = list.len().div_ceil(2);
+    while length > 0 {
+        let mut from = 0;
+        while from < list.len() {
+            let mut shorter = list.clone();
+            shorter.drain(from..(from + length).min(list.len()));
+            if differs(&shorter) {
+                list = shorter;
+            } else {
+                from += length;
+            }
+        }
+        length /= 2;
+    }
+    list
+}
+
+/// Takes out whole changes, the later ones of the session numbered anew.
+fn without_changes(mut lines: Vec<Vec<u8>>, differs: &mut impl FnMut(&[Vec<u8>]) -> bool) -> Vec<Vec<u8>> {
+    let mut place = lines.len();
+    while place > 0 {
+        place -= 1;
+        let Some(shorter) = without_change(&lines, place) else {
+            continue;
+        };
+        if differs(&shorter) {
+            lines = shorter;
+            place = place.min(lines.len());
+        }
+    }
+    lines
+}
+
+/// The list without the change opened at a line.
+fn without_change(lines: &[Vec<u8>], opening: usize) -> Option<Vec<Vec<u8>>> {
+    if !lines[opening].starts_with(b"open ") {
+        return None;
+    }
+    let mut place = Place::default();
+    let mut shorter = lines[..opening].to_vec();
+    lines[..opening].iter().for_each(|line| {
+        place.answer_line(line);
+    });
+    let Answer::Change(gone) = place.answer_line(&lines[opening]) else {
+        return None;
+    };
+    let session = |place: &Place| place.cabinet.as_ref().map(|cabinet| cabinet.session);
+    let own = session(&place);
+    for line in &lines[opening + 1..] {
+        let same_session = session(&place) == own;
+        place.answer_line(line);
+        match read_call(line).filter(|_| same_session) {
+            Some(call) => shorter.extend(renumbered(call, gone).map(|call| write_call(&call).into_bytes())),
+            None => shorter.push(line.clone()),
+        }
+    }
+    Some(shorter)
+}
+
+/// A call with the change `gone` left out of the numbers; none if it is of
+/// that change.
+fn renumbered(call: Call, gone: u32) -> Option<Call> {
+    let lower = |change: u32| match change {
+        change if change == gone => None,
+        change if change > gone => Some(change - 1),
+        change => Some(change),
+    };
+    Some(match call {
+        Call::Vote { change, card, yes } => Call::Vote { change: lower(change)?, card, yes },
+        Call::Take { change, card } => Call::Take { change: lower(change)?, card },
+        Call::Withdraw { change } => Call::Withdraw { change: lower(change)? },
+        Call::Safe { change } => Call::Safe { change: lower(change)? },
+        other => other,
+    })
+}
+
+/// Shrinks a read-out while the programs still differ on it: by lines, then by
+/// bytes.
+pub fn shrink_readout(first: &Program, second: &Program, bytes: &[u8]) -> Vec<u8> {
+    let mut tries = 0;
+    let mut differs = |bytes: &[u8]| {
+        tries += 1;
+        tries <= MOST_TRIES
+            && matches!((first.run(bytes), second.run(bytes)), (Ok(a), Ok(b)) if a != b)
+    };
+    let lines: Vec<Vec<u8>> = bytes.split_inclusive(|byte| *byte == 10).map(<[u8]>::to_vec).collect();
+    let lines = without_parts(lines, &mut |lines: &[Vec<u8>]| differs(&lines.concat()));
+    without_parts(lines.concat(), &mut differs)
+}

@@ -1,0 +1,136 @@
+//! Document 01's samples A to H, its worked read-out, and the cases it names
+//! "by program".
+
+use second::lists::{joined, summit};
+use second::replay::replay;
+use second::restart::line_text;
+
+/// The list of some calls, one a line.
+fn answers(calls: &str) -> String {
+    replay(calls.as_bytes())
+}
+
+/// The calls that open, vote and take a change on all its cards.
+fn whole(number: u32, reads: u32, writes: u32) -> String {
+    let cards: Vec<u32> = (0..16).filter(|card| (reads | writes) >> card & 1 == 1).collect();
+    let mut calls = format!("open {reads} {writes}\n");
+    cards.iter().for_each(|card| calls += &format!("vote {number} {card} 1\n"));
+    cards.iter().for_each(|card| calls += &format!("take {number} {card}\n"));
+    calls
+}
+
+/// The three changes of sample A.
+fn sample_a() -> String {
+    "fresh 2\n".to_string() + &whole(1, 0, 1) + &whole(2, 1, 2) + &whole(3, 0, 1)
+}
+
+/// Stored numbers, a loss of all cards, and the fix.
+fn fixed(stored: &[u32]) -> String {
+    let mut calls = String::new();
+    for (card, state) in stored.iter().enumerate() {
+        calls += &format!("store {card} {state}\n");
+    }
+    calls + &format!("lose {}\nfix 16 776\n", (1 << stored.len()) - 1)
+}
+
+fn ends(calls: &str, end: &str) {
+    let answers = answers(calls);
+    assert!(answers.ends_with(end), "{answers}");
+}
+
+#[test]
+fn a_has_its_vectors() {
+    let calls = sample_a() + "store 0 2\nstore 1 1\nsheet 0 999\nsheet 1 999\n";
+    ends(
+        &calls,
+        "sheet 75\n0000000100020000000281C5\n0001000000010000FFFF561A\n00020000000300010000A2C6\n\
+         sheet 50\n000000010102000000018CC5\n000100000002000000009AC3\n",
+    );
+}
+
+#[test]
+fn b_loses_2_and_3() {
+    ends(&(sample_a() + &fixed(&[2, 0])), "fixed 2 2\n0 2 1\n1 0 0\nlost 2 3\n");
+}
+
+#[test]
+fn c_loses_3() {
+    ends(&(sample_a() + &fixed(&[1, 1])), "fixed 2 1\n0 1 1\n1 1 1\nlost 3\n");
+}
+
+#[test]
+fn d_loses_all() {
+    ends(&(sample_a() + &fixed(&[0, 1])), "fixed 2 3\n0 0 0\n1 1 0\nlost 1 2 3\n");
+}
+
+#[test]
+fn e_rolls_the_survivor_back() {
+    let calls = "fresh 2\nopen 0 3\nvote 1 0 1\nvote 1 1 1\ntake 1 0\nstore 0 1\nlose 2\nfix 2 1\n";
+    ends(calls, "fixed 2 1\n0 1 0\n1 0 0\nlost 1\n");
+}
+
+#[test]
+fn f_keeps_what_hangs_on_nothing() {
+    let calls = "fresh 3\n".to_string() + &whole(1, 2, 1) + &whole(2, 2, 4) + "store 2 1\nsheet 2 99\nlose 7\nfix 3 1\n";
+    ends(
+        &calls,
+        "sheet 54\n0000000102030000000190CA\n000100000002FFFFFFFF00001ACB\nok\nfixed 3 1\n0 0 0\n1 0 0\n2 1 1\nlost 1\n",
+    );
+}
+
+#[test]
+fn g_follows_changes_that_only_read() {
+    let calls = "fresh 2\n".to_string() + &whole(1, 0, 1) + &whole(2, 3, 0) + &whole(3, 0, 2) + "store 1 1\nsheet 1 99\nlose 3\nfix 2 2\n";
+    ends(
+        &calls,
+        "sheet 50\n000000010102000000018CC5\n00010000000300000000A4C4\nok\nfixed 2 2\n0 0 0\n1 1 0\nlost 1 3\n",
+    );
+}
+
+#[test]
+fn h_loses_nothing() {
+    ends("fresh 4\nlose 15\nfix 4 0\n", "fixed 4 0\n0 0 0\n1 0 0\n2 0 0\n3 0 0\nlost\n");
+}
+
+#[test]
+fn the_worked_read_out() {
+    let input = "0000000100020000000281C5\n0001000000010000FFFF561A\n00020000000300010000A2C6\n000000010102000000008AC4\n";
+    assert_eq!(line_text(input.as_bytes()), "0 2 1\n1 0 0\nsession 2\n");
+}
+
+#[test]
+fn a_change_read_only_elsewhere_is_in_the_line() {
+    let calls = "fresh 2\nopen 2 1\nvote 1 0 1\nvote 1 1 1\ntake 1 0\nstore 0 1\nlose 0\nfix 16 776\n";
+    ends(calls, "fixed 2 0\n0 1 1\n1 0 0\nlost\n");
+}
+
+#[test]
+fn the_48th_state_is_taken_and_the_49th_is_23() {
+    let mut calls = "fresh 1\n".to_string();
+    for number in 1..=48 {
+        calls += &whole(number, 0, 1);
+    }
+    calls += "open 0 1\nstore 0 48\ntrim\nopen 0 1\n";
+    ends(&calls, "ok\nrefused 23\nok\nok\nchange 49\n");
+}
+
+#[test]
+fn a_card_at_60000_may_be_read_not_written() {
+    let answers = replay(&joined(&summit()));
+    let end = "session 63 up cards 2\n0 60000 60000 60000 60000\n1 0 0 0 0\nrefused 24\nchange 481\nok\nok\nok\nok\n\
+               refused 24\nrefused 24\nok\nsheet 25\n";
+    assert!(answers.contains(end), "{}", &answers[answers.len() - 600..]);
+    assert!(answers.contains("refused 23\nok\nok\nsession 63 up"));
+}
+
+#[test]
+fn a_count_of_3_over_two_frames_is_8() {
+    let mut calls = "fresh 1\n".to_string();
+    calls += &(whole(1, 0, 1) + &whole(2, 0, 1) + "store 0 2\nsheet 0 999\n");
+    let answer = answers(&calls);
+    let sheet = answer.split_once("sheet 67\n").map_or("", |(_, sheet)| sheet);
+    let header = second::sheet::header_line(1, 0, 1, 0, 3);
+    let altered = [header, sheet.as_bytes()[25..].to_vec()].concat();
+    assert_eq!(line_text(sheet.as_bytes()), "0 2 2\nsession 2\n");
+    assert_eq!(line_text(&altered), "refused 8\n");
+}
