@@ -8,7 +8,10 @@ pub enum Answer {
     Ok,
     Change(u32),
     Safe(bool),
-    Fixed { records: Vec<Record>, lost: Vec<u32> },
+    Fixed {
+        records: Vec<Record>,
+        lost: Vec<u32>,
+    },
     Sheet(Vec<u8>),
     /// What the cabinet is, as text.
     Shown(String),

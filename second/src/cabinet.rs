@@ -172,7 +172,9 @@ impl Cabinet {
         if members(writes).any(|card| self.cards[card].reached >= self.cards[card].base + MOST_IN_HAND) {
             return Err(Refusal::HandFull);
         }
-        if members(writes).any(|card| self.cards[card].reached >= HIGHEST_STATE) || self.last_change == LAST_NUMBER {
+        if members(writes).any(|card| self.cards[card].reached >= HIGHEST_STATE)
+            || self.last_change == LAST_NUMBER
+        {
             return Err(Refusal::NumbersUsedUp);
         }
         self.last_change += 1;

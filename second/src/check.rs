@@ -2,9 +2,9 @@
 //! vectors by both ways, lines by both ways, sheets, refusals.
 
 use crate::answer::Answer;
-use crate::cabinet::{Cabinet, Past, Phase};
+use crate::cabinet::{Cabinet, Past, Phase, Record};
 use crate::call::{read_call, write_call, Call};
-use crate::cards::{has, members, CardSet};
+use crate::cards::{all, has, members, CardSet};
 use crate::journal::{Journal, TRIED_IN_FULL};
 use crate::limits::*;
 use crate::random::Random;
@@ -38,6 +38,7 @@ struct Follower {
     takes: Takes,
     /// What a cut would leave on each card: its last accepted store or roll.
     left: Vec<u32>,
+    random: Random,
 }
 
 /// Runs a list through all checks.
@@ -47,6 +48,7 @@ pub fn check_list(lines: &[Vec<u8>], counts: &mut Counts) -> Result<(), String> 
         journal: Journal::new(0),
         takes: Takes::new(Vec::new()),
         left: Vec::new(),
+        random: Random::new(lines.len() as u64),
     };
     for (number, line) in lines.iter().enumerate() {
         let at = |error| format!("line {}: {}: {error}", number + 1, String::from_utf8_lossy(line));
@@ -82,7 +84,8 @@ impl Follower {
         counts.add(&format!("accepted {}", word.split(' ').next().unwrap_or("")));
         self.follow(call, &answer, before.as_ref(), counts)?;
         self.demand_numbers()?;
-        self.demand_sheets(counts)
+        self.demand_sheets(counts)?;
+        self.demand_cut(counts)
     }
 
     fn cabinet(&self) -> Result<&Cabinet, String> {
@@ -90,7 +93,13 @@ impl Follower {
     }
 
     /// An accepted call.
-    fn follow(&mut self, call: Call, answer: &Answer, before: Option<&Cabinet>, counts: &mut Counts) -> Result<(), String> {
+    fn follow(
+        &mut self,
+        call: Call,
+        answer: &Answer,
+        before: Option<&Cabinet>,
+        counts: &mut Counts,
+    ) -> Result<(), String> {
         match (call, answer) {
             (Call::Fresh { cards }, _) => self.begin(cards as usize),
             (Call::Open { reads, writes }, Answer::Change(number)) => {
@@ -109,8 +118,14 @@ impl Follower {
                 if self.journal.history.len() <= TRIED_IN_FULL {
                     counts.add("fixes tried in full");
                 }
-                counts.greatest("most lost at a fix", lost.len());
+                count_fix(records, lost, before, counts);
                 counts.greatest("most changes in a history", self.journal.history.len());
+            }
+            (Call::Safe { change }, Answer::Safe(safe)) => {
+                demand(
+                    self.journal.all_stored(change) == Some(*safe),
+                    "safe is not that all written cards stored",
+                )?;
             }
             (Call::Roll { card }, _) => self.follow_roll(card as usize)?,
             (Call::Restart, _) => self.follow_restart(before, counts)?,
@@ -155,14 +170,25 @@ impl Follower {
         demand(cabinet.cards[card].reached == state, "a take did not go up by one state")?;
         counts.add("vectors compared");
         let by_history = cabinet.history().vector(card, state);
-        demand(by_history == vector, &format!("vector {by_history:?} by the definitions, {vector:?} by call 3"))
+        demand(
+            by_history == vector,
+            &format!("vector {by_history:?} by the definitions, {vector:?} by call 3"),
+        )
     }
 
-    fn follow_loss(&mut self, set: CardSet, before: Option<&Cabinet>, counts: &mut Counts) -> Result<(), String> {
+    fn follow_loss(
+        &mut self,
+        set: CardSet,
+        before: Option<&Cabinet>,
+        counts: &mut Counts,
+    ) -> Result<(), String> {
         self.takes.end_all();
         let cabinet = self.cabinet()?;
         for card in members(set) {
-            demand(cabinet.cards[card].stored == self.left[card], "a cut left another state than the last store or roll")?;
+            demand(
+                cabinet.cards[card].stored == self.left[card],
+                "a cut left another state than the last store or roll",
+            )?;
             demand(cabinet.cards[card].held == self.left[card], "a lost card holds more than it stored")?;
         }
         if let Some(before) = before {
@@ -223,6 +249,35 @@ impl Follower {
         }
     }
 
+    /// Cards lost right here: the fix that follows holds, and so do the rolls
+    /// after it, with the engine's memory gone before each.
+    fn demand_cut(&mut self, counts: &mut Counts) -> Result<(), String> {
+        let cabinet = self.cabinet()?.clone();
+        let long = self.journal.history.len() > 30;
+        if cabinet.phase == Phase::Rolling || (long && !self.random.chance(40)) {
+            return Ok(());
+        }
+        let cards = cabinet.cards.len();
+        let mut place = Place { cabinet: Some(cabinet) };
+        let set = self.random.bits() as u32 & u32::from(all(cards));
+        place.answer(Call::Lose { set });
+        let Answer::Fixed { records, lost } = place.answer(Call::Fix { records: 16, numbers: 776 }) else {
+            return Err("a fix after a cut is refused".to_string());
+        };
+        counts.add("cuts tried");
+        self.journal.demand_at_fix(&records, &lost)?;
+        let first = self.random.place(cards);
+        for step in 0..cards {
+            place.answer(Call::Restart);
+            let fixed = place.cabinet.as_ref().map(|cabinet| cabinet.line.clone());
+            let line: Vec<u32> = records.iter().map(|record| record.line).collect();
+            demand(fixed == Some(line), "after a cut the sheets do not restart to the line")?;
+            place.answer(Call::Roll { card: ((first + step) % cards) as u32 });
+        }
+        let phase = place.cabinet.map(|cabinet| cabinet.phase);
+        demand(phase == Some(Phase::Up), "after the last roll the phase is not up")
+    }
+
     /// The limits of the four numbers, and what cuts would leave.
     fn demand_numbers(&self) -> Result<(), String> {
         let cabinet = self.cabinet()?;
@@ -233,7 +288,10 @@ impl Follower {
             demand(card.stored == self.left[number], "stored is not the last accepted store or roll")?;
             let rolled = self.journal.noted.as_ref().is_some_and(|noted| has(noted.rolled, number));
             demand(rolled || card.stored == self.journal.stored[number], "stored is not the book's")?;
-            demand(cabinet.phase != Phase::Up || card.held == card.reached, "in phase up held is not reached")?;
+            demand(
+                cabinet.phase != Phase::Up || card.held == card.reached,
+                "in phase up held is not reached",
+            )?;
         }
         demand(cabinet.open.len() <= MOST_OPEN, "more than eight changes are open")
     }
@@ -243,26 +301,54 @@ impl Follower {
     fn demand_sheets(&self, counts: &mut Counts) -> Result<(), String> {
         let cabinet = self.cabinet()?;
         let joined = cabinet.joined_sheets();
-        let sheets = read_sheets(&joined).map_err(|refusal| format!("own sheets refused {}", refusal.number()))?;
+        let sheets =
+            read_sheets(&joined).map_err(|refusal| format!("own sheets refused {}", refusal.number()))?;
         for (card, sheet) in sheets.iter().enumerate() {
             demand(*sheet == cabinet.sheet_of(card), "a sheet does not read back the same")?;
-            demand(read_sheet(&write_sheet(sheet), card).as_ref() == Ok(sheet), "one sheet does not read back the same")?;
+            demand(
+                read_sheet(&write_sheet(sheet), card).as_ref() == Ok(sheet),
+                "one sheet does not read back the same",
+            )?;
         }
         counts.add("sheets of a cabinet read back");
         let again = restart(&joined).map_err(|refusal| format!("restart refused {}", refusal.number()))?;
         match &self.journal.noted {
             Some(noted) => {
                 counts.add("restarts to the line tried");
-                demand(again.line == noted.line && again.rolled == noted.rolled, "the sheets do not restart to the line")?;
-                demand(again.session == cabinet.session && again.stored() == cabinet.stored(), "a restart changed the cabinet")
+                demand(
+                    again.line == noted.line && again.rolled == noted.rolled,
+                    "the sheets do not restart to the line",
+                )?;
+                demand(
+                    again.session == cabinet.session && again.stored() == cabinet.stored(),
+                    "a restart changed the cabinet",
+                )
             }
             None => match &cabinet.past {
-                Past::Decided(history) => {
-                    demand(again.line == history.line(&cabinet.stored()), "the sheets give another line than the history")
-                }
+                Past::Decided(history) => demand(
+                    again.line == history.line(&cabinet.stored()),
+                    "the sheets give another line than the history",
+                ),
                 Past::Read(_) => Err("phase up or down without a history".to_string()),
             },
         }
+    }
+}
+
+/// How a fix turned out.
+fn count_fix(records: &[Record], lost: &[u32], before: Option<&Cabinet>, counts: &mut Counts) {
+    counts.greatest("most lost at a fix", lost.len());
+    let below = records.iter().any(|record| record.line < record.stored);
+    let above = before
+        .is_some_and(|before| records.iter().any(|record| record.line > before.cards[record.card].base));
+    if below {
+        counts.add("fixes with a line below stored");
+    }
+    if above {
+        counts.add("fixes with a line above base");
+    }
+    if above && below {
+        counts.add("fixes with both");
     }
 }
 
@@ -293,7 +379,7 @@ fn demand_altered_refused(bytes: &[u8], random: &mut Random, counts: &mut Counts
     let mut altered = bytes.to_vec();
     let place = random.place(altered.len());
     let digit = random.pick(b"0123456789ABCDEF\n");
-    altered[place] = if random.chance(700) { digit } else { random.next() as u8 };
+    altered[place] = if random.chance(700) { digit } else { random.bits() as u8 };
     if altered == bytes {
         return Ok(());
     }
@@ -325,12 +411,14 @@ fn demand_rolls_keep_line(cabinet: Cabinet, random: &mut Random, counts: &mut Co
             return Err("the cabinet is gone".to_string());
         };
         if now.session == session {
-            let again = restart(&now.joined_sheets()).map_err(|refusal| format!("restart refused {}", refusal.number()))?;
+            let again = restart(&now.joined_sheets())
+                .map_err(|refusal| format!("restart refused {}", refusal.number()))?;
             demand(again.line == line, "the line changed during the roll-back")?;
             place.cabinet = Some(again);
         }
     }
     counts.add("read-outs rolled to the end");
-    let reached: Option<Vec<u32>> = place.cabinet.map(|cabinet| cabinet.cards.iter().map(|card| card.reached).collect());
+    let reached: Option<Vec<u32>> =
+        place.cabinet.map(|cabinet| cabinet.cards.iter().map(|card| card.reached).collect());
     demand(reached == Some(line), "the rolled cards are not at the line")
 }

@@ -15,8 +15,20 @@ use crate::replay::Place;
 use crate::restart::line_text;
 
 const WORDS: [(&str, char); 14] = [
-    ("fresh", 'n'), ("open", 'o'), ("vote", 'v'), ("take", 't'), ("withdraw", 'w'), ("store", 's'), ("trim", 'm'),
-    ("safe", 'f'), ("lose", 'l'), ("fix", 'x'), ("roll", 'r'), ("sheet", 'h'), ("restart", 'a'), ("show", 'i'),
+    ("fresh", 'n'),
+    ("open", 'o'),
+    ("vote", 'v'),
+    ("take", 't'),
+    ("withdraw", 'w'),
+    ("store", 's'),
+    ("trim", 'm'),
+    ("safe", 'f'),
+    ("lose", 'l'),
+    ("fix", 'x'),
+    ("roll", 'r'),
+    ("sheet", 'h'),
+    ("restart", 'a'),
+    ("show", 'i'),
 ];
 
 fn pack_line(line: &[u8]) -> String {
@@ -153,4 +165,28 @@ pub fn unpack_readout(packed: &str, whole: &[u8]) -> Option<(Vec<u8>, String)> {
     bytes.extend(unpack_bytes(words.get(3)?).repeat(times));
     bytes.extend(whole.get(whole.len().checked_sub(back)?..)?);
     Some((bytes, answer))
+}
+
+/// The lists of a packed text, each with its answers.
+pub fn unpack_lists(text: &str) -> Vec<(Vec<Vec<u8>>, String)> {
+    let mut lists = Vec::new();
+    for packed in text.split_terminator("\n\n") {
+        let (lines, answers): (Vec<Vec<u8>>, Vec<String>) = packed.split('\n').map(unpack_call).unzip();
+        lists.push((lines, answers.concat()));
+    }
+    lists
+}
+
+/// The read-outs of a packed text, each with its answer.
+pub fn unpack_readouts(text: &str) -> Option<Vec<(Vec<u8>, String)>> {
+    let mut whole = Vec::new();
+    let mut readouts = Vec::new();
+    for packed in text.lines() {
+        let (bytes, answer) = unpack_readout(packed, &whole)?;
+        if packed.starts_with('+') {
+            whole = bytes.clone();
+        }
+        readouts.push((bytes, answer));
+    }
+    Some(readouts)
 }

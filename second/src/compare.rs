@@ -5,14 +5,14 @@
 //! card of 21 must be a touched barred card, the lost changes must be the same
 //! set, each once.
 
-use crate::call::{read_call, write_call, Call};
-use crate::cards::{has, CardSet};
-use crate::lists::joined;
 use crate::answer::Answer;
+use crate::call::{read_call, write_call, Call};
+use crate::cards::{has, members, CardSet};
+use crate::lists::joined;
 use crate::replay::{replay, Place};
 use crate::restart::line_text;
 use std::io::{self, Write};
-use std::process::{Command, Stdio};
+use std::process::{ChildStdin, Command, Stdio};
 use std::thread;
 
 /// A program under comparison: a command, or this package itself.
@@ -51,22 +51,29 @@ impl Program {
 }
 
 fn run_command(words: &[String], input: &[u8]) -> io::Result<Vec<u8>> {
-    let mut child = Command::new(&words[0])
-        .args(&words[1..])
-        .stdin(Stdio::piped())
-        .stdout(Stdio::piped())
-        .spawn()?;
+    let mut child =
+        Command::new(&words[0]).args(&words[1..]).stdin(Stdio::piped()).stdout(Stdio::piped()).spawn()?;
     let stdin = child.stdin.take();
+    if input.len() <= PIPE_BYTES {
+        feed(stdin, input);
+        return Ok(child.wait_with_output()?.stdout);
+    }
     let input = input.to_vec();
-    let writer = thread::spawn(move || {
-        if let Some(mut stdin) = stdin {
-            // A program that stops reading early shows in its answers.
-            let _ = stdin.write_all(&input);
-        }
-    });
+    let writer = thread::spawn(move || feed(stdin, &input));
     let output = child.wait_with_output()?;
     let _ = writer.join();
     Ok(output.stdout)
+}
+
+/// An input up to this length is taken in by the pipe at once.
+const PIPE_BYTES: usize = 60_000;
+
+/// Writes the input and closes it. That a program stops reading early shows in
+/// its answers.
+fn feed(stdin: Option<ChildStdin>, input: &[u8]) {
+    if let Some(mut stdin) = stdin {
+        let _ = stdin.write_all(input);
+    }
 }
 
 /// Where two programs differ: the line's place in the list, and both answers.
@@ -179,18 +186,40 @@ pub fn shrink_list(first: &Program, second: &Program, lines: Vec<Vec<u8>>) -> Ve
     };
     let mut lines = lines;
     loop {
-        let before = lines.len();
+        let before = lines.clone();
         lines = without_changes(lines, &mut differs);
         lines = without_parts(lines, &mut differs);
-        if lines.len() == before {
+        if lines == before {
             return lines;
         }
     }
 }
 
+/// The text of a list; every other one goes without its last byte 10.
+fn list_text(lines: &[Vec<u8>]) -> Vec<u8> {
+    let mut text = joined(lines);
+    if lines.len() % 2 == 1 && lines.last().is_some_and(|line| !line.is_empty()) {
+        text.pop();
+    }
+    text
+}
+
+/// Runs a program over a list whose answers are at hand.
+pub fn answers_difference(
+    program: &Program,
+    lines: &[Vec<u8>],
+    answers: &str,
+) -> io::Result<Option<Difference>> {
+    Ok(difference(lines, answers.as_bytes(), &program.run(&list_text(lines))?))
+}
+
 /// Runs both programs over a list.
-pub fn list_difference(first: &Program, second: &Program, lines: &[Vec<u8>]) -> io::Result<Option<Difference>> {
-    let text = joined(lines);
+pub fn list_difference(
+    first: &Program,
+    second: &Program,
+    lines: &[Vec<u8>],
+) -> io::Result<Option<Difference>> {
+    let text = list_text(lines);
     Ok(difference(lines, &first.run(&text)?, &second.run(&text)?))
 }
 
@@ -213,46 +242,79 @@ pub fn without_parts<T: Clone>(mut list: Vec<T>, differs: &mut impl FnMut(&[T]) 
     list
 }
 
-/// Takes out whole changes, the later ones of the session numbered anew.
+/// Takes out whole changes, the later ones of the session numbered anew, or
+/// else single cards of a change.
 fn without_changes(mut lines: Vec<Vec<u8>>, differs: &mut impl FnMut(&[Vec<u8>]) -> bool) -> Vec<Vec<u8>> {
     let mut place = lines.len();
     while place > 0 {
         place -= 1;
-        let Some(shorter) = without_change(&lines, place) else {
-            continue;
-        };
-        if differs(&shorter) {
-            lines = shorter;
-            place = place.min(lines.len());
+        for shorter in smaller_at(&lines, place) {
+            if differs(&shorter) {
+                lines = shorter;
+                place = place.min(lines.len());
+                break;
+            }
         }
     }
     lines
 }
 
-/// The list without the change opened at a line.
-fn without_change(lines: &[Vec<u8>], opening: usize) -> Option<Vec<Vec<u8>>> {
-    if !lines[opening].starts_with(b"open ") {
-        return None;
-    }
+/// The list without the change opened at a line, and with each card taken out
+/// of that change.
+fn smaller_at(lines: &[Vec<u8>], opening: usize) -> Vec<Vec<Vec<u8>>> {
+    let Some(Call::Open { reads, writes }) = read_call(&lines[opening]) else {
+        return Vec::new();
+    };
     let mut place = Place::default();
-    let mut shorter = lines[..opening].to_vec();
     lines[..opening].iter().for_each(|line| {
         place.answer_line(line);
     });
-    let Answer::Change(gone) = place.answer_line(&lines[opening]) else {
-        return None;
+    let Answer::Change(number) = place.answer_line(&lines[opening]) else {
+        return Vec::new();
     };
+    let mut smaller = vec![rewritten(lines, opening, &place, None, &|call| renumbered(call, number))];
+    for card in members((reads | writes) as CardSet) {
+        let left = Call::Open { reads: reads & !(1 << card), writes: writes & !(1 << card) };
+        smaller.push(rewritten(lines, opening, &place, Some(left), &|call| without_card(call, number, card)));
+    }
+    smaller
+}
+
+/// The list with its opening replaced and each later call of that session
+/// changed or left out; `place` is the cabinet after the opening.
+fn rewritten(
+    lines: &[Vec<u8>],
+    opening: usize,
+    place: &Place,
+    instead: Option<Call>,
+    change: &dyn Fn(Call) -> Option<Call>,
+) -> Vec<Vec<u8>> {
+    let mut place = Place { cabinet: place.cabinet.clone() };
     let session = |place: &Place| place.cabinet.as_ref().map(|cabinet| cabinet.session);
     let own = session(&place);
+    let mut shorter = lines[..opening].to_vec();
+    shorter.extend(instead.map(|call| write_call(&call).into_bytes()));
     for line in &lines[opening + 1..] {
         let same_session = session(&place) == own;
         place.answer_line(line);
         match read_call(line).filter(|_| same_session) {
-            Some(call) => shorter.extend(renumbered(call, gone).map(|call| write_call(&call).into_bytes())),
+            Some(call) => shorter.extend(change(call).map(|call| write_call(&call).into_bytes())),
             None => shorter.push(line.clone()),
         }
     }
-    Some(shorter)
+    shorter
+}
+
+/// A call, unless it is a vote or take of this card on this change.
+fn without_card(call: Call, number: u32, gone: usize) -> Option<Call> {
+    match call {
+        Call::Vote { change, card, .. } | Call::Take { change, card }
+            if change == number && card as usize == gone =>
+        {
+            None
+        }
+        other => Some(other),
+    }
 }
 
 /// A call with the change `gone` left out of the numbers; none if it is of
@@ -278,8 +340,7 @@ pub fn shrink_readout(first: &Program, second: &Program, bytes: &[u8]) -> Vec<u8
     let mut tries = 0;
     let mut differs = |bytes: &[u8]| {
         tries += 1;
-        tries <= MOST_TRIES
-            && matches!((first.run(bytes), second.run(bytes)), (Ok(a), Ok(b)) if a != b)
+        tries <= MOST_TRIES && matches!((first.run(bytes), second.run(bytes)), (Ok(a), Ok(b)) if a != b)
     };
     let lines: Vec<Vec<u8>> = bytes.split_inclusive(|byte| *byte == 10).map(<[u8]>::to_vec).collect();
     let lines = without_parts(lines, &mut |lines: &[Vec<u8>]| differs(&lines.concat()));

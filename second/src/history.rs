@@ -34,10 +34,7 @@ impl Places {
     }
 
     fn within(&self, others: &Places) -> bool {
-        self.0
-            .iter()
-            .enumerate()
-            .all(|(place, word)| word & !others.0.get(place).unwrap_or(&0) == 0)
+        self.0.iter().enumerate().all(|(place, word)| word & !others.0.get(place).unwrap_or(&0) == 0)
     }
 }
 
@@ -114,9 +111,7 @@ impl History {
 
     /// The place of the change that made a state.
     fn maker(&self, card: usize, state: u32) -> Option<usize> {
-        self.decided
-            .iter()
-            .position(|change| has(change.writes, card) && change.made(card) == state)
+        self.decided.iter().position(|change| has(change.writes, card) && change.made(card) == state)
     }
 
     /// The number of the change that made a state.

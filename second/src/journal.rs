@@ -42,7 +42,7 @@ pub struct Journal {
 /// `order[a][b]`: the change at place a of the history precedes that at b.
 pub type Order = Vec<Vec<bool>>;
 
-/// How many subsets of a history are tried in full.
+/// Up to this many changes, all sets of a history are tried.
 pub const TRIED_IN_FULL: usize = 11;
 
 impl Journal {
@@ -133,8 +133,9 @@ impl Journal {
                 }
                 order[a][b] = members(first.touched() & second.touched()).any(|card| {
                     let made_then_used = has(first.writes, card) && found[b][card] == found[a][card] + 1;
-                    let read_then_written =
-                        has(first.reads, card) && has(second.writes, card) && found[b][card] == found[a][card];
+                    let read_then_written = has(first.reads, card)
+                        && has(second.writes, card)
+                        && found[b][card] == found[a][card];
                     made_then_used || read_then_written
                 });
             }
@@ -151,6 +152,14 @@ impl Journal {
             members(change.writes).for_each(|card| states[card] += 1);
         }
         found
+    }
+
+    /// Whether every card a change wrote has stored its state; none if the
+    /// change is not in the history.
+    pub fn all_stored(&self, number: u32) -> Option<bool> {
+        let place = self.history.iter().position(|change| change.number == number)?;
+        let found = &self.found()[place];
+        Some(members(self.history[place].writes).all(|card| found[card] < self.stored[card]))
     }
 
     /// The choice a set of places leaves: start plus writers.
@@ -175,9 +184,7 @@ impl Journal {
 
     /// The smallest set of changes with these that holds all that precede.
     fn closed(&self, order: &Order, places: &[usize]) -> Vec<bool> {
-        (0..self.history.len())
-            .map(|a| places.iter().any(|b| a == *b || order[a][*b]))
-            .collect()
+        (0..self.history.len()).map(|a| places.iter().any(|b| a == *b || order[a][*b])).collect()
     }
 
     /// The demands at an accepted fix; an error says which one fails.
@@ -202,8 +209,8 @@ impl Journal {
         if needed != line || self.above_stored(line) {
             return Err(format!("line {line:?} is no choice: it needs {needed:?}"));
         }
-        for card in 0..self.cards() {
-            self.demand_no_higher(order, card, line[card])?;
+        for (card, state) in line.iter().enumerate() {
+            self.demand_no_higher(order, card, *state)?;
         }
         if self.history.len() <= TRIED_IN_FULL {
             self.try_all_sets(order, line)?;
@@ -224,15 +231,24 @@ impl Journal {
         Ok(())
     }
 
-    /// All sets of the history, one by one.
+    /// All sets of the history, one by one, each as bits.
     fn try_all_sets(&self, order: &Order, line: &[u32]) -> Result<(), String> {
         let length = self.history.len();
+        let preceding: Vec<u32> = (0..length)
+            .map(|b| (0..length).filter(|a| order[*a][b]).fold(0, |bits, a| bits | 1 << a))
+            .collect();
+        let written: Vec<Vec<usize>> =
+            self.history.iter().map(|change| members(change.writes).collect()).collect();
+        let mut choice = self.start.clone();
         let mut line_found = false;
         for bits in 0..1u32 << length {
-            let set: Vec<bool> = (0..length).map(|place| bits >> place & 1 == 1).collect();
-            let closed = (0..length).all(|b| !set[b] || (0..length).all(|a| !order[a][b] || set[a]));
-            let choice = self.left_by(&set);
-            if !closed || self.above_stored(&choice) {
+            let is_in = |place: &usize| bits >> place & 1 == 1;
+            if (0..length).filter(is_in).any(|place| preceding[place] & !bits != 0) {
+                continue;
+            }
+            choice.copy_from_slice(&self.start);
+            (0..length).filter(is_in).flat_map(|place| &written[place]).for_each(|card| choice[*card] += 1);
+            if self.above_stored(&choice) {
                 continue;
             }
             line_found |= choice == line;
@@ -270,14 +286,10 @@ impl Journal {
 
 /// The closure of an order under chains.
 fn chained(mut order: Order) -> Order {
-    let length = order.len();
-    for middle in 0..length {
-        for a in 0..length {
-            if order[a][middle] {
-                for b in 0..length {
-                    order[a][b] |= order[middle][b];
-                }
-            }
+    for middle in 0..order.len() {
+        let beyond = order[middle].clone();
+        for row in order.iter_mut().filter(|row| row[middle]) {
+            row.iter_mut().zip(&beyond).for_each(|(is_before, reached)| *is_before |= reached);
         }
     }
     order

@@ -1,6 +1,11 @@
 //! Random call lists. The cabinet is followed while the list is made, so that
 //! most calls mean something.
 
+mod style;
+mod wild;
+
+pub use style::Style;
+
 use crate::answer::Answer;
 use crate::cabinet::{Cabinet, Phase};
 use crate::call::{write_call, Call, LONGEST_LINE};
@@ -9,86 +14,7 @@ use crate::limits::*;
 use crate::random::Random;
 use crate::replay::Place;
 use crate::sheet::{frame_digits, HEADER_DIGITS};
-
-/// What a list goes after.
-#[derive(Clone, Copy, PartialEq, Eq, Debug)]
-pub enum Style {
-    /// A bit of everything.
-    Mixed,
-    /// Few changes and small cabinets, with many losses.
-    Small,
-    /// Losses while changes are half taken and half stored.
-    Half,
-    /// Many changes open together.
-    Wide,
-    /// 48 states in hand.
-    Deep,
-    /// Restarts and losses during the roll-back.
-    Roll,
-    /// 48 states in hand on each of 16 cards, and all of them lost.
-    Full,
-}
-
-/// How often each kind of call comes in phase up.
-struct Weights {
-    open: u32,
-    vote: u32,
-    take: u32,
-    store: u32,
-    trim: u32,
-    safe: u32,
-    withdraw: u32,
-    lose: u32,
-    look: u32,
-    restart: u32,
-}
-
-fn weights(style: Style) -> Weights {
-    let mixed = Weights {
-        open: 22, vote: 40, take: 36, store: 16, trim: 3, safe: 5, withdraw: 2, lose: 2, look: 5, restart: 1,
-    };
-    match style {
-        Style::Mixed => mixed,
-        Style::Small => Weights { lose: 6, trim: 2, look: 3, ..mixed },
-        Style::Half => Weights { take: 22, store: 26, lose: 5, ..mixed },
-        Style::Wide => Weights { open: 50, take: 14, lose: 1, ..mixed },
-        Style::Deep => Weights { open: 40, vote: 60, take: 60, store: 2, trim: 1, safe: 2, withdraw: 1, lose: 0, look: 1, restart: 0 },
-        Style::Roll => Weights { lose: 9, restart: 3, ..mixed },
-        Style::Full => Weights { open: 60, vote: 80, take: 80, store: 1, trim: 0, safe: 0, withdraw: 0, lose: 0, look: 0, restart: 0 },
-    }
-}
-
-fn style_of(random: &mut Random) -> Style {
-    match random.below(400) {
-        0 => Style::Full,
-        1..=99 => Style::Mixed,
-        100..=169 => Style::Small,
-        170..=239 => Style::Half,
-        240..=299 => Style::Wide,
-        300..=344 => Style::Deep,
-        _ => Style::Roll,
-    }
-}
-
-fn cards_for(style: Style, random: &mut Random) -> u32 {
-    match style {
-        Style::Small => random.from_to(1, 3),
-        Style::Deep => random.pick(&[1, 1, 2, 2, 3]),
-        Style::Wide => random.from_to(6, 16),
-        Style::Full => 16,
-        _ => random.pick(&[1, 2, 2, 3, 3, 3, 4, 4, 5, 6, 8, 11, 16]),
-    }
-}
-
-fn length_for(style: Style, random: &mut Random) -> usize {
-    let length = match style {
-        Style::Small => random.from_to(40, 120),
-        Style::Deep => random.from_to(350, 600),
-        Style::Full => 2700,
-        _ => random.from_to(120, 400),
-    };
-    length as usize
-}
+use style::{cards_for, length_for, style_of, weights};
 
 struct Maker {
     random: Random,
@@ -107,6 +33,18 @@ pub fn list(seed: u64) -> Vec<Vec<u8>> {
 /// The list of a seed in a chosen style.
 pub fn styled_list(seed: u64, style: Style) -> Vec<Vec<u8>> {
     list_of(Random::new(seed), style)
+}
+
+/// The same in about so many calls, on a cabinet of so many cards.
+pub fn sized_list(seed: u64, style: Style, length: usize, cards: u32) -> Vec<Vec<u8>> {
+    let mut maker = Maker { random: Random::new(seed), style, place: Place::default(), lines: Vec::new() };
+    maker.before_fresh();
+    maker.call(Call::Fresh { cards });
+    while maker.lines.len() < length {
+        maker.step();
+    }
+    maker.end();
+    maker.lines
 }
 
 fn list_of(random: Random, style: Style) -> Vec<Vec<u8>> {
@@ -159,10 +97,14 @@ impl Maker {
         }
     }
 
-    fn begin(&mut self) {
+    fn before_fresh(&mut self) {
         while self.random.chance(30) {
             self.wild_before_fresh();
         }
+    }
+
+    fn begin(&mut self) {
+        self.before_fresh();
         let cards = cards_for(self.style, &mut self.random);
         self.call(Call::Fresh { cards });
     }
@@ -181,15 +123,28 @@ impl Maker {
         self.call(call);
     }
 
+    /// At the end all sheets, mostly with all that the cards hold stored, and
+    /// often a recovery.
     fn end(&mut self) {
-        self.call(Call::Show);
-        if self.style == Style::Full || self.random.chance(500) {
+        let store = self.style != Style::Full && self.cabinet().phase == Phase::Up && self.random.chance(700);
+        for card in 0..self.cards() {
+            if store && self.random.chance(850) {
+                self.store_all(card);
+            }
+            self.call(Call::Sheet { card: card as u32, room: MOST_BYTES as u32 });
+        }
+        if self.style == Style::Full || self.random.chance(700) {
             self.recover();
         }
+        self.call(Call::Show);
     }
 
     fn step(&mut self) {
-        let wild = if matches!(self.style, Style::Deep | Style::Full) { 15 } else { 60 };
+        let wild = match self.style {
+            Style::Full => 0,
+            Style::Deep => 15,
+            _ => 60,
+        };
         if self.random.chance(wild) {
             return self.wild();
         }
@@ -213,7 +168,7 @@ impl Maker {
             3 => self.store(),
             4 => {
                 self.call(Call::Trim);
-                self.show_at(300);
+                self.show_at(200);
             }
             5 => self.safe(),
             6 => self.withdraw(),
@@ -221,7 +176,7 @@ impl Maker {
             8 => self.look(),
             _ => {
                 self.call(Call::Restart);
-                self.show_at(500);
+                self.show_at(350);
             }
         }
     }
@@ -234,7 +189,7 @@ impl Maker {
             3 => self.look(),
             4 => {
                 self.call(Call::Restart);
-                self.show_at(500);
+                self.show_at(350);
             }
             _ => self.out_of_phase(),
         }
@@ -247,7 +202,7 @@ impl Maker {
             1 => self.lose(),
             2 => {
                 self.call(Call::Restart);
-                self.show_at(300);
+                self.show_at(200);
             }
             3 => self.look(),
             _ => self.out_of_phase(),
@@ -338,7 +293,7 @@ impl Maker {
     fn take(&mut self) {
         let decided = self.places(true);
         if decided.is_empty() {
-            if self.random.chance(300) {
+            if self.random.chance(60) {
                 self.any_vote_or_take();
             }
             return;
@@ -349,7 +304,11 @@ impl Maker {
         let cards: Vec<usize> = members(awaited).collect();
         let card = self.random.pick(&cards);
         self.call(Call::Take { change, card: card as u32 });
-        let soon = if self.style == Style::Half { 600 } else { 100 };
+        let soon = match self.style {
+            Style::Half => 600,
+            Style::Full => 0,
+            _ => 100,
+        };
         if has(writes, card) && self.random.chance(soon) {
             self.store_all(card);
         }
@@ -394,7 +353,7 @@ impl Maker {
 
     fn lose(&mut self) {
         let cards = all(self.cards());
-        let bits = self.random.next() as CardSet;
+        let bits = self.random.bits() as CardSet;
         let set = match self.random.below(6) {
             0 => 0,
             1 => cards,
@@ -402,7 +361,7 @@ impl Maker {
             _ => bits & cards,
         };
         self.call(Call::Lose { set: set.into() });
-        self.show_at(150);
+        self.show_at(100);
     }
 
     fn fix(&mut self) {
@@ -411,8 +370,9 @@ impl Maker {
             Phase::Down => self.cabinet().lost_now().len() as u32,
             _ => 0,
         };
-        let records = self.random.pick(&[16, 16, 16, cards, cards, cards - 1, 0]);
-        let numbers = self.random.pick(&[776, 776, 776, lost, lost, lost.saturating_sub(1), 0]);
+        let records = self.random.pick(&[16, 16, 16, 16, cards, cards, cards, cards, cards - 1, 0]);
+        let numbers =
+            self.random.pick(&[776, 776, 776, 776, lost, lost, lost, lost, lost.saturating_sub(1), 0]);
         self.call(Call::Fix { records, numbers });
         self.show_at(100);
     }
@@ -422,7 +382,7 @@ impl Maker {
         let cards: Vec<usize> = members(left).collect();
         let card = if self.random.chance(930) { self.random.pick(&cards) as u32 } else { self.any_card() };
         self.call(Call::Roll { card });
-        self.show_at(250);
+        self.show_at(120);
     }
 
     /// A sheet into a buffer that mostly is long enough, or a look at all.
@@ -448,7 +408,11 @@ impl Maker {
         let change = self.random.from_to(last.saturating_sub(6), last + 1);
         let card = self.any_card();
         let yes = self.random.chance(900);
-        let call = if self.random.chance(500) { Call::Vote { change, card, yes } } else { Call::Take { change, card } };
+        let call = if self.random.chance(500) {
+            Call::Vote { change, card, yes }
+        } else {
+            Call::Take { change, card }
+        };
         self.call(call);
     }
 
@@ -517,86 +481,6 @@ impl Maker {
         while self.cabinet().phase == Phase::Rolling {
             self.roll();
         }
-        self.call(Call::Show);
-    }
-
-    /// Any call with any numbers, or a line that is none.
-    fn wild(&mut self) {
-        if self.random.chance(300) {
-            let line = self.unreadable();
-            self.lines.push(line);
-            return;
-        }
-        if self.random.chance(250) {
-            return self.out_of_phase();
-        }
-        let call = self.wild_call();
-        self.call(call);
-    }
-
-    /// Small numbers mostly, now and then any number.
-    fn wild_number(&mut self) -> u32 {
-        match self.random.below(8) {
-            0 => 0,
-            1 => self.random.pick(&[15, 16, 17, 65_535, 65_536, 60_000, 60_001, 4_294_967_295]),
-            2 => self.random.next() as u32,
-            3 => self.cards() as u32,
-            _ => self.random.from_to(0, 9),
-        }
-    }
-
-    fn wild_call(&mut self) -> Call {
-        let (a, b, yes) = (self.wild_number(), self.wild_number(), self.random.chance(500));
-        match self.random.below(28) {
-            0..=3 => Call::Open { reads: a, writes: b },
-            4..=6 => Call::Vote { change: a, card: b, yes },
-            7..=9 => Call::Take { change: a, card: b },
-            10 | 11 => Call::Withdraw { change: a },
-            12..=14 => Call::Store { card: a, state: b },
-            15 | 16 => Call::Safe { change: a },
-            17..=19 => Call::Lose { set: a },
-            20 | 21 => Call::Fix { records: a.min(16), numbers: b.min(776) },
-            22 | 23 => Call::Roll { card: a },
-            24..=26 => Call::Sheet { card: a, room: b.min(65_536) },
-            _ if self.random.chance(800) => Call::Fresh { cards: self.random.pick(&[0, 17, 99, 4_294_967_295]) },
-            _ => Call::Fresh { cards: self.random.from_to(1, 16) },
-        }
-    }
-
-    /// A line that is no call.
-    fn unreadable(&mut self) -> Vec<u8> {
-        let call = self.wild_call();
-        let good = write_call(&call);
-        let line = match self.random.below(22) {
-            0 => String::new(),
-            1 => format!(" {good}"),
-            2 => format!("{good} "),
-            3 => good.replacen(' ', "  ", 1) + " ",
-            4 => format!("{good} 1 1"),
-            5 => good.to_uppercase(),
-            6 => good.replacen(' ', "\t", 1) + "\t",
-            7 => format!("{good}\r"),
-            8 => "withdraw 4294967296".to_string(),
-            9 => "vote 1 0 2".to_string(),
-            10 => "fix 17 776".to_string(),
-            11 => "fix 16 777".to_string(),
-            12 => "sheet 0 65537".to_string(),
-            13 => "roll -1".to_string(),
-            14 => "lose +1".to_string(),
-            15 => "safe 0x1".to_string(),
-            16 => "open 1".to_string(),
-            17 => "trim 0".to_string(),
-            18 => "opens 1 2".to_string(),
-            19 => format!("lose {}", "9".repeat(40)),
-            20 => return vec![0, 255, 128, b'o', b'k'],
-            _ => return self.long_line(),
-        };
-        line.into_bytes()
-    }
-
-    /// A loss of no card, in a line of 129 bytes.
-    fn long_line(&mut self) -> Vec<u8> {
-        format!("lose {}", "0".repeat(LONGEST_LINE + 1 - "lose ".len())).into_bytes()
     }
 }
 
@@ -614,8 +498,16 @@ pub fn summit() -> Vec<Vec<u8>> {
             lines.extend(["lose 3", "fix 16 776", "roll 0", "roll 1"].map(String::from));
         }
     }
-    lines.extend(["show", "open 0 1", "open 1 2", "vote 481 0 1", "vote 481 1 1", "take 481 0", "take 481 1"].map(String::from));
-    lines.extend(["open 3 1", "open 0 3", "store 1 1", "sheet 0 65536", "sheet 1 65536", "lose 2", "fix 2 0"].map(String::from));
-    lines.extend(["restart", "roll 1", "sheet 1 99", "roll 0", "show", "open 1 2", "open 1 1"].map(String::from));
+    lines.extend(
+        ["show", "open 0 1", "open 1 2", "vote 481 0 1", "vote 481 1 1", "take 481 0", "take 481 1"]
+            .map(String::from),
+    );
+    lines.extend(
+        ["open 3 1", "open 0 3", "store 1 1", "sheet 0 65536", "sheet 1 65536", "lose 2", "fix 2 0"]
+            .map(String::from),
+    );
+    lines.extend(
+        ["restart", "roll 1", "sheet 1 99", "roll 0", "show", "open 1 2", "open 1 1"].map(String::from),
+    );
     lines.into_iter().map(String::into_bytes).collect()
 }

@@ -36,7 +36,9 @@ impl Place {
         let answer = match (call, &mut self.cabinet) {
             (Call::Fresh { cards }, _) => Cabinet::fresh(cards).map(|cabinet| self.put(cabinet)),
             (_, None) => Ok(Answer::NoCabinet),
-            (Call::Restart, Some(cabinet)) => restart(&cabinet.joined_sheets()).map(|cabinet| self.put(cabinet)),
+            (Call::Restart, Some(cabinet)) => {
+                restart(&cabinet.joined_sheets()).map(|cabinet| self.put(cabinet))
+            }
             (call, Some(cabinet)) => run(cabinet, call),
         };
         answer.unwrap_or_else(Answer::Refused)

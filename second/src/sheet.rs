@@ -66,7 +66,8 @@ pub fn finish_line(text: String) -> Vec<u8> {
 
 /// A header line from its fields, whatever they are.
 pub fn header_line(session: u32, card: u32, cards: u32, base: u32, count: u32) -> Vec<u8> {
-    let text = digits(session, 8) + &digits(card, 2) + &digits(cards, 2) + &digits(base, 4) + &digits(count, 4);
+    let text =
+        digits(session, 8) + &digits(card, 2) + &digits(cards, 2) + &digits(base, 4) + &digits(count, 4);
     finish_line(text)
 }
 

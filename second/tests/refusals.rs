@@ -1,6 +1,6 @@
 //! Each refusal at least once, and the order they come in.
 
-use second::readouts::{largest, padded};
+use second::readouts::{largest, lines_of_two_kinds, padded};
 use second::refusal::Refusal;
 use second::replay::replay;
 use second::restart::line_text;
@@ -33,7 +33,17 @@ fn number_of_cards() {
 
 #[test]
 fn cards_and_sets() {
-    for call in ["open 4 0", "open 0 4", "open 65536 0", "vote 1 2 1", "take 1 16", "store 2 0", "lose 4", "roll 2", "sheet 2 0"] {
+    for call in [
+        "open 4 0",
+        "open 0 4",
+        "open 65536 0",
+        "vote 1 2 1",
+        "take 1 16",
+        "store 2 0",
+        "lose 4",
+        "roll 2",
+        "sheet 2 0",
+    ] {
         refused(&format!("fresh 2\n{call}"), "2");
     }
     refused("fresh 2\nlose 0\nopen 4 0", "2");
@@ -104,7 +114,19 @@ fn store_and_roll() {
 
 #[test]
 fn lines_of_a_list() {
-    for line in ["", " show", "show ", "open 1  2", "vote 1 0 2", "fix 17 0", "fix 16 777", "sheet 0 65537", "lose 4294967296", "trim\r", "roll"] {
+    for line in [
+        "",
+        " show",
+        "show ",
+        "open 1  2",
+        "vote 1 0 2",
+        "fix 17 0",
+        "fix 16 777",
+        "sheet 0 65537",
+        "lose 4294967296",
+        "trim\r",
+        "roll",
+    ] {
         assert_eq!(last(&format!("fresh 1\n{line}\n")), "unreadable", "{line}");
     }
     assert_eq!(last("show"), "none");
@@ -169,7 +191,11 @@ fn frames() {
     let twice = header_line(1, 0, 2, 0, 2);
     let first = frame("00010000000100000005");
     for fault in ["00020000000100010005", "00020000000200010004", "0002000000020001FFFF"] {
-        assert_eq!(line(&[twice.clone(), first.clone(), frame(fault), other.clone()]), "refused 9", "{fault}");
+        assert_eq!(
+            line(&[twice.clone(), first.clone(), frame(fault), other.clone()]),
+            "refused 9",
+            "{fault}"
+        );
     }
     assert_eq!(line(&[twice, first, frame("00020000000200010005"), other]), "0 2 0");
 }
@@ -195,4 +221,11 @@ fn too_long() {
     assert_eq!(line(&[padded(largest(), 65_536)]), "refused 8");
     assert_eq!(line(&[padded(largest(), 65_537)]), "refused 12");
     assert_eq!(read_sheet(&[48; 65_537], 0), Err(Refusal::TooLong));
+}
+
+/// What document 01's check cannot tell: a header read as a frame.
+#[test]
+fn lines_that_are_header_and_frame() {
+    assert_eq!(line_text(&lines_of_two_kinds(false)), "0 48 48\n1 95 47\nsession 3145734\n");
+    assert_eq!(line_text(&lines_of_two_kinds(true)), "0 48 48\n1 95 48\nsession 3145734\n");
 }

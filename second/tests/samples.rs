@@ -1,8 +1,9 @@
 //! Document 01's samples A to H, its worked read-out, and the cases it names
 //! "by program".
 
+use second::history::Vector;
 use second::lists::{joined, summit};
-use second::replay::replay;
+use second::replay::{lines_of, replay, Place};
 use second::restart::line_text;
 
 /// The list of some calls, one a line.
@@ -38,13 +39,24 @@ fn ends(calls: &str, end: &str) {
     assert!(answers.ends_with(end), "{answers}");
 }
 
+/// The vector of a state after some calls.
+fn vector(calls: &str, card: usize, state: u32) -> Vector {
+    let mut place = Place::default();
+    lines_of(calls.as_bytes()).into_iter().for_each(|line| {
+        place.answer_line(line);
+    });
+    place.cabinet.map_or(Vec::new(), |cabinet| cabinet.history().vector(card, state))
+}
+
 #[test]
 fn a_has_its_vectors() {
-    let calls = sample_a() + "store 0 2\nstore 1 1\nsheet 0 999\nsheet 1 999\n";
+    assert_eq!(vector(&sample_a(), 0, 1), [Some(0), None]);
+    assert_eq!(vector(&sample_a(), 0, 2), [Some(1), Some(0)]);
+    assert_eq!(vector(&sample_a(), 1, 1), [Some(0), Some(0)]);
     ends(
-        &calls,
+        &(sample_a() + "store 0 2\nsheet 0 75\nsheet 1 25\n"),
         "sheet 75\n0000000100020000000281C5\n0001000000010000FFFF561A\n00020000000300010000A2C6\n\
-         sheet 50\n000000010102000000018CC5\n000100000002000000009AC3\n",
+         sheet 25\n000000010102000000008AC4\n",
     );
 }
 
@@ -71,20 +83,16 @@ fn e_rolls_the_survivor_back() {
 
 #[test]
 fn f_keeps_what_hangs_on_nothing() {
-    let calls = "fresh 3\n".to_string() + &whole(1, 2, 1) + &whole(2, 2, 4) + "store 2 1\nsheet 2 99\nlose 7\nfix 3 1\n";
-    ends(
-        &calls,
-        "sheet 54\n0000000102030000000190CA\n000100000002FFFFFFFF00001ACB\nok\nfixed 3 1\n0 0 0\n1 0 0\n2 1 1\nlost 1\n",
-    );
+    let calls = "fresh 3\n".to_string() + &whole(1, 2, 1) + &whole(2, 2, 4);
+    assert_eq!(vector(&calls, 2, 1), [None, None, Some(0)]);
+    ends(&(calls + &fixed(&[0, 0, 1])), "fixed 3 1\n0 0 0\n1 0 0\n2 1 1\nlost 1\n");
 }
 
 #[test]
 fn g_follows_changes_that_only_read() {
-    let calls = "fresh 2\n".to_string() + &whole(1, 0, 1) + &whole(2, 3, 0) + &whole(3, 0, 2) + "store 1 1\nsheet 1 99\nlose 3\nfix 2 2\n";
-    ends(
-        &calls,
-        "sheet 50\n000000010102000000018CC5\n00010000000300000000A4C4\nok\nfixed 2 2\n0 0 0\n1 1 0\nlost 1 3\n",
-    );
+    let calls = "fresh 2\n".to_string() + &whole(1, 0, 1) + &whole(2, 3, 0) + &whole(3, 0, 2);
+    assert_eq!(vector(&calls, 1, 1), [Some(0), Some(0)]);
+    ends(&(calls + &fixed(&[0, 1])), "fixed 2 2\n0 0 0\n1 1 0\nlost 1 3\n");
 }
 
 #[test]

@@ -1,14 +1,18 @@
 //! Runs two programs over random lists or read-outs and reports the first
 //! difference, shrunk.
 
+use second::compact::{unpack_lists, unpack_readouts};
 use second::compare::*;
-use second::lists::{joined, list};
+use second::lists::{joined, list, summit};
 use second::readouts::readout;
+use std::path::Path;
 use std::process::exit;
-use std::{env, io};
+use std::{env, fs, io};
 
 const USE: &str = "compare lists FIRST SECOND SEED COUNT
 compare readouts FIRST SECOND SEED COUNT
+compare summit FIRST SECOND
+compare data DIR REPLAY LINE
 FIRST and SECOND are commands with their arguments, or `own` for this package's program run in place.
 ";
 
@@ -28,6 +32,10 @@ fn main() -> io::Result<()> {
         }
         ["readouts", first, second, _, _] => {
             compare_readouts(&Program::of_readouts(first), &Program::of_readouts(second), seed, count)
+        }
+        ["summit", first, second] => compare_summit(&Program::of_lists(first), &Program::of_lists(second)),
+        ["data", dir, replay, line] => {
+            compare_data(Path::new(dir), &Program::of_lists(replay), &Program::of_readouts(line))
         }
         _ => {
             eprint!("{USE}");
@@ -52,8 +60,29 @@ fn compare_lists(first: &Program, second: &Program, seed: u64, count: u64) -> io
     Ok(())
 }
 
+/// The one long list that brings a card to state 60,000.
+fn compare_summit(first: &Program, second: &Program) -> io::Result<()> {
+    let lines = summit();
+    if let Some(difference) = list_difference(first, second, &lines)? {
+        println!(
+            "the summit differs at call {}: {}",
+            difference.place + 1,
+            String::from_utf8_lossy(&lines[difference.place])
+        );
+        println!("first:\n{}second:\n{}", difference.first, difference.second);
+        exit(1);
+    }
+    println!("{} calls, no difference", lines.len());
+    Ok(())
+}
+
 /// Finds the list of a batch that differs, shrinks it and stops.
-fn report_list(first: &Program, second: &Program, seeds: std::ops::Range<u64>, batch: Vec<Vec<u8>>) -> io::Result<()> {
+fn report_list(
+    first: &Program,
+    second: &Program,
+    seeds: std::ops::Range<u64>,
+    batch: Vec<Vec<u8>>,
+) -> io::Result<()> {
     let mut found = (format!("seeds {} to {}", seeds.start, seeds.end - 1), batch);
     for seed in seeds {
         let lines = list(seed);
@@ -67,7 +96,12 @@ fn report_list(first: &Program, second: &Program, seeds: std::ops::Range<u64>, b
     println!("{name} differs; shrunk to {} calls:", short.len());
     print!("{}", String::from_utf8_lossy(&joined(&short)));
     if let Some(difference) = list_difference(first, second, &short)? {
-        println!("call {} answers, first:\n{}second:\n{}", difference.place + 1, difference.first, difference.second);
+        println!(
+            "call {} answers, first:\n{}second:\n{}",
+            difference.place + 1,
+            difference.first,
+            difference.second
+        );
     }
     exit(1)
 }
@@ -80,6 +114,34 @@ fn compare_readouts(first: &Program, second: &Program, seed: u64, count: u64) ->
         }
     }
     println!("{count} read-outs, no difference");
+    Ok(())
+}
+
+/// Matches two programs with the answers of compact data.
+fn compare_data(dir: &Path, replay: &Program, line: &Program) -> io::Result<()> {
+    let lists = unpack_lists(&fs::read_to_string(dir.join("lists.txt"))?);
+    let calls: usize = lists.iter().map(|(lines, _)| lines.len()).sum();
+    for (number, (lines, answers)) in lists.iter().enumerate() {
+        if let Some(difference) = answers_difference(replay, lines, answers)? {
+            println!("list {} differs at call {}:", number + 1, difference.place + 1);
+            println!("data:\n{}program:\n{}", difference.first, difference.second);
+            exit(1);
+        }
+    }
+    let text = fs::read_to_string(dir.join("readouts.txt"))?;
+    let readouts = unpack_readouts(&text).ok_or(io::Error::other("readouts.txt is not as packed"))?;
+    for (number, (bytes, answer)) in readouts.iter().enumerate() {
+        let other = line.run(bytes)?;
+        if other != answer.as_bytes() {
+            println!(
+                "read-out {} differs:\ndata:\n{answer}program:\n{}",
+                number + 1,
+                String::from_utf8_lossy(&other)
+            );
+            exit(1);
+        }
+    }
+    println!("{} lists, {calls} calls, {} read-outs, no difference", lists.len(), readouts.len());
     Ok(())
 }
 

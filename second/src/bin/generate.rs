@@ -1,8 +1,8 @@
 //! Random call lists and read-outs from a seed.
 
 use second::compact::{pack_beside, pack_list, pack_whole};
-use second::lists::{joined, list, styled_list, summit, Style};
-use second::readouts::{family, largest, padded, readout, Size};
+use second::lists::{joined, list, sized_list, styled_list, summit, Style};
+use second::readouts::{family, largest, lines_of_two_kinds, padded, readout, Size};
 use std::io::{self, Write};
 use std::path::Path;
 use std::{env, fs};
@@ -19,11 +19,13 @@ fn main() -> io::Result<()> {
     let words: Vec<&str> = words.iter().map(String::as_str).collect();
     let number = |word: &str| word.parse::<u64>().unwrap_or(0);
     match words[..] {
-        ["lists", seed, count] => (0..number(count)).try_for_each(|next| print(&joined(&list(number(seed) + next)))),
+        ["lists", seed, count] => {
+            (0..number(count)).try_for_each(|next| print(&joined(&list(number(seed) + next))))
+        }
         ["summit"] => print(&joined(&summit())),
         ["readout", seed] => print(&readout(number(seed))),
         ["readouts", seed, count, dir] => write_readouts(number(seed), number(count), Path::new(dir)),
-        ["data", dir] => write_data(Path::new(dir), 240, 130),
+        ["data", dir] => write_data(Path::new(dir), 208, 130),
         ["data", dir, lists, families] => write_data(Path::new(dir), number(lists), number(families)),
         _ => print(USE.as_bytes()),
     }
@@ -38,16 +40,34 @@ fn write_readouts(seed: u64, count: u64, dir: &Path) -> io::Result<()> {
     (seed..seed + count).try_for_each(|seed| fs::write(dir.join(format!("{seed}.txt")), readout(seed)))
 }
 
-/// The styles of the compact lists, in turn.
-const STYLES: [Style; 8] = [
-    Style::Mixed, Style::Half, Style::Wide, Style::Roll, Style::Small, Style::Half, Style::Roll, Style::Deep,
+/// The compact lists, in turn: style, calls, and the cards of the cabinet.
+const KINDS: [(Style, usize, u32); 16] = [
+    (Style::Mixed, 180, 2),
+    (Style::Half, 180, 3),
+    (Style::Wide, 150, 8),
+    (Style::Roll, 180, 3),
+    (Style::Small, 120, 1),
+    (Style::Half, 200, 2),
+    (Style::Roll, 200, 5),
+    (Style::Mixed, 220, 4),
+    (Style::Deep, 200, 1),
+    (Style::Roll, 180, 2),
+    (Style::Half, 200, 4),
+    (Style::Wide, 150, 5),
+    (Style::Small, 120, 3),
+    (Style::Mixed, 240, 6),
+    (Style::Half, 220, 16),
+    (Style::Deep, 320, 2),
 ];
 
 fn write_data(dir: &Path, lists: u64, families: u64) -> io::Result<()> {
     fs::create_dir_all(dir)?;
-    let text: String = (0..lists)
-        .map(|seed| pack_list(&styled_list(seed, STYLES[seed as usize % STYLES.len()])))
-        .collect();
+    let mut text = String::new();
+    for seed in 0..lists {
+        let (style, length, cards) = KINDS[seed as usize % KINDS.len()];
+        text += &pack_list(&sized_list(seed, style, length, cards));
+    }
+    text += &pack_list(&styled_list(lists, Style::Full));
     fs::write(dir.join("lists.txt"), text)?;
     fs::write(dir.join("readouts.txt"), readouts_text(families))
 }
@@ -60,6 +80,8 @@ fn readouts_text(families: u64) -> String {
         text += &pack_whole(&whole);
         damaged.iter().for_each(|bytes| text += &pack_beside(&whole, bytes));
     }
+    text += &pack_whole(&lines_of_two_kinds(false));
+    text += &pack_beside(&lines_of_two_kinds(false), &lines_of_two_kinds(true));
     let whole = largest();
     text += &pack_whole(&whole);
     for length in [65_536, 65_537] {
