@@ -5,6 +5,7 @@ use crate::answer::Answer;
 use crate::cabinet::{Cabinet, Past, Phase, Record};
 use crate::call::{read_call, write_call, Call};
 use crate::cards::{all, has, members, CardSet};
+use crate::grounds::due;
 use crate::journal::{Journal, TRIED_IN_FULL};
 use crate::limits::*;
 use crate::random::Random;
@@ -73,6 +74,7 @@ impl Follower {
     fn step(&mut self, call: Call, counts: &mut Counts) -> Result<(), String> {
         let before = self.place.cabinet.clone();
         let answer = self.place.answer(call);
+        self.demand_refusal_due(&call, &answer, before.as_ref())?;
         if let Answer::Refused(refusal) = answer {
             counts.add(&format!("refused {:02}", refusal.number()));
             return demand(before == self.place.cabinet, "a refusal changed the cabinet");
@@ -86,6 +88,24 @@ impl Follower {
         self.demand_numbers()?;
         self.demand_sheets(counts)?;
         self.demand_cut(counts)
+    }
+
+    /// A call is refused exactly for the ground that the tables put first.
+    fn demand_refusal_due(
+        &self,
+        call: &Call,
+        answer: &Answer,
+        before: Option<&Cabinet>,
+    ) -> Result<(), String> {
+        let Some(before) = before else {
+            return Ok(());
+        };
+        let given = match answer {
+            Answer::Refused(refusal) => Some(*refusal),
+            _ => None,
+        };
+        let due = due(call, before);
+        demand(given == due, &format!("refusal {given:?} given, {due:?} due"))
     }
 
     fn cabinet(&self) -> Result<&Cabinet, String> {

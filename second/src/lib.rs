@@ -11,6 +11,7 @@ pub mod cards;
 pub mod check;
 pub mod compact;
 pub mod compare;
+pub mod grounds;
 pub mod history;
 pub mod journal;
 pub mod limits;
