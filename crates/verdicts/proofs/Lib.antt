@@ -1,1 +1,4 @@
 pub mod Limits
+pub mod Checks
+pub mod Held
+pub mod Cards

@@ -1,21 +1,49 @@
--- Each answer enum in document 01's numbers and values.
+-- Each answer enum in document 01's numbers and values, and the first check that fails.
 use Prim.Native.Nat.{ℕ}
+use mathlib.Core.Bool.{Bool, cond}
 use mathlib.Core.List.{List, [], _∷_}
-use Rattle.protocol.specs.Plan.{Answer, done, opened, safe, unsafe, Check, checked, accepted, refused}
+use Rattle.refusal.specs.declared.Refusal.{Refusal}
+use Rattle.refusal.specs.declared.Refusal.the-variants.{BadCabinet}
+use Rattle.protocol.specs.Plan.{Answer, done, opened, safe, unsafe, Check, _⇒_, accepted, refused}
 use Rattle.protocol.specs.Plan as plan
 use Rattle.verdicts.specs.declared.Reply.{Reply}
 use Rattle.verdicts.specs.declared.Reply.the-variants.{Done, Refused}
+use Rattle.verdicts.specs.declared.OpenReply.{OpenReply}
+use Rattle.verdicts.specs.declared.OpenReply.the-variants as openReply
+use Rattle.verdicts.specs.declared.SafeReply.{SafeReply}
+use Rattle.verdicts.specs.declared.SafeReply.the-variants as safeReply
 
 -- the answer of a call that answers nothing but that it was accepted
 abbrev pub replyOf : Reply → plan.Reply
 replyOf Done = accepted done
 replyOf (Refused r) = refused r
 
+-- open: the number of the change
+abbrev pub openReplyOf : OpenReply → plan.Reply
+openReplyOf (openReply.Opened k) = accepted (opened k)
+openReplyOf (openReply.NotOpened r) = refused r
+
+-- safe
+abbrev pub safeReplyOf : SafeReply → plan.Reply
+safeReplyOf safeReply.Safe = accepted safe
+safeReplyOf safeReply.Unsafe = accepted unsafe
+safeReplyOf (safeReply.Unknown r) = refused r
+
 -- the checks after the first
 abbrev pub rest : List Check → List Check
 rest [] = []
 rest (c ∷ cs) = cs
 
--- what the checks answer: the first that fails refuses
-abbrev pub answered : List Check → Answer → plan.Reply
-answered cs a = checked cs a [] .reply
+-- the checks of a call whose first, 28, was found to pass or not
+abbrev pub after28 : Bool → List Check → List Check
+after28 fails cs = fails ⇒ BadCabinet ∷ rest cs
+
+-- one check more: it refuses where no earlier one did and it fails
+abbrev pub next : Reply → Bool → Refusal → Reply
+next Done fails r = cond fails (Refused r) Done
+next (Refused q) fails r = Refused q
+
+-- the first check that fails refuses
+abbrev pub firstFailing : List Check → Reply
+firstFailing [] = Done
+firstFailing ((fails ⇒ r) ∷ cs) = cond fails (Refused r) (firstFailing cs)

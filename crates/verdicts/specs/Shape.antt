@@ -7,7 +7,7 @@ use lib.ListN.{getD}
 use Rattle.laws.specs.Below.{tabulate}
 use Rattle.bits.specs.Member.{member, number}
 use Rattle.history.specs.Change.{CardSet, Numbers}
-use Rattle.history.specs.Vector.{noEntries}
+use Rattle.history.specs.Vector.{noEntries, Tracked}
 use Rattle.history.specs.Vector as history
 use Rattle.protocol.specs.Model as model
 use Rattle.protocol.specs.Model.{Limits, Model, OpenChange, Memory, StateNumbers, noCards}
@@ -128,6 +128,21 @@ modelOf entries makers last pending places base stored kept reached line ended r
       line = at line;
       rolled = member rolled;
     }
+
+-- the parts of a cabinet that a verdict looks at: the head; numbers by card; the places
+abbrev pub headModel : Head → Model
+headModel h = modelOf [] [] [] [] [] [] [] [] [] [] [] 0 h
+
+abbrev pub numbersModel : Head → (base stored kept reached : List ℕ) → Model
+numbersModel h base stored kept reached = modelOf [] [] [] [] [] base stored kept reached [] [] 0 h
+
+abbrev pub placesModel : Head → List Place → (base reached : List ℕ) → Model
+placesModel h places base reached = modelOf [] [] [] [] places base [] [] reached [] [] 0 h
+
+-- what the vector of a change is worked out from
+abbrev pub trackedOf : (reached : List ℕ) (last pending : List Vector) → Tracked
+trackedOf reached last pending =
+    record { reached = at reached; last = vectorAt last; pending = vectorAt pending; frame = λ c x. noEntries }
 
 -- the parts of a cabinet of n cards that a check of one card or one place looks at
 abbrev pub partOf : (n : ℕ) → model.Phase → StateNumbers → Memory → (line : ℕ) → Model

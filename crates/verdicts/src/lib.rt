@@ -1,14 +1,30 @@
 // What each call answers, as small functions over numbers, sets and small arrays.
-ghost use Prim.Native.Nat.{ℕ, _+_, _*_, _<_, _≤_};
 ghost use mathlib.Core.Path.{_≡_};
 ghost use Rattle.protocol.specs.Model.{isUp, isDown, isRolling};
 ghost use Rattle.verdicts.specs.Shape.{phaseOf, at};
 use refusal::Refusal;
 
+pub mod places;
+pub mod replies;
+pub mod vectors;
+
 pub enum Phase {
     Up,
     Down,
     Rolling,
+}
+
+// What open answers: the number of the change.
+pub enum OpenReply {
+    Opened(u32),
+    NotOpened(Refusal),
+}
+
+// What safe answers.
+pub enum SafeReply {
+    Safe,
+    Unsafe,
+    Unknown(Refusal),
 }
 
 // What is small in a cabinet: session, number of cards, the last change number given, phase.
