@@ -9,7 +9,7 @@ use native.Mathlib.Numerals.{add-one}
 use native.Mathlib.Decide.{decLt}
 use native.Mathlib.Omega.{arith}
 use lib.ListN.{length, getD, set, length-append, length-set, List·getD-append, List·getD-eq-default}
-use lib.Seq.{getD-set-same, getD-set-other, getD-append-add, ext-getD}
+use lib.Seq.{sets, getD-set-same, getD-set-other, getD-append-add, ext-getD}
 use Rattle.laws.specs.Below.{allBelow, anyBelow, greatest, tabulate, firstBelow}
 use Rattle.laws.proofs.Logic.{clash, fails, cond-true, cond-false}
 use Rattle.laws.proofs.Below.{below-suc, step-below, any-intro, any-elim, Found}
@@ -168,3 +168,33 @@ module _ {A : Type 0} where
 
   pub filled-done : {d : A} {n w : ℕ} {f : ℕ → A} {l : List A} {i : ℕ} → FilledSoFar d n f l i → n ≤ i → w ≡ n → l ≡ tabulate w f
   filled-done {d} {n} {w} {f} {l} {i} r h q = tabulate-ext d n f l (r .long) (λ k g. r .so k (omega arith)) ∙ ap (λ (m : ℕ). tabulate m f) (sym q)
+
+  -- ---- a run of stores, one store longer
+  pub sets-snoc : (xs l : List A) (i : ℕ) (y : A) → sets l i (xs ++ (y ∷ [])) ≡ set (sets l i xs) (i + length xs) y
+  sets-snoc [] l i y = ap (λ (k : ℕ). set l k y) (let e : i ≡ i + 0 = omega arith in e)
+  sets-snoc (x ∷ xs) l i y =
+      sets-snoc xs (set l i x) (suc i) y
+      ∙ ap (λ (k : ℕ). set (sets (set l i x) (suc i) xs) k y) (let e : suc i + length xs ≡ i + suc (length xs) = omega arith in e)
+
+  pub record StoredSoFar (n : ℕ) (f : ℕ → A) (l : List A) (from : ℕ) (now : List A) (i : ℕ) : Type 0 where
+    pub within : i ≤ n
+    pub so : now ≡ sets l from (tabulate i f)
+
+  pub stored-none : {n : ℕ} {f : ℕ → A} {l : List A} {from : ℕ} → StoredSoFar n f l from l 0
+  stored-none = record { within = zero-le; so = refl }
+
+  pub stored-more : {n : ℕ} {f : ℕ → A} {l : List A} {from : ℕ} {now : List A} {i : ℕ} {v : A} → StoredSoFar n f l from now i → i < n → v ≡ f i → StoredSoFar n f l from (set now (from + i) v) (i + 1)
+  stored-more {n} {f} {l} {from} {now} {i} {v} r h e =
+      record {
+        within = omega arith;
+        so = ap₂ (λ (a : List A) (x : A). set a (from + i) x) (r .so) e
+            ∙ ap (λ (k : ℕ). set (sets l from (tabulate i f)) (from + k) (f i)) (sym (length-tabulate i f))
+            ∙ sym (sets-snoc (tabulate i f) l from (f i))
+            ∙ ap (λ (k : ℕ). sets l from (tabulate k f)) (sym (add-one i));
+      }
+
+  pub stored-done : {n w : ℕ} {f : ℕ → A} {l : List A} {from : ℕ} {now : List A} {i : ℕ} → StoredSoFar n f l from now i → n ≤ i → w ≡ n → now ≡ sets l from (tabulate w f)
+  stored-done {n} {w} {f} {l} {from} {now} {i} r h q =
+      let b : i ≤ n = r .within in
+      let e : i ≡ w = omega arith in
+      r .so ∙ ap (λ (k : ℕ). sets l from (tabulate k f)) e

@@ -1,0 +1,8 @@
+-- The model of a cabinet held in the struct `Cabinet`.
+use Rattle.protocol.specs.Model.{Model}
+use Rattle.verdicts.specs.Shape.{modelOf}
+use Rattle.cabinet.specs.declared.Cabinet.{Cabinet}
+
+abbrev pub view : Cabinet → Model
+view s =
+    modelOf (s .entries) (s .makers) (s .last) (s .pending) (s .places) (s .base) (s .stored) (s .held) (s .reached) (s .line) (s .ended) (s .rolled) (s .head)

@@ -1,0 +1,67 @@
+// What the calls write into a cabinet's lists.
+ghost use Prim.Native.Nat.{ℕ, _+_, _≤_};
+ghost use mathlib.Core.Path.{_≡_};
+ghost use mathlib.Core.Bool.{cond};
+ghost use lib.Seq.{sets};
+ghost use Rattle.laws.specs.Below.{tabulate};
+ghost use Rattle.bits.specs.Member.{member};
+ghost use Rattle.protocol.specs.Edit.{remembered};
+ghost use Rattle.protocol.specs.Model.{freePlace};
+ghost use Rattle.verdicts.specs.Shape.{limits16, at, listOf, openAt, placeFor};
+use verdicts::Place;
+
+// The vector of a frame, at its place in the ring.
+pub fn put_frame(entries: &mut [u32; 12288], from: usize, v: [u32; 16])
+    requires { ⌜ from + 16 ≤ 12288 ⌝ }
+    ensures { λ r. ⌜ now (entries .exit) ≡ sets (now (entries .entry)) from (listOf (at v)) ⌝ }
+{
+    let mut j: usize = 0;
+    while j < 16 {
+        entries[from + j] = v[j];
+        j += 1;
+    }
+}
+
+// The first number where the test passes, and the second where it fails.
+fn pick(first: bool, a: u32, b: u32) -> u32
+    ensures { λ r. ⌜ r ≡ cond first a b ⌝ }
+{
+    if first { a } else { b }
+}
+
+// The held numbers of a set of cards fall to stored.
+pub fn fallen(held: [u32; 16], stored: [u32; 16], cards: u16) -> [u32; 16]
+    ensures { λ r. ⌜ r ≡ listOf (λ c. cond (member cards c) (at stored c) (at held c)) ⌝ }
+{
+    let mut out = [0u32; 16];
+    let mut c: usize = 0;
+    while c < 16 {
+        let lost = bits::has(cards, c as u32);
+        out[c] = pick(lost, stored[c], held[c]);
+        c += 1;
+    }
+    out
+}
+
+// Eight free places.
+pub fn no_places() -> [Place; 8]
+    ensures { λ r. ⌜ r ≡ tabulate (limits16 .places) (λ p. placeFor freePlace) ⌝ }
+{
+    let free = verdicts::places::free_place();
+    [free; 8]
+}
+
+// By place, the number that a change is remembered by when a loss ends it.
+pub fn ended_numbers(places: [Place; 8]) -> [u32; 8]
+    ensures { λ r. ⌜ r ≡ tabulate (limits16 .places) (λ p. remembered limits16 (openAt places p)) ⌝ }
+{
+    let mut out = [0u32; 8];
+    let mut p: usize = 0;
+    while p < 8 {
+        let o = places[p];
+        let k = verdicts::places::remembered_number(o);
+        out[p] = k;
+        p += 1;
+    }
+    out
+}
