@@ -4,14 +4,14 @@ use mathlib.Core.Path.{_≡_, refl, sym, _∙_, ap}
 use mathlib.Core.Bool.{Bool, true, false, not, _&&_}
 use mathlib.Core.List.{List, [], _∷_}
 use native.Mathlib.Omega.{arith}
-use lib.Dec.{ltb}
-use borrow.Author.Tests.{ltb-true, not-false}
-use Rattle.laws.proofs.Logic.{and-left}
+use lib.Dec.{ltb, eqb}
+use borrow.Author.Tests.{ltb-true, not-false, not-true}
+use Rattle.laws.proofs.Logic.{and-left, and-right, and-intro, not-intro}
 use Rattle.refusal.specs.declared.Refusal.{Refusal}
-use Rattle.protocol.specs.Model.{Model, isCard, isUp, isKnown, placeOf}
+use Rattle.protocol.specs.Model.{Model, OpenChange, isCard, isUp, isKnown, isOpen, decided, toWrite, placeOf}
 use Rattle.protocol.specs.Sound.{sound}
 use Rattle.protocol.specs.Calls.{storeChecks, takeChecks}
-use Rattle.refusal.specs.declared.Refusal.the-variants.{BadCabinet, NoSuchCard, WrongPhase, NotAwaited}
+use Rattle.refusal.specs.declared.Refusal.the-variants.{BadCabinet, NoSuchCard, WrongPhase, NotAwaited, NotDecided}
 use Rattle.protocol.specs.Edit.{Edit}
 use Rattle.protocol.specs.Plan.{Answer, done, Check, _⇒_, Plan, checked, accepted, refused}
 use Rattle.verdicts.specs.declared.Reply.{Reply}
@@ -20,6 +20,8 @@ use Rattle.verdicts.specs.Answers.{replyOf, firstFailing, rest}
 use Rattle.verdicts.specs.Shape.{limits16}
 use Rattle.verdicts.proofs.Limits.{width16, places8}
 use Rattle.verdicts.proofs.Checks.{Passes, passes, done-plan, refused-plan}
+use Rattle.history.specs.Change.{touches}
+use Rattle.cabinet.proofs.Known.{first-at, sound-places, room-known, room-below}
 use Rattle.cabinet.specs.declared.Cabinet.{Cabinet}
 use Rattle.cabinet.specs.Apply.{applyAll, Carried}
 
@@ -56,14 +58,27 @@ pub record Taken (m : Model) (k c : ℕ) : Type 0 where
   pub whole : sound limits16 m ≡ true
   pub card : c < 16
   pub place : placeOf limits16 m k < 8
+  pub left : m .place (placeOf limits16 m k) .taken c ≡ false
+  pub found : isOpen (m .place (placeOf limits16 m k)) ≡ true
 
 pub taken : (m : Model) (k c : ℕ) → firstFailing (takeChecks limits16 m k c) ≡ Done → Taken m k c
 taken m k c e =
     let cs : List Check = takeChecks limits16 m k c in
     let two : firstFailing (rest (rest cs)) ≡ Done = two-pass (not (sound limits16 m)) BadCabinet (not (isCard limits16 m c)) NoSuchCard (rest (rest cs)) e in
     let known : not (isKnown limits16 m k) ≡ false = second-passes (not (isUp (m .phase))) WrongPhase (not (isKnown limits16 m k)) NotAwaited (rest (rest (rest (rest cs)))) two in
+    let o : OpenChange = m .place (placeOf limits16 m k) in
+    let four : firstFailing (rest (rest (rest (rest cs)))) ≡ Done = two-pass (not (isUp (m .phase))) WrongPhase (not (isKnown limits16 m k)) NotAwaited (rest (rest (rest (rest cs)))) two in
+    let due : not (touches (o .change) c && not (o .taken c)) ≡ false = second-passes (not (decided limits16 o)) NotDecided (not (touches (o .change) c && not (o .taken c))) NotAwaited [] four in
     record {
       whole = not-false (sound limits16 m) (first-passes (not (sound limits16 m)) BadCabinet (not (isCard limits16 m c)) NoSuchCard (rest (rest cs)) e);
       card = card-below m c (second-passes (not (sound limits16 m)) BadCabinet (not (isCard limits16 m c)) NoSuchCard (rest (rest cs)) e);
+      left = not-true (o .taken c) (and-right (touches (o .change) c) (not (o .taken c)) (not-false (touches (o .change) c && not (o .taken c)) due));
+      found = and-left (isOpen o) (eqb (o .change .number) k) (first-at (limits16 .places) (λ p. isOpen (m .place p) && eqb (m .place p .change .number) k) (ltb-true (placeOf limits16 m k) (limits16 .places) (not-false (isKnown limits16 m k) known)));
       place = let l : placeOf limits16 m k < limits16 .places = ltb-true (placeOf limits16 m k) (limits16 .places) (not-false (isKnown limits16 m k) known) in omega (arith, places8);
     }
+
+-- a written card that takes its share is below 60,000
+pub take-room : (m : Model) (k c : ℕ) → Taken m k c → m .place (placeOf limits16 m k) .change .writes c ≡ true → m .numbers .reached c < 60000
+take-room m k c t w =
+    room-below m c
+    (room-known m (m .place (placeOf limits16 m k)) (sound-places m (t .whole) (placeOf limits16 m k) (t .place)) (t .found) c (t .card) (and-intro w (not-intro (t .left))))

@@ -51,8 +51,11 @@ pub struct Answer {
 impl Cabinet {
     // "the limits 16, 48, 8 and 60,000"
     pub const WIDTH: u32 = 16;
+
     pub const IN_HAND: u32 = 48;
+
     pub const PLACES: u32 = 8;
+
     pub const GREATEST_STATE: u32 = 60000;
 
     // 5. store
@@ -68,7 +71,19 @@ impl Cabinet {
         let reached = self.reached;
         let line = self.line;
         let head = self.head;
-        let sound = soundness::cabinet_sound(&self.entries, &self.makers, last, pending, places, base, stored, held, reached, line, head);
+        let sound = soundness::cabinet_sound(
+            &self.entries,
+            &self.makers,
+            last,
+            pending,
+            places,
+            base,
+            stored,
+            held,
+            reached,
+            line,
+            head,
+        );
         let r = verdicts::replies::store_reply(sound, head, stored, held, card, state);
         match r {
             Reply::Done => {
@@ -96,7 +111,19 @@ impl Cabinet {
         let reached = self.reached;
         let line = self.line;
         let head = self.head;
-        let sound = soundness::cabinet_sound(&self.entries, &self.makers, last, pending, places, base, stored, held, reached, line, head);
+        let sound = soundness::cabinet_sound(
+            &self.entries,
+            &self.makers,
+            last,
+            pending,
+            places,
+            base,
+            stored,
+            held,
+            reached,
+            line,
+            head,
+        );
         let r = verdicts::replies::lose_reply(sound, head, cards);
         match r {
             Reply::Done => {
@@ -139,7 +166,19 @@ impl Cabinet {
         let reached = self.reached;
         let line = self.line;
         let head = self.head;
-        let sound = soundness::cabinet_sound(&self.entries, &self.makers, last, pending, places, base, stored, held, reached, line, head);
+        let sound = soundness::cabinet_sound(
+            &self.entries,
+            &self.makers,
+            last,
+            pending,
+            places,
+            base,
+            stored,
+            held,
+            reached,
+            line,
+            head,
+        );
         let r = verdicts::replies::take_reply(sound, head, places, change, card);
         match r {
             Reply::Done => {

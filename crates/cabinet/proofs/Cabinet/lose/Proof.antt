@@ -1,3 +1,26 @@
+use Rattle.verdicts.specs.Shape.{phaseOf}
+use Rattle.cabinet.specs.Apply.{applyAll}
+use Rattle.protocol.specs.Calls.{loseChecks}
+use Rattle.bits.specs.Member.{member}
+use Rattle.protocol.specs.Model.{isUp}
+use Rattle.protocol.specs.Edit.{Edit, fall, halt}
+use Rattle.protocol.specs.Plan.{Check}
+use Rattle.verdicts.specs.declared.Reply.the-variants.{Done}
+use Rattle.verdicts.proofs.Checks.{passes}
+use Rattle.verdicts.specs.Answers.{firstFailing, after28}
+use Rattle.verdicts.specs.Shape.{limits16}
+use Rattle.cabinet.specs.View.{view}
+use Rattle.cabinet.proofs.Call.{carried-done, carried-refused, card-below}
+use Rattle.refusal.specs.declared.Refusal.the-variants.{NoSuchCard, BadCabinet}
+use Prim.Native.Nat.{ℕ, zero, suc, _+_, _*_, _-_, _/_, _%_, _^_, _≤_, _<_, max}
+use mathlib.Core.Path.{_≡_, refl, sym, _∙_, ap, ap₂}
+use mathlib.Core.Bool.{Bool, true, false, not, _&&_, _||_, cond}
+use mathlib.Core.List.{List, [], _∷_}
+use mathlib.Core.Logic.{⊎-elim, by-cases, inl, inr}
+use native.Mathlib.Numerals.{add-one}
+use native.Mathlib.Omega.{arith}
+use lib.ListN.{length, getD, set, List·getD-eq-default}
+use lib.Dec.{leb, ltb, eqb}
 use borrow.Author.Needs.{needs}
 use Rattle.cabinet.proofs.Cabinet.lose.Statement.{statement}
 use Rattle.cabinet.proofs.Cabinet.lose.Tie as tie
@@ -43,15 +66,15 @@ enum-told-2 c = search needs
 
 -- src/lib.rt:87:5
 returns : tie.Need-returns
-returns c = search needs
+returns c = let a : _ = c .before .before .before .before .before .before .before .before .before .before .before .before .before .before .before .before .before .before .before .before .before .args in let s : _ = a .t1 in let cs : List Check = loseChecks limits16 (view s) (member (a .cards)) in let e : c .before .before .before .before .before .before .before .lose-reply .result ≡ firstFailing cs = c .before .before .before .before .before .before .before .lose-reply .ensures ∙ ap (λ (x : Bool). firstFailing (after28 (not x) cs)) (c .before .before .before .before .before .before .before .before .cabinet-sound .ensures) in let es : List Edit = fall (member (a .cards)) ∷ cond (isUp (view s .phase)) (halt ∷ []) [] in let u : isUp (view s .phase) ≡ true = sym (c .before .before .before .is-up .ensures) ∙ c .before .before .if1 .taken in carried-done s _ cs es _ e (c .before .before .before .before .before .enum-told .given .1) (rw (u, c .before .before .before .before .fallen .ensures, c .before .ended-numbers .ensures, c .no-places .ensures))
 
 -- src/lib.rt:87:5
 returns-2 : tie.Need-returns-2
-returns-2 c = search needs
+returns-2 c = let a : _ = c .before .before .before .before .before .before .before .before .before .before .before .before .before .before .before .before .before .before .before .args in let s : _ = a .t1 in let cs : List Check = loseChecks limits16 (view s) (member (a .cards)) in let e : c .before .before .before .before .before .lose-reply .result ≡ firstFailing cs = c .before .before .before .before .before .lose-reply .ensures ∙ ap (λ (x : Bool). firstFailing (after28 (not x) cs)) (c .before .before .before .before .before .before .cabinet-sound .ensures) in let es : List Edit = fall (member (a .cards)) ∷ cond (isUp (view s .phase)) (halt ∷ []) [] in let u : isUp (view s .phase) ≡ false = sym (c .before .is-up .ensures) ∙ c .if1 .left in carried-done s _ cs es _ e (c .before .before .before .enum-told .given .1) (rw (u, c .before .before .fallen .ensures))
 
 -- src/lib.rt:87:5
 returns-3 : tie.Need-returns-3
-returns-3 c = search needs
+returns-3 c = let a : _ = c .before .before .before .before .before .before .before .before .before .before .before .before .before .before .before .before .args in let s : _ = a .t1 in let cs : List Check = loseChecks limits16 (view s) (member (a .cards)) in let e : c .before .before .lose-reply .result ≡ firstFailing cs = c .before .before .lose-reply .ensures ∙ ap (λ (x : Bool). firstFailing (after28 (not x) cs)) (c .before .before .before .cabinet-sound .ensures) in let es : List Edit = fall (member (a .cards)) ∷ cond (isUp (view s .phase)) (halt ∷ []) [] in carried-refused s _ cs es _ _ e (c .enum-told2 .given .1) refl
 
 pub lose-spec : {M : Type 1} → statement M
 lose-spec =

@@ -1,0 +1,73 @@
+-- What a cabinet that passes 28 and a call that was accepted show. Assumes nothing.
+use Prim.Native.Nat.{ℕ, zero, suc, _+_, _≤_, _<_}
+use mathlib.Core.Path.{_≡_, refl, sym, _∙_, ap, subst}
+use mathlib.Core.Bool.{Bool, true, false, not, _&&_, _||_, cond}
+use mathlib.Core.Logic.{⊎-elim}
+use native.Mathlib.Nat.{le-step, lt-suc-self, not-suc-le-zero}
+use native.Mathlib.Omega.{arith}
+use lib.Dec.{eqb, leb, ltb}
+use borrow.Author.Tests.{ltb-true, not-false}
+use Rattle.laws.specs.Below.{allBelow, anyBelow, firstBelow}
+use Rattle.laws.proofs.Logic.{test, clash, and-left, and-right, or-elim, cond-true, cond-false}
+use Rattle.laws.proofs.Below.{all-at}
+use Rattle.laws.proofs.Fill.{first-none}
+use Rattle.protocol.specs.Model.{Model, OpenChange, isOpen, toWrite, placeOf, strays}
+use Rattle.protocol.specs.Sound.{sound, sessionSound, cardsSound, cardSound, placeSound, entriesSound, roomToWrite}
+use Rattle.history.specs.Change.{touches}
+use Rattle.verdicts.specs.Shape.{limits16}
+use Rattle.verdicts.proofs.Limits.{width16, places8, greatest60000}
+
+-- the first number that passes does pass, where there is one
+pub record FirstAt (n : ℕ) (p : ℕ → Bool) (i : ℕ) : Type 0 where
+  pub below : i < n
+  pub passes : p i ≡ true
+
+pub first-any : (n : ℕ) (p : ℕ → Bool) → anyBelow n p ≡ true → FirstAt n p (firstBelow n p)
+first-any zero p e = clash e refl
+first-any (suc n) p e = test (anyBelow n p) (λ t. older t (first-any n p t)) newer
+  where
+    older : anyBelow n p ≡ true → FirstAt n p (firstBelow n p) → FirstAt (suc n) p (firstBelow (suc n) p)
+    older t r =
+        let q : firstBelow n p ≡ firstBelow (suc n) p = sym (cond-true (firstBelow n p) (cond (p n) n (suc n)) t) in
+        subst (λ (i : ℕ). FirstAt (suc n) p i) q (record { below = le-step (r .below); passes = r .passes })
+
+    newer : anyBelow n p ≡ false → FirstAt (suc n) p (firstBelow (suc n) p)
+    newer f =
+        let h : p n ≡ true = ⊎-elim (λ (t : anyBelow n p ≡ true). clash t f) (λ (t : p n ≡ true). t) (or-elim (anyBelow n p) (p n) e) in
+        let q : n ≡ firstBelow (suc n) p = sym (cond-false (firstBelow n p) (cond (p n) n (suc n)) f ∙ cond-true n (suc n) h) in
+        subst (λ (i : ℕ). FirstAt (suc n) p i) q (record { below = lt-suc-self n; passes = h })
+
+pub first-at : (n : ℕ) (p : ℕ → Bool) → firstBelow n p < n → p (firstBelow n p) ≡ true
+first-at n p h =
+    test (anyBelow n p) (λ e. first-any n p e .passes) (λ e. let q : firstBelow n p ≡ n = first-none n p e in absurd (omega arith))
+
+or-use : (a b : Bool) → not a || b ≡ true → a ≡ true → b ≡ true
+or-use true b h e = h
+or-use false b h e = clash e refl
+
+pub sound-places : (m : Model) → sound limits16 m ≡ true → (p : ℕ) → p < 8 → placeSound limits16 m (m .place p) ≡ true
+sound-places m e p h =
+    all-at (limits16 .places) (λ p. placeSound limits16 m (m .place p))
+    (and-right (sessionSound limits16 m && cardsSound limits16 m && allBelow (limits16 .width) (cardSound limits16 m)) (allBelow (limits16 .places) (λ p. placeSound limits16 m (m .place p))) e)
+    p (omega (arith, places8))
+
+pub sound-cards : (m : Model) → sound limits16 m ≡ true → (c : ℕ) → c < 16 → cardSound limits16 m c ≡ true
+sound-cards m e c h =
+    all-at (limits16 .width) (cardSound limits16 m)
+    (and-right (sessionSound limits16 m && cardsSound limits16 m) (allBelow (limits16 .width) (cardSound limits16 m))
+    (and-left (sessionSound limits16 m && cardsSound limits16 m && allBelow (limits16 .width) (cardSound limits16 m)) (allBelow (limits16 .places) (λ p. placeSound limits16 m (m .place p))) e))
+    c (omega (arith, width16))
+
+-- a card that an open change has yet to write has room
+pub room-known : (m : Model) (o : OpenChange) → placeSound limits16 m o ≡ true → isOpen o ≡ true → (c : ℕ) → c < 16 → toWrite o c ≡ true → roomToWrite limits16 (m .numbers) c ≡ true
+room-known m o e op c h w =
+    let s : _ = or-use (isOpen o) (not (strays limits16 m (touches (o .change))) && allBelow (limits16 .width) (λ c. not (toWrite o c) || roomToWrite limits16 (m .numbers) c) && entriesSound limits16 (m .present) (o .vector)) e op in
+    let a : allBelow (limits16 .width) (λ c. not (toWrite o c) || roomToWrite limits16 (m .numbers) c) ≡ true =
+    and-right (not (strays limits16 m (touches (o .change)))) (allBelow (limits16 .width) (λ c. not (toWrite o c) || roomToWrite limits16 (m .numbers) c))
+    (and-left (not (strays limits16 m (touches (o .change))) && allBelow (limits16 .width) (λ c. not (toWrite o c) || roomToWrite limits16 (m .numbers) c)) (entriesSound limits16 (m .present) (o .vector)) s) in
+    or-use (toWrite o c) (roomToWrite limits16 (m .numbers) c) (all-at (limits16 .width) (λ c. not (toWrite o c) || roomToWrite limits16 (m .numbers) c) a c (omega (arith, width16))) w
+
+pub room-below : (m : Model) (c : ℕ) → roomToWrite limits16 (m .numbers) c ≡ true → m .numbers .reached c < 60000
+room-below m c e =
+    let l : m .numbers .reached c < limits16 .greatestState = ltb-true (m .numbers .reached c) (limits16 .greatestState) (and-right (ltb (m .numbers .reached c) (m .numbers .base c + limits16 .inHand)) (ltb (m .numbers .reached c) (limits16 .greatestState)) e) in
+    omega (arith, greatest60000)

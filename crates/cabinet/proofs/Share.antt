@@ -1,0 +1,137 @@
+-- What a take and a loss leave in the struct is what their edits leave. Assumes nothing.
+use Prim.Native.Nat.{ℕ, suc, _+_, _*_, _%_}
+use mathlib.Core.Path.{_≡_, refl, sym, _∙_, ap, ap₂}
+use mathlib.Core.Bool.{Bool, true, false, cond}
+use mathlib.Core.List.{List, [], _∷_}
+use lib.ListN.{set}
+use lib.Seq.{sets}
+use Rattle.bits.specs.Member.{member}
+use Rattle.protocol.specs.Edit.{Edit}
+use Rattle.protocol.specs.Edit as edit
+use Rattle.protocol.specs.Calls.{shareEdit, tookShare}
+use Rattle.verdicts.specs.declared.Place.{Place}
+use Rattle.verdicts.specs.declared.Vector.{Vector}
+use Rattle.history.specs.Vector.{joined}
+use Rattle.verdicts.specs.Shape.{limits16, at, listOf, vectorAt, ringPlace, openOf, placeFor}
+use Rattle.cabinet.specs.declared.Cabinet.{Cabinet}
+use Rattle.cabinet.specs.Apply.{applyAll, apply, grown, withPlaces}
+
+-- the edits of a share, where the card is written and where it is only read
+abbrev pub shareEdits : Place → ℕ → ℕ → List Edit
+shareEdits q p c = shareEdit (openOf q) c ∷ edit.place p (tookShare limits16 (openOf q) c) ∷ []
+
+pub share-grown : (s : Cabinet) (c x p : ℕ) (v es : List ℕ) (q sh : Place)
+    → member (q .writes) c ≡ true
+    → x ≡ suc (at (s .reached) c)
+    → v ≡ q .vector
+    → q .vector ≡ listOf (at (q .vector))
+    → es ≡ sets (s .entries) (ringPlace c x * 16) (listOf (at v))
+    → sh ≡ placeFor (tookShare limits16 (openOf q) c)
+    → _≡_ {A = Cabinet}
+    (record {
+      entries = es;
+      makers = set (s .makers) (ringPlace c x) (q .number);
+      last = set (s .last) c (record { entries = v });
+      pending = set (s .pending) c (record { entries = v });
+      places = set (s .places) p sh;
+      base = s .base;
+      stored = s .stored;
+      held = set (s .held) c x;
+      reached = set (s .reached) c x;
+      line = s .line;
+      ended = s .ended;
+      rolled = s .rolled;
+      head = s .head;
+    })
+    (applyAll (shareEdits q p c) s)
+share-grown s c x p v es q sh w ex ev el ee es′ =
+    let e : es ≡ sets (s .entries) (ringPlace c (suc (at (s .reached) c)) * 16) (listOf (at (q .vector))) =
+    ee ∙ ap₂ (λ (y : ℕ) (l : List ℕ). sets (s .entries) (ringPlace c y * 16) (listOf (at l))) ex ev in
+    let l : v ≡ listOf (at (q .vector)) = ev ∙ el in
+    let g : _≡_ {A = Cabinet} (record {
+      entries = es;
+      makers = set (s .makers) (ringPlace c x) (q .number);
+      last = set (s .last) c (record { entries = v });
+      pending = set (s .pending) c (record { entries = v });
+      places = set (s .places) p sh;
+      base = s .base;
+      stored = s .stored;
+      held = set (s .held) c x;
+      reached = set (s .reached) c x;
+      line = s .line;
+      ended = s .ended;
+      rolled = s .rolled;
+      head = s .head;
+    }) (withPlaces (grown c (q .number) (at (q .vector)) s) (set (s .places) p (placeFor (tookShare limits16 (openOf q) c)))) =
+    λ i. record {
+      entries = e i;
+      makers = set (s .makers) (ringPlace c (ex i)) (q .number);
+      last = set (s .last) c (record { entries = l i });
+      pending = set (s .pending) c (record { entries = l i });
+      places = set (s .places) p (es′ i);
+      base = s .base;
+      stored = s .stored;
+      held = set (s .held) c (ex i);
+      reached = set (s .reached) c (ex i);
+      line = s .line;
+      ended = s .ended;
+      rolled = s .rolled;
+      head = s .head;
+    } in
+    g ∙ ap (λ (b : Bool). applyAll (cond b (edit.grow c (q .number) (at (q .vector))) (edit.raise c (at (q .vector))) ∷ edit.place p (tookShare limits16 (openOf q) c) ∷ []) s) (sym w)
+
+pub share-raised : (s : Cabinet) (c p : ℕ) (v j : List ℕ) (q sh : Place)
+    → member (q .writes) c ≡ false
+    → v ≡ q .vector
+    → j ≡ listOf (joined (vectorAt (s .pending) c) (at v))
+    → sh ≡ placeFor (tookShare limits16 (openOf q) c)
+    → _≡_ {A = Cabinet}
+    (record {
+      entries = s .entries;
+      makers = s .makers;
+      last = s .last;
+      pending = set (s .pending) c (record { entries = j });
+      places = set (s .places) p sh;
+      base = s .base;
+      stored = s .stored;
+      held = s .held;
+      reached = s .reached;
+      line = s .line;
+      ended = s .ended;
+      rolled = s .rolled;
+      head = s .head;
+    })
+    (applyAll (shareEdits q p c) s)
+share-raised s c p v j q sh w ev ej es′ =
+    let l : j ≡ listOf (joined (vectorAt (s .pending) c) (at (q .vector))) = ej ∙ ap (λ (y : List ℕ). listOf (joined (vectorAt (s .pending) c) (at y))) ev in
+    let g : _≡_ {A = Cabinet} (record {
+      entries = s .entries;
+      makers = s .makers;
+      last = s .last;
+      pending = set (s .pending) c (record { entries = j });
+      places = set (s .places) p sh;
+      base = s .base;
+      stored = s .stored;
+      held = s .held;
+      reached = s .reached;
+      line = s .line;
+      ended = s .ended;
+      rolled = s .rolled;
+      head = s .head;
+    }) (withPlaces (apply (edit.raise c (at (q .vector))) s) (set (s .places) p (placeFor (tookShare limits16 (openOf q) c)))) =
+    λ i. record {
+      entries = s .entries;
+      makers = s .makers;
+      last = s .last;
+      pending = set (s .pending) c (record { entries = l i });
+      places = set (s .places) p (es′ i);
+      base = s .base;
+      stored = s .stored;
+      held = s .held;
+      reached = s .reached;
+      line = s .line;
+      ended = s .ended;
+      rolled = s .rolled;
+      head = s .head;
+    } in
+    g ∙ ap (λ (b : Bool). applyAll (cond b (edit.grow c (q .number) (at (q .vector))) (edit.raise c (at (q .vector))) ∷ edit.place p (tookShare limits16 (openOf q) c) ∷ []) s) (sym w)
