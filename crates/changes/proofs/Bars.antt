@@ -1,0 +1,66 @@
+-- The cards that an opening finds barred, as a set and by their lowest. Assumes nothing.
+use Prim.Native.Nat.{ℕ, _+_, _≤_, _<_}
+use mathlib.Core.Path.{_≡_, refl, sym, _∙_, ap, ap₂}
+use mathlib.Core.Bool.{Bool, true, false, not, _&&_, _||_, cond}
+use mathlib.Core.List.{List}
+use mathlib.Core.Logic.{by-cases}
+use native.Mathlib.Decide.{decLt}
+use native.Mathlib.Numerals.{add-one}
+use native.Mathlib.Omega.{arith}
+use lib.Dec.{eqb}
+use borrow.Author.Tests.{eq-eqb, ne-eqb}
+use Rattle.laws.specs.Below.{anyBelow}
+use Rattle.laws.proofs.Logic.{clash}
+use Rattle.laws.proofs.Below.{any-elim, Found}
+use Rattle.bits.specs.Member.{member}
+use Rattle.bits.specs.Sets.{either, both, except, firstBelow}
+use Rattle.bits.proofs.Members.{member-none}
+use Rattle.bits.proofs.Sets.{first-at, first-before}
+use Rattle.history.specs.Change.{CardSet}
+use Rattle.protocol.specs.Model.{OpenChange, isOpen, noCards}
+use Rattle.protocol.specs.Calls.{bars}
+use Rattle.verdicts.specs.declared.Place.{Place}
+use Rattle.verdicts.specs.Shape.{limits16, openOf, openAt, setOf}
+
+pub no-members : member 0 ≡ noCards
+no-members = λ i d. member-none d i
+
+pub zero-set : 0 ≡ setOf noCards
+unfolding limits16
+zero-set = refl
+
+-- a set worked out by the operations on sets is what an open change bars
+pub bars-set : (o : Place) (reads writes touched left read asked barred : ℕ)
+    → member touched ≡ either (member (o .reads)) (member (o .writes))
+    → member left ≡ except (member touched) (member (o .taken))
+    → member read ≡ both (member reads) (member (o .writes))
+    → member asked ≡ either (member writes) (member read)
+    → member barred ≡ both (member left) (member asked)
+    → (o .number ≡ 0 → ⊥)
+    → member barred ≡ bars (openOf o) (member reads) (member writes)
+bars-set o reads writes touched left read asked barred et el er ea eb n =
+    let op : not (eqb (o .number) 0) ≡ true = ap not (ne-eqb (o .number) 0 n) in
+    eb
+    ∙ ap₂ both (el ∙ ap (λ (s : CardSet). except s (member (o .taken))) et) (ea ∙ ap (λ (s : CardSet). either (member writes) s) er)
+    ∙ ap {B = CardSet} (λ (b : Bool) (c : ℕ). b && (member (o .reads) c || member (o .writes) c) && not (member (o .taken) c) && (member writes c || (member reads c && member (o .writes) c))) (sym op)
+
+pub bars-none : (o : Place) (reads writes : ℕ) → o .number ≡ 0 → member 0 ≡ bars (openOf o) (member reads) (member writes)
+bars-none o reads writes n =
+    let op : not (eqb (o .number) 0) ≡ false = ap not (eq-eqb (o .number) 0 n) in
+    no-members
+    ∙ ap {B = CardSet} (λ (b : Bool) (c : ℕ). b && (member (o .reads) c || member (o .writes) c) && not (member (o .taken) c) && (member writes c || (member reads c && member (o .writes) c))) (sym op)
+
+-- one place more
+pub bars-more : (f : ℕ → CardSet) (p out more sum : ℕ) → member out ≡ (λ c. anyBelow p (λ q. f q c)) → member more ≡ f p → member sum ≡ either (member out) (member more) → member sum ≡ (λ c. anyBelow (p + 1) (λ q. f q c))
+bars-more f p out more sum eo em es =
+    es ∙ ap₂ either eo em ∙ ap {B = CardSet} (λ (n : ℕ) (c : ℕ). anyBelow n (λ q. f q c)) (sym (add-one p))
+
+-- the lowest card of a set is in the set, where it has one
+pub lowest-in : (w : ℕ) (s : CardSet) → anyBelow w s ≡ true → s (firstBelow w s) ≡ true
+lowest-in w s e = found (any-elim w s e)
+  where
+    found : Found w s → s (firstBelow w s) ≡ true
+    found r =
+        by-cases (decLt (r .0) (firstBelow w s))
+        (λ (l : r .0 < firstBelow w s). clash (r .2) (first-before w s (r .0) l))
+        (λ l. first-at w s (let h : r .0 < w = r .1 in omega (arith, l)))

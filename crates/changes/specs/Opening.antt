@@ -1,0 +1,25 @@
+-- What the verdict on an opening says, and what the vector of a change is worked out from.
+use Prim.Native.Nat.{ℕ}
+use mathlib.Core.Path.{_≡_}
+use mathlib.Core.Bool.{Bool, true, not}
+use mathlib.Core.List.{List, []}
+use Rattle.laws.specs.Below.{anyBelow}
+use Rattle.bits.specs.Member.{member}
+use Rattle.protocol.specs.Model.{Model}
+use Rattle.protocol.specs.Calls.{barred, openChecks}
+use Rattle.verdicts.specs.declared.Reply.{Reply}
+use Rattle.verdicts.specs.declared.Vector.{Vector}
+use Rattle.verdicts.specs.declared.Phase.the-variants.{Up}
+use Rattle.verdicts.specs.Answers.{firstFailing, after28}
+use Rattle.verdicts.specs.Shape.{limits16, modelOf}
+
+-- the cards as they stand at a decision
+abbrev pub standing : (reached : List ℕ) (last pending : List Vector) → Model
+standing reached last pending =
+    modelOf [] [] last pending [] [] [] [] reached [] [] 0 (record { session = 0; cards = 0; count = 0; phase = Up })
+
+-- the first check that fails, with some touched card named that is barred, where one is
+pub record OpenVerdict (sound : Bool) (m : Model) (reads writes : ℕ) (r : Reply) : Type 0 where
+  pub named : ℕ
+  pub isBarred : anyBelow (limits16 .width) (barred limits16 m (member reads) (member writes)) ≡ true → barred limits16 m (member reads) (member writes) named ≡ true
+  pub first : r ≡ firstFailing (after28 (not sound) (openChecks limits16 m (member reads) (member writes) named))

@@ -1,0 +1,219 @@
+// What becomes of a change: its opening, its votes and its withdrawal.
+ghost use Prim.Native.Nat.{ℕ, _+_, _<_};
+ghost use mathlib.Core.Path.{_≡_};
+ghost use mathlib.Core.Bool.{not, _&&_, true};
+ghost use mathlib.Core.List.{[]};
+ghost use lib.Dec.{leb};
+ghost use Rattle.laws.specs.Below.{anyBelow};
+ghost use Rattle.bits.specs.Member.{member};
+ghost use Rattle.protocol.specs.Calls.{voteChecks, withdrawChecks, votedYes, voted, bars, someWritten, openedChange};
+ghost use Rattle.verdicts.specs.Shape.{limits16, at, headModel, placesModel, openOf, openAt, placeFor};
+ghost use Rattle.verdicts.specs.Answers.{firstFailing, after28};
+ghost use Rattle.changes.specs.Opening.{standing, OpenVerdict};
+use refusal::Refusal;
+use verdicts::Head;
+use verdicts::Place;
+use verdicts::Reply;
+use verdicts::Vector;
+use verdicts::places;
+use verdicts::replies::is_card;
+use verdicts::replies::next;
+
+// 2. vote
+pub fn vote_reply(sound: bool, head: Head, all: [Place; 8], k: u32, card: u32) -> Reply
+    ensures { λ r. ⌜ r ≡ firstFailing (after28 (not sound) (voteChecks limits16 (placesModel head all [] []) k card)) ⌝ }
+{
+    let there = is_card(head, card);
+    let phase = head.phase;
+    let up = verdicts::is_up(phase);
+    let p = places::place_of(all, k);
+    let o = places::place_at(all, p);
+    let made = places::is_decided(o);
+    let due = places::is_awaited(o, o.yes, card);
+    let r = next(Reply::Done, !sound, Refusal::BadCabinet);
+    let r = next(r, !there, Refusal::NoSuchCard);
+    let r = next(r, !up, Refusal::WrongPhase);
+    let r = next(r, !(p < 8), Refusal::NotAwaited);
+    let r = next(r, made, Refusal::AlreadyDecided);
+    next(r, !due, Refusal::NotAwaited)
+}
+
+// 4. withdraw
+pub fn withdraw_reply(sound: bool, head: Head, all: [Place; 8], k: u32) -> Reply
+    ensures { λ r. ⌜ r ≡ firstFailing (after28 (not sound) (withdrawChecks limits16 (placesModel head all [] []) k)) ⌝ }
+{
+    let phase = head.phase;
+    let up = verdicts::is_up(phase);
+    let p = places::place_of(all, k);
+    let o = places::place_at(all, p);
+    let made = places::is_decided(o);
+    let r = next(Reply::Done, !sound, Refusal::BadCabinet);
+    let r = next(r, !up, Refusal::WrongPhase);
+    let r = next(r, !(p < 8), Refusal::NotAwaited);
+    next(r, made, Refusal::AlreadyDecided)
+}
+
+// The change with one yes more, and with its vector where that decides it.
+fn with_yes(
+    o: Place,
+    c: u32,
+    reached: [u32; 16],
+    last: [Vector; 16],
+    pending: [Vector; 16],
+) -> Place
+    requires { ⌜ ((c : ℕ) → c < 16 → member (o .writes) c ≡ true → at reached c < 4294967295) ⌝ }
+    ensures { λ r. ⌜ r ≡ placeFor (votedYes limits16 (standing reached last pending) (openOf o) c) ⌝ }
+{
+    let yes = bits::with(o.yes, c);
+    let n = places::awaited(o.reads, o.writes, yes);
+    if n == 0 {
+        let v = verdicts::vectors::decision(o, reached, last, pending);
+        Place {
+            vector: v,
+            number: o.number,
+            reads: o.reads,
+            writes: o.writes,
+            yes: yes,
+            taken: o.taken,
+        }
+    } else {
+        let v = o.vector;
+        Place {
+            vector: v,
+            number: o.number,
+            reads: o.reads,
+            writes: o.writes,
+            yes: yes,
+            taken: o.taken,
+        }
+    }
+}
+
+// The change after a vote: "A no ends the change."
+pub fn after_vote(
+    o: Place,
+    c: u32,
+    agrees: bool,
+    reached: [u32; 16],
+    last: [Vector; 16],
+    pending: [Vector; 16],
+) -> Place
+    requires { ⌜ ((c : ℕ) → c < 16 → member (o .writes) c ≡ true → at reached c < 4294967295) ⌝ }
+    ensures { λ r. ⌜ r ≡ placeFor (voted limits16 (standing reached last pending) (openOf o) c agrees) ⌝ }
+{
+    if agrees {
+        with_yes(o, c, reached, last, pending)
+    } else {
+        places::free_place()
+    }
+}
+
+// The cards that an open change bars for an opening.
+fn bar_set(o: Place, reads: u16, writes: u16) -> u16
+    ensures { λ r. ⌜ member r ≡ bars (openOf o) (member reads) (member writes) ⌝ }
+{
+    let touched = bits::union(o.reads, o.writes);
+    let left = bits::difference(touched, o.taken);
+    let read = bits::intersection(reads, o.writes);
+    let asked = bits::union(writes, read);
+    let barred = bits::intersection(left, asked);
+    if o.number != 0 { barred } else { 0 }
+}
+
+// The cards that some open change bars for an opening.
+fn barred_set(all: [Place; 8], reads: u16, writes: u16) -> u16
+    ensures { λ r. ⌜ member r ≡ (λ c. anyBelow (limits16 .places) (λ p. bars (openAt all p) (member reads) (member writes) c)) ⌝ }
+{
+    let mut out: u16 = 0;
+    let mut p: usize = 0;
+    while p < 8 {
+        let o = all[p];
+        let more = bar_set(o, reads, writes);
+        let both = bits::union(out, more);
+        out = both;
+        p += 1;
+    }
+    out
+}
+
+fn full(base: u32, reached: u32) -> bool
+    ensures { λ r. ⌜ r ≡ leb (base + 48) reached ⌝ }
+{
+    (base as u64) + 48 <= (reached as u64)
+}
+
+// "a written card has reached base + 48"
+fn hand_full(writes: u16, base: [u32; 16], reached: [u32; 16]) -> bool
+    ensures { λ r. ⌜ r ≡ someWritten limits16 (member writes) (λ c. leb (at base c + limits16 .inHand) (at reached c)) ⌝ }
+{
+    let mut found = false;
+    let mut c: usize = 0;
+    while c < 16 {
+        let written = bits::has(writes, c as u32);
+        found = found | (written & full(base[c], reached[c]));
+        c += 1;
+    }
+    found
+}
+
+// "a written card at 60,000"
+fn at_top(writes: u16, reached: [u32; 16]) -> bool
+    ensures { λ r. ⌜ r ≡ someWritten limits16 (member writes) (λ c. leb (limits16 .greatestState) (at reached c)) ⌝ }
+{
+    let mut found = false;
+    let mut c: usize = 0;
+    while c < 16 {
+        let written = bits::has(writes, c as u32);
+        found = found | (written & (60000 <= reached[c]));
+        c += 1;
+    }
+    found
+}
+
+// 1. open. Trailing zeros name the lowest card that is barred.
+pub fn open_verdict(
+    sound: bool,
+    head: Head,
+    all: [Place; 8],
+    base: [u32; 16],
+    reached: [u32; 16],
+    reads: u16,
+    writes: u16,
+) -> Reply
+    ensures { λ r. ⌜ OpenVerdict sound (placesModel head all base reached) reads writes r ⌝ }
+{
+    let inside_r = bits::within(reads, head.cards);
+    let inside_w = bits::within(writes, head.cards);
+    let none_r = bits::is_empty(reads);
+    let none_w = bits::is_empty(writes);
+    let phase = head.phase;
+    let up = verdicts::is_up(phase);
+    let barred = barred_set(all, reads, writes);
+    let free = bits::is_empty(barred);
+    let named = bits::lowest(barred);
+    let p = places::free_at(all);
+    let full = hand_full(writes, base, reached);
+    let top = at_top(writes, reached);
+    let r = next(Reply::Done, !sound, Refusal::BadCabinet);
+    let r = next(r, !inside_r | !inside_w, Refusal::NoSuchCard);
+    let r = next(r, none_r & none_w, Refusal::BothSetsEmpty);
+    let r = next(r, !up, Refusal::WrongPhase);
+    let r = next(r, !free, Refusal::Barred(named));
+    let r = next(r, !(p < 8), Refusal::NoPlace);
+    let r = next(r, full, Refusal::InHandFull);
+    next(r, top | (4294967295 <= head.count), Refusal::LimitReached)
+}
+
+// The change that an opening puts into its place.
+pub fn opened(k: u32, reads: u16, writes: u16) -> Place
+    ensures { λ r. ⌜ r ≡ placeFor (openedChange k (member reads) (member writes)) ⌝ }
+{
+    Place {
+        vector: [0u32; 16],
+        number: k,
+        reads: reads,
+        writes: writes,
+        yes: 0,
+        taken: 0,
+    }
+}
