@@ -6,13 +6,13 @@ use mathlib.Core.Logic.{⊎-elim}
 use native.Mathlib.Nat.{le-step, lt-suc-self, not-suc-le-zero}
 use native.Mathlib.Omega.{arith}
 use lib.Dec.{eqb, leb, ltb}
-use borrow.Author.Tests.{ltb-true, not-false}
+use borrow.Author.Tests.{ltb-true, leb-true, not-false}
 use Rattle.laws.specs.Below.{allBelow, anyBelow, firstBelow}
-use Rattle.laws.proofs.Logic.{test, clash, and-left, and-right, or-elim, cond-true, cond-false}
-use Rattle.laws.proofs.Below.{all-at}
+use Rattle.laws.proofs.Logic.{test, clash, and-left, and-right, and-intro, or-elim, or-right, not-true, not-intro, cond-true, cond-false}
+use Rattle.laws.proofs.Below.{all-at, any-intro}
 use Rattle.laws.proofs.Fill.{first-none}
 use Rattle.protocol.specs.Model.{Model, OpenChange, isOpen, toWrite, placeOf, strays}
-use Rattle.protocol.specs.Sound.{sound, sessionSound, cardsSound, cardSound, placeSound, entriesSound, roomToWrite}
+use Rattle.protocol.specs.Sound.{sound, sessionSound, cardsSound, cardSound, placeSound, entriesSound, numbersSound, lineSound, framesSound, roomToWrite}
 use Rattle.history.specs.Change.{touches}
 use Rattle.verdicts.specs.Shape.{limits16}
 use Rattle.verdicts.proofs.Limits.{width16, places8, greatest60000}
@@ -71,3 +71,25 @@ pub room-below : (m : Model) (c : ℕ) → roomToWrite limits16 (m .numbers) c �
 room-below m c e =
     let l : m .numbers .reached c < limits16 .greatestState = ltb-true (m .numbers .reached c) (limits16 .greatestState) (and-right (ltb (m .numbers .reached c) (m .numbers .base c + limits16 .inHand)) (ltb (m .numbers .reached c) (limits16 .greatestState)) e) in
     omega (arith, greatest60000)
+
+-- a card that is there has numbers within the limits
+pub sound-reached : (m : Model) → sound limits16 m ≡ true → (c : ℕ) → c < 16 → m .present c ≡ true → m .numbers .reached c ≤ 60000
+sound-reached m e c h p =
+    let a : numbersSound limits16 (m .numbers) c && lineSound m c && framesSound limits16 m c ≡ true =
+    or-use (m .present c) (numbersSound limits16 (m .numbers) c && lineSound m c && framesSound limits16 m c)
+    (and-right (entriesSound limits16 (λ j. m .present c && m .present j) (m .memory .last c) && entriesSound limits16 (λ j. m .present c && m .present j) (m .memory .pending c)) (not (m .present c) || (numbersSound limits16 (m .numbers) c && lineSound m c && framesSound limits16 m c)) (sound-cards m e c h)) p in
+    let n : numbersSound limits16 (m .numbers) c ≡ true = and-left (numbersSound limits16 (m .numbers) c) (lineSound m c) (and-left (numbersSound limits16 (m .numbers) c && lineSound m c) (framesSound limits16 m c) a) in
+    let l : m .numbers .reached c ≤ limits16 .greatestState =
+    leb-true (m .numbers .reached c) (limits16 .greatestState)
+    (and-right (leb (m .numbers .base c) (m .numbers .stored c) && leb (m .numbers .stored c) (m .numbers .held c) && leb (m .numbers .held c) (m .numbers .reached c) && leb (m .numbers .reached c) (m .numbers .base c + limits16 .inHand)) (leb (m .numbers .reached c) (limits16 .greatestState)) n) in
+    omega (arith, greatest60000)
+
+-- a card that an open change writes is there
+pub written-there : (m : Model) (o : OpenChange) → placeSound limits16 m o ≡ true → isOpen o ≡ true → (c : ℕ) → c < 16 → o .change .writes c ≡ true → m .present c ≡ true
+written-there m o e op c h w =
+    let s : _ = or-use (isOpen o) (not (strays limits16 m (touches (o .change))) && allBelow (limits16 .width) (λ c. not (toWrite o c) || roomToWrite limits16 (m .numbers) c) && entriesSound limits16 (m .present) (o .vector)) e op in
+    let n : not (strays limits16 m (touches (o .change))) ≡ true =
+    and-left (not (strays limits16 m (touches (o .change)))) (allBelow (limits16 .width) (λ c. not (toWrite o c) || roomToWrite limits16 (m .numbers) c))
+    (and-left (not (strays limits16 m (touches (o .change))) && allBelow (limits16 .width) (λ c. not (toWrite o c) || roomToWrite limits16 (m .numbers) c)) (entriesSound limits16 (m .present) (o .vector)) s) in
+    let t : touches (o .change) c ≡ true = or-right (o .change .reads c) w in
+    test (m .present c) (λ p. p) (λ q. clash (any-intro (limits16 .width) (λ c. touches (o .change) c && not (m .present c)) c (omega (arith, width16)) (and-intro t (not-intro q))) (not-true (strays limits16 m (touches (o .change))) n))

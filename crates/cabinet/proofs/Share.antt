@@ -8,13 +8,14 @@ use lib.Seq.{sets}
 use Rattle.bits.specs.Member.{member}
 use Rattle.protocol.specs.Edit.{Edit}
 use Rattle.protocol.specs.Edit as edit
-use Rattle.protocol.specs.Calls.{shareEdit, tookShare}
+use Rattle.protocol.specs.Calls.{shareEdit, tookShare, openedChange}
+use Rattle.history.specs.Change.{CardSet}
 use Rattle.verdicts.specs.declared.Place.{Place}
 use Rattle.verdicts.specs.declared.Vector.{Vector}
 use Rattle.history.specs.Vector.{joined}
 use Rattle.verdicts.specs.Shape.{limits16, at, listOf, vectorAt, ringPlace, openOf, placeFor}
 use Rattle.cabinet.specs.declared.Cabinet.{Cabinet}
-use Rattle.cabinet.specs.Apply.{applyAll, apply, grown, withPlaces}
+use Rattle.cabinet.specs.Apply.{applyAll, apply, grown, withPlaces, withHead}
 
 -- the edits of a share, where the card is written and where it is only read
 abbrev pub shareEdits : Place → ℕ → ℕ → List Edit
@@ -135,3 +136,11 @@ share-raised s c p v j q sh w ev ej es′ =
       head = s .head;
     } in
     g ∙ ap (λ (b : Bool). applyAll (cond b (edit.grow c (q .number) (at (q .vector))) (edit.raise c (at (q .vector))) ∷ edit.place p (tookShare limits16 (openOf q) c) ∷ []) s) (sym w)
+
+-- what an opening leaves
+pub open-next : (s : Cabinet) (p p′ k k′ : ℕ) (o : Place) (reads writes : CardSet) → p ≡ p′ → k ≡ k′ → o ≡ placeFor (openedChange k reads writes)
+    → withHead (withPlaces s (set (s .places) p o)) (record { session = s .head .session; cards = s .head .cards; count = k; phase = s .head .phase })
+    ≡ applyAll (edit.place p′ (openedChange k′ reads writes) ∷ edit.count k′ ∷ []) s
+open-next s p p′ k k′ o reads writes ep ek eo =
+    let l : o ≡ placeFor (openedChange k′ reads writes) = eo ∙ ap (λ (n : ℕ). placeFor (openedChange n reads writes)) ek in
+    λ i. withHead (withPlaces s (set (s .places) (ep i) (l i))) (record { session = s .head .session; cards = s .head .cards; count = ek i; phase = s .head .phase })

@@ -1,11 +1,11 @@
 -- What each edit does to the struct: every list of it, unused places included, whatever cabinet it is.
 use Prim.Native.Nat.{ℕ, suc, _+_, _*_}
 use mathlib.Core.Path.{_≡_}
-use mathlib.Core.Bool.{cond}
+use mathlib.Core.Bool.{true, cond}
 use mathlib.Core.List.{List, [], _∷_}
 use lib.ListN.{getD, set}
 use lib.Seq.{sets}
-use Rattle.laws.specs.Below.{tabulate}
+use Rattle.laws.specs.Below.{tabulate, anyBelow}
 use Rattle.bits.specs.Member.{member}
 use Rattle.history.specs.Change.{CardSet, Numbers}
 use Rattle.history.specs.Vector.{noEntries, joined}
@@ -18,7 +18,9 @@ use Rattle.verdicts.specs.declared.Phase.{Phase}
 use Rattle.verdicts.specs.declared.Phase.the-variants.{Up, Down, Rolling}
 use Rattle.verdicts.specs.declared.Head.{Head}
 use Rattle.verdicts.specs.Shape.{limits16, at, vectorAt, ringPlace, openAt, setOf, listOf, vectorFor, placeFor}
+use Rattle.protocol.specs.Calls.{barred, openPlan}
 use Rattle.cabinet.specs.declared.Cabinet.{Cabinet}
+use Rattle.cabinet.specs.View.{view}
 
 -- ---- the parts that edits change
 abbrev pub withHead : Cabinet → Head → Cabinet
@@ -212,3 +214,9 @@ applyAll (e ∷ es) s = applyAll es (apply e s)
 pub record Carried (s : Cabinet) (p : Plan) (reply : Reply) (next : Cabinet) : Type 0 where
   pub answer : reply ≡ p .reply
   pub cabinet : next ≡ applyAll (p .edits) s
+
+-- open: for some card, touched and barred where 21 is answered, the plan at that card
+pub record OpenCarried (s : Cabinet) (reads writes : ℕ) (reply : Reply) (next : Cabinet) : Type 0 where
+  pub named : ℕ
+  pub isBarred : anyBelow (limits16 .width) (barred limits16 (view s) (member reads) (member writes)) ≡ true → barred limits16 (view s) (member reads) (member writes) named ≡ true
+  pub carried : Carried s (openPlan limits16 (view s) (member reads) (member writes) named) reply next

@@ -1,18 +1,13 @@
 // The cabinet of 16 cards: its struct, and calls 1 to 10 as methods that hand it back.
-ghost use Prim.Native.Nat.{ℕ, _+_, _*_, _<_, _≤_, suc};
 ghost use mathlib.Core.Path.{_≡_};
-ghost use lib.ListN.{set};
-ghost use lib.Seq.{sets};
-ghost use Rattle.laws.specs.Below.{tabulate};
 ghost use Rattle.bits.specs.Member.{member};
-ghost use Rattle.protocol.specs.Edit.{remembered};
-ghost use Rattle.protocol.specs.Model.{freePlace};
-ghost use Rattle.protocol.specs.Calls.{storePlan, takePlan, losePlan};
-ghost use Rattle.verdicts.specs.Shape.{limits16, at, listOf, openAt, placeFor};
-ghost use Rattle.verdicts.specs.Answers.{replyOf};
+ghost use Rattle.protocol.specs.Calls.{storePlan, takePlan, losePlan, votePlan, withdrawPlan};
+ghost use Rattle.verdicts.specs.Shape.{limits16};
+ghost use Rattle.verdicts.specs.Answers.{replyOf, openReplyOf};
 ghost use Rattle.cabinet.specs.View.{view};
-ghost use Rattle.cabinet.specs.Apply.{Carried};
+ghost use Rattle.cabinet.specs.Apply.{Carried, OpenCarried};
 use verdicts::Head;
+use verdicts::OpenReply;
 use verdicts::Phase;
 use verdicts::Place;
 use verdicts::Reply;
@@ -40,6 +35,12 @@ pub struct Cabinet {
     // while rolling: the cards already rolled
     pub rolled: u16,
     pub head: Head,
+}
+
+// What open hands back.
+pub struct OpenAnswer {
+    pub cabinet: Cabinet,
+    pub reply: OpenReply,
 }
 
 // What a call that answers nothing but acceptance hands back.
@@ -213,6 +214,142 @@ impl Cabinet {
         Answer {
             cabinet: self,
             reply: r,
+        }
+    }
+
+    // 2. vote
+    pub fn vote(mut self, change: u32, card: u32, agrees: bool) -> Answer
+        ensures { λ r. ⌜ Carried self (votePlan limits16 (view self) change card agrees) (replyOf (r .reply)) (r .cabinet) ⌝ }
+    {
+        let last = self.last;
+        let pending = self.pending;
+        let places = self.places;
+        let base = self.base;
+        let stored = self.stored;
+        let held = self.held;
+        let reached = self.reached;
+        let line = self.line;
+        let head = self.head;
+        let sound = soundness::cabinet_sound(
+            &self.entries,
+            &self.makers,
+            last,
+            pending,
+            places,
+            base,
+            stored,
+            held,
+            reached,
+            line,
+            head,
+        );
+        let r = changes::vote_reply(sound, head, places, change, card);
+        match r {
+            Reply::Done => {
+                let p = verdicts::places::place_of(places, change);
+                let o = places[p];
+                let after = changes::after_vote(o, card, agrees, reached, last, pending);
+                self.places[p] = after;
+            }
+            Reply::Refused(_) => {}
+        }
+        Answer {
+            cabinet: self,
+            reply: r,
+        }
+    }
+
+    // 4. withdraw
+    pub fn withdraw(mut self, change: u32) -> Answer
+        ensures { λ r. ⌜ Carried self (withdrawPlan limits16 (view self) change) (replyOf (r .reply)) (r .cabinet) ⌝ }
+    {
+        let last = self.last;
+        let pending = self.pending;
+        let places = self.places;
+        let base = self.base;
+        let stored = self.stored;
+        let held = self.held;
+        let reached = self.reached;
+        let line = self.line;
+        let head = self.head;
+        let sound = soundness::cabinet_sound(
+            &self.entries,
+            &self.makers,
+            last,
+            pending,
+            places,
+            base,
+            stored,
+            held,
+            reached,
+            line,
+            head,
+        );
+        let r = changes::withdraw_reply(sound, head, places, change);
+        match r {
+            Reply::Done => {
+                let p = verdicts::places::place_of(places, change);
+                let free = verdicts::places::free_place();
+                self.places[p] = free;
+            }
+            Reply::Refused(_) => {}
+        }
+        Answer {
+            cabinet: self,
+            reply: r,
+        }
+    }
+
+    // 1. open. Of the cards that are barred the lowest is named.
+    pub fn open(mut self, reads: u16, writes: u16) -> OpenAnswer
+        ensures { λ r. ⌜ OpenCarried self reads writes (openReplyOf (r .reply)) (r .cabinet) ⌝ }
+    {
+        let last = self.last;
+        let pending = self.pending;
+        let places = self.places;
+        let base = self.base;
+        let stored = self.stored;
+        let held = self.held;
+        let reached = self.reached;
+        let line = self.line;
+        let head = self.head;
+        let sound = soundness::cabinet_sound(
+            &self.entries,
+            &self.makers,
+            last,
+            pending,
+            places,
+            base,
+            stored,
+            held,
+            reached,
+            line,
+            head,
+        );
+        let phase = head.phase;
+        let r = changes::open_verdict(sound, head, places, base, reached, reads, writes);
+        match r {
+            Reply::Done => {
+                let p = verdicts::places::free_at(places);
+                let k = head.count + 1;
+                let o = changes::opened(k, reads, writes);
+                self.places[p] = o;
+                let h = Head {
+                    session: head.session,
+                    cards: head.cards,
+                    count: k,
+                    phase: phase,
+                };
+                self.head = h;
+                OpenAnswer {
+                    cabinet: self,
+                    reply: OpenReply::Opened(k),
+                }
+            }
+            Reply::Refused(q) => OpenAnswer {
+                cabinet: self,
+                reply: OpenReply::NotOpened(q),
+            },
         }
     }
 }
