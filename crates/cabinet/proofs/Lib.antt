@@ -1,3 +1,4 @@
 pub mod Known
 pub mod Call
 pub mod Share
+pub mod Laws

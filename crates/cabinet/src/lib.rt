@@ -6,6 +6,8 @@ ghost use Rattle.verdicts.specs.Shape.{limits16};
 ghost use Rattle.verdicts.specs.Answers.{replyOf, openReplyOf};
 ghost use Rattle.cabinet.specs.View.{view};
 ghost use Rattle.cabinet.specs.Apply.{Carried, OpenCarried};
+ghost use Rattle.cabinet.specs.Fresh.{Freshly, zeroCabinet};
+use refusal::Refusal;
 use verdicts::Head;
 use verdicts::OpenReply;
 use verdicts::Phase;
@@ -49,6 +51,43 @@ pub struct Answer {
     pub reply: Reply,
 }
 
+// All state numbers 0, all entries none, every place free.
+fn zeros(head: Head) -> Cabinet
+    ensures { λ r. ⌜ r ≡ zeroCabinet head ⌝ }
+{
+    let none = [0u32; 16];
+    let v = Vector { entries: none };
+    let last = [v; 16];
+    let pending = [v; 16];
+    let free = Place {
+        vector: none,
+        number: 0,
+        reads: 0,
+        writes: 0,
+        yes: 0,
+        taken: 0,
+    };
+    let places = [free; 8];
+    let entries = [0u32; 12288];
+    let makers = [0u32; 768];
+    let ended = [0u32; 8];
+    Cabinet {
+        entries: entries,
+        makers: makers,
+        last: last,
+        pending: pending,
+        places: places,
+        base: none,
+        stored: none,
+        held: none,
+        reached: none,
+        line: none,
+        ended: ended,
+        rolled: 0,
+        head: head,
+    }
+}
+
 impl Cabinet {
     // "the limits 16, 48, 8 and 60,000"
     pub const WIDTH: u32 = 16;
@@ -58,6 +97,36 @@ impl Cabinet {
     pub const PLACES: u32 = 8;
 
     pub const GREATEST_STATE: u32 = 60000;
+
+    // "A fresh cabinet has session 1, phase up, all state numbers 0, all entries none"; refusal 1 hands back the void cabinet.
+    pub fn fresh(cards: u32) -> Answer
+        ensures { λ r. ⌜ Freshly cards (replyOf (r .reply)) (r .cabinet) ⌝ }
+    {
+        let good = (1 <= cards) & (cards <= 16);
+        if good {
+            let c = zeros(Head {
+                session: 1,
+                cards: cards,
+                count: 0,
+                phase: Phase::Up,
+            });
+            Answer {
+                cabinet: c,
+                reply: Reply::Done,
+            }
+        } else {
+            let c = zeros(Head {
+                session: 0,
+                cards: 0,
+                count: 0,
+                phase: Phase::Up,
+            });
+            Answer {
+                cabinet: c,
+                reply: Reply::Refused(Refusal::CardCount),
+            }
+        }
+    }
 
     // 5. store
     pub fn store(mut self, card: u32, state: u32) -> Answer

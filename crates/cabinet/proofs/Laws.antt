@@ -1,0 +1,115 @@
+-- The law of each edit: on a cabinet whose lists have their lengths, the view of what was applied is the edited view. Assumes nothing.
+use Prim.Native.Nat.{ℕ, zero, suc, _+_, _*_, _%_, _≤_, _<_}
+use mathlib.Core.Path.{_≡_, refl, sym, _∙_, ap, ap₂}
+use mathlib.Core.Bool.{Bool, true, false, not, _&&_, _||_, cond}
+use mathlib.Core.List.{List, []}
+use mathlib.Core.Logic.{by-cases}
+use native.Mathlib.Decide.{decLt, ℕ-discrete}
+use native.Mathlib.Omega.{arith}
+use lib.Dec.{eqb, leb, ltb}
+use lib.ListN.{length, getD, set, length-set, List·getD-eq-default}
+use lib.Seq.{getD-set-same, getD-set-other}
+use borrow.Author.Tests.{eq-eqb, ne-eqb}
+use Rattle.laws.specs.Below.{tabulate}
+use Rattle.laws.proofs.Fill.{length-tabulate, getD-tabulate}
+use Rattle.bits.specs.Member.{member}
+use Rattle.history.specs.Change.{CardSet, Numbers}
+use Rattle.history.specs.Vector.{noEntries}
+use Rattle.history.specs.Vector as history
+use Rattle.protocol.specs.Model.{Model, OpenChange, freePlace}
+use Rattle.protocol.specs.Edit.{Edit, put, edited, remembered}
+use Rattle.protocol.specs.Edit as edit
+use Rattle.verdicts.specs.declared.Place.{Place}
+use Rattle.verdicts.specs.declared.Vector.{Vector}
+use Rattle.verdicts.specs.Shape.{limits16, at, vectorAt, openOf, openAt, placeFor, vectorFor, listOf, setOf}
+use Rattle.verdicts.proofs.Limits.{width16, places8}
+use Rattle.verdicts.proofs.Held.{at-list-all, member-set, free-open}
+use Rattle.cabinet.specs.declared.Cabinet.{Cabinet}
+use Rattle.cabinet.specs.View.{view}
+use Rattle.cabinet.specs.Apply.{apply}
+
+-- ---- lists as functions of the index
+-- what a list shows after a store, seen through f
+pub shown-set : {A B : Type 0} (d : A) (f : A → B) (l : List A) (i : ℕ) (v : A) → i < length l → (λ (k : ℕ). f (getD (set l i v) k d)) ≡ put (λ k. f (getD l k d)) i (f v)
+shown-set d f l i v h = λ x k. each k x
+  where
+    here : (k : ℕ) → k ≡ i → f (getD (set l i v) k d) ≡ put (λ k. f (getD l k d)) i (f v) k
+    here k q =
+        ap (λ (j : ℕ). f (getD (set l i v) j d)) q ∙ ap f (getD-set-same l i v d h)
+        ∙ sym (ap (λ (b : Bool). cond b (f v) (f (getD l k d))) (eq-eqb k i q))
+
+    other : (k : ℕ) → ¬ (k ≡ i) → f (getD (set l i v) k d) ≡ put (λ k. f (getD l k d)) i (f v) k
+    other k q = ap f (getD-set-other l i k v d q) ∙ sym (ap (λ (b : Bool). cond b (f v) (f (getD l k d))) (ne-eqb k i q))
+
+    each : (k : ℕ) → f (getD (set l i v) k d) ≡ put (λ k. f (getD l k d)) i (f v) k
+    each k = by-cases (ℕ-discrete k i) (here k) (other k)
+
+pub at-set : (l : List ℕ) (i v : ℕ) → i < length l → at (set l i v) ≡ put (at l) i v
+at-set l i v h = shown-set 0 (λ x. x) l i v h
+
+-- ---- what an open change must be to stand in a place: no card and no entry beyond the width
+pub record Fits (o : OpenChange) : Type 0 where
+  pub reads : (k : ℕ) → 16 ≤ k → o .change .reads k ≡ false
+  pub writes : (k : ℕ) → 16 ≤ k → o .change .writes k ≡ false
+  pub yes : (k : ℕ) → 16 ≤ k → o .yes k ≡ false
+  pub taken : (k : ℕ) → 16 ≤ k → o .taken k ≡ false
+  pub vector : (k : ℕ) → 16 ≤ k → o .vector k ≡ 0
+
+pub open-back : (o : OpenChange) → Fits o → openOf (placeFor o) ≡ o
+open-back o f =
+    λ i. record {
+      change = record { number = o .change .number; reads = member-set (o .change .reads) (f .reads) i; writes = member-set (o .change .writes) (f .writes) i };
+      yes = member-set (o .yes) (f .yes) i;
+      taken = member-set (o .taken) (f .taken) i;
+      vector = at-list-all (o .vector) (f .vector) i;
+    }
+
+-- ---- the laws
+pub keep-law : (s : Cabinet) (c x : ℕ) → c < length (s .stored) → view (apply (edit.keep c x) s) ≡ edited limits16 (edit.keep c x) (view s)
+keep-law s c x h = ap (λ (f : Numbers). edit.withNumbers (view s) (record { base = at (s .base); stored = f; held = at (s .held); reached = at (s .reached) }) (view s .memory)) (at-set (s .stored) c x h)
+
+pub count-law : (s : Cabinet) (k : ℕ) → view (apply (edit.count k) s) ≡ edited limits16 (edit.count k) (view s)
+count-law s k = refl
+
+pub place-law : (s : Cabinet) (p : ℕ) (o : OpenChange) → p < length (s .places) → Fits o → view (apply (edit.place p o) s) ≡ edited limits16 (edit.place p o) (view s)
+place-law s p o h f =
+    ap with (shown-set (record { vector = []; number = 0; reads = 0; writes = 0; yes = 0; taken = 0 }) openOf (s .places) p (placeFor o) h ∙ ap (λ (q : OpenChange). put (openAt (s .places)) p q) (open-back o f))
+  where
+    with : (ℕ → OpenChange) → Model
+    with g =
+        record {
+          session = view s .session;
+          phase = view s .phase;
+          count = view s .count;
+          present = view s .present;
+          numbers = view s .numbers;
+          memory = view s .memory;
+          place = g;
+          ended = view s .ended;
+          line = view s .line;
+          rolled = view s .rolled;
+        }
+
+-- a vector read back from the list of 16 that holds it
+pub raise-law : (s : Cabinet) (c : ℕ) (v : history.Vector) → c < length (s .pending) → ((k : ℕ) → 16 ≤ k → history.joined (vectorAt (s .pending) c) v k ≡ 0)
+    → view (apply (edit.raise c v) s) ≡ edited limits16 (edit.raise c v) (view s)
+raise-law s c v h z =
+    ap (λ (g : ℕ → history.Vector). edit.withMemory (view s) (record { last = view s .memory .last; pending = g; maker = view s .memory .maker; frame = view s .memory .frame }))
+    (shown-set (record { entries = [] }) (λ (x : Vector). at (x .entries)) (s .pending) c (vectorFor (history.joined (vectorAt (s .pending) c) v)) h
+    ∙ ap (λ (q : history.Vector). put (vectorAt (s .pending)) c q) (at-list-all (history.joined (vectorAt (s .pending) c) v) z))
+
+-- numbers of cards beyond the width are 0 in a list of 16
+pub beyond : (l : List ℕ) (k : ℕ) → length l ≡ 16 → 16 ≤ k → at l k ≡ 0
+beyond l k e h = List·getD-eq-default l 0 (omega (arith, e))
+
+pub fall-law : (s : Cabinet) (cards : CardSet) → length (s .stored) ≡ 16 → length (s .held) ≡ 16 → view (apply (edit.fall cards) s) ≡ edited limits16 (edit.fall cards) (view s)
+fall-law s cards es eh =
+    ap (λ (f : Numbers). edit.withNumbers (view s) (record { base = at (s .base); stored = at (s .stored); held = f; reached = at (s .reached) }) (view s .memory))
+    (at-list-all (λ c. cond (cards c) (at (s .stored) c) (at (s .held) c)) none)
+  where
+    either : (b : Bool) (x y : ℕ) → x ≡ 0 → y ≡ 0 → cond b x y ≡ 0
+    either true x y p q = p
+    either false x y p q = q
+
+    none : (k : ℕ) → 16 ≤ k → cond (cards k) (at (s .stored) k) (at (s .held) k) ≡ 0
+    none k h = either (cards k) (at (s .stored) k) (at (s .held) k) (beyond (s .stored) k es h) (beyond (s .held) k eh h)
