@@ -12,14 +12,16 @@ use Rattle.laws.proofs.Fill.{all-same, not-any}
 use Rattle.bits.specs.Sets.{subset, below, either}
 use Rattle.bits.specs.Member.{member}
 use Rattle.history.specs.Vector as history
+use Rattle.history.specs.Vector.{noEntries}
 use Rattle.history.specs.Change.{CardSet}
 use Rattle.protocol.specs.Model.{Memory, StateNumbers, up, toWrite, strays}
 use Rattle.protocol.specs.Sound.{frameSound, risesSound, framesSound, entriesSound, numbersSound, lineSound, cardSound, roomToWrite, placeSound}
 use Rattle.verdicts.specs.declared.Head.{Head}
 use Rattle.verdicts.specs.declared.Vector.{Vector}
 use Rattle.verdicts.specs.declared.Place.{Place}
-use Rattle.verdicts.specs.Shape.{limits16, phaseOf, at, presentOf, vectorAt, ring, numbersOf, partOf, inHand, makerInHand, frameInHand, openOf, modelOf, thereSound}
+use Rattle.verdicts.specs.Shape.{limits16, phaseOf, at, presentOf, vectorAt, ring, ringMaker, ringFrame, cut, numbersOf, partOf, inHand, makerInHand, frameInHand, openOf, modelOf, thereSound}
 use Rattle.verdicts.proofs.Limits.{width16}
+use Rattle.verdicts.proofs.Cards.{strays-within}
 use Rattle.soundness.proofs.Tests.{entries-absent}
 
 module _ (entries makers base reached : List ℕ) (last pending : List Vector) where
@@ -39,47 +41,50 @@ module _ (entries makers base reached : List ℕ) (last pending : List Vector) w
   in-hand : (c k : ℕ) → k < at reached c - at base c → inHand base reached c (suc (at base c + k)) ≡ true
   in-hand c k h = and-intro (lt-ltb (at base c) (suc (at base c + k)) (omega arith)) (le-leb (suc (at base c + k)) (at reached c) (omega arith))
 
-  frame-here : (n c x : ℕ) → inHand base reached c x ≡ true
+  -- entries beyond the width are not looked at
+  cut-all : (present : CardSet) (v : history.Vector) → entriesSound limits16 present (cut v) ≡ entriesSound limits16 present v
+  cut-all present v = all-same (limits16 .width) _ _ (λ k h. ap (λ (b : Bool). leb (cond b (v k) 0) (cond (present k) (limits16 .greatestState) 0)) (lt-ltb k (limits16 .width) h))
+
+  frame-here : (n c x : ℕ) → c < 16 → inHand base reached c x ≡ true
       → frameSound limits16 (partOf n up handNumbers handMemory 0) c x ≡ frameSound limits16 (partOf n up handNumbers (ring entries makers) 0) c x
-  frame-here n c x e = rw e
+  frame-here n c x h e =
+      ap (λ (b : Bool). not (eqb (cond b (ringMaker makers c x) 0) 0) && eqb (cond b (cut (ringFrame entries c x)) noEntries c) x && entriesSound limits16 (presentOf n) (cond b (cut (ringFrame entries c x)) noEntries)) e
+      ∙ ap₂ (λ (y : ℕ) (b : Bool). not (eqb (ringMaker makers c x) 0) && eqb y x && b)
+          (ap (λ (b : Bool). cond b (ringFrame entries c x c) 0) (lt-ltb c (limits16 .width) (omega (arith, width16))))
+          (cut-all (presentOf n) (ringFrame entries c x))
 
   rises-here : (c x : ℕ) → inHand base reached c x ≡ true → inHand base reached c (suc x) ≡ true
       → risesSound limits16 handMemory c x ≡ risesSound limits16 (ring entries makers) c x
-  rises-here c x e d = rw (e, d)
+  rises-here c x e d =
+      ap₂ (λ (a b : Bool). ltb (cond a (ringMaker makers c x) 0) (cond b (ringMaker makers c (suc x)) 0) && allBelow (limits16 .width) (λ j. leb (cond a (cut (ringFrame entries c x)) noEntries j) (cond b (cut (ringFrame entries c (suc x))) noEntries j))) e d
+      ∙ ap (λ (b : Bool). ltb (ringMaker makers c x) (ringMaker makers c (suc x)) && b)
+          (all-same (limits16 .width) _ _ (λ k h. ap (λ (b : Bool). leb (cond b (ringFrame entries c x k) 0) (cond b (ringFrame entries c (suc x) k) 0)) (lt-ltb k (limits16 .width) h)))
 
-  pub frames-in-hand : (n c : ℕ)
+  pub frames-in-hand : (n c : ℕ) → c < 16
       → framesSound limits16 (partOf n up handNumbers handMemory 0) c ≡ framesSound limits16 (partOf n up (numbersOf (at base c) 0 0 (at reached c)) (ring entries makers) 0) c
-  frames-in-hand n c = all-same (at reached c - at base c) _ _ each
+  frames-in-hand n c b16 = all-same (at reached c - at base c) _ _ each
     where
       each : (k : ℕ) → k < at reached c - at base c
           → frameSound limits16 (partOf n up handNumbers handMemory 0) c (suc (at base c + k)) && (eqb k 0 || risesSound limits16 handMemory c (at base c + k))
           ≡ frameSound limits16 (partOf n up handNumbers (ring entries makers) 0) c (suc (at base c + k)) && (eqb k 0 || risesSound limits16 (ring entries makers) c (at base c + k))
-      each zero h = ap (λ (b : Bool). b && true) (frame-here n c (suc (at base c + 0)) (in-hand c 0 h))
+      each zero h = ap (λ (b : Bool). b && true) (frame-here n c (suc (at base c + 0)) b16 (in-hand c 0 h))
       each (suc k) h =
           let l : k < at reached c - at base c = omega arith in
           let i : inHand base reached c (at base c + suc k) ≡ true = ap (λ (x : ℕ). inHand base reached c x) (let e : at base c + suc k ≡ suc (at base c + k) = omega arith in e) ∙ in-hand c k l in
-          ap₂ (λ (a b : Bool). a && (eqb (suc k) 0 || b)) (frame-here n c (suc (at base c + suc k)) (in-hand c (suc k) h)) (rises-here c (at base c + suc k) i (in-hand c (suc k) h))
-
--- no card of the set is outside a cabinet of n cards
-pub strays-within : (w n : ℕ) (s : CardSet) → not (anyBelow w (λ c. s c && not (presentOf n c))) ≡ subset w s (below n)
-strays-within w n s = not-any w (λ c. s c && not (presentOf n c)) ∙ all-same w _ _ (λ k h. turned (s k) (presentOf n k))
-  where
-    turned : (a b : Bool) → not (a && not b) ≡ not a || b
-    turned true true = refl
-    turned true false = refl
-    turned false b = refl
+          ap₂ (λ (a b : Bool). a && (eqb (suc k) 0 || b)) (frame-here n c (suc (at base c + suc k)) b16 (in-hand c (suc k) h)) (rises-here c (at base c + suc k) i (in-hand c (suc k) h))
 
 -- the flags that the check of a card works out are what the definition says of it
 pub card-whole : (entries makers : List ℕ) (last pending : List Vector) (base stored kept reached line : List ℕ) (h : Head) (c n : ℕ) (a b w : Bool)
+    → c < 16
     → n ≡ cond (presentOf (h .cards) c) (h .cards) 0
     → a ≡ entriesSound limits16 (presentOf n) (vectorAt last c)
     → b ≡ entriesSound limits16 (presentOf n) (vectorAt pending c)
     → w ≡ thereSound (partOf (h .cards) (phaseOf (h .phase)) (numbersOf (at base c) (at stored c) (at kept c) (at reached c)) (ring entries makers) (at line c)) c
     → a && b && (not (presentOf (h .cards) c) || w) ≡ cardSound limits16 (modelOf entries makers last pending [] base stored kept reached line [] 0 h) c
-card-whole entries makers last pending base stored kept reached line h c n a b w en ea eb ew =
+card-whole entries makers last pending base stored kept reached line h c n a b w b16 en ea eb ew =
     let there : (v : history.Vector) → entriesSound limits16 (presentOf n) v ≡ entriesSound limits16 (λ j. presentOf (h .cards) c && presentOf (h .cards) j) v =
     λ v. ap (λ (k : ℕ). entriesSound limits16 (presentOf k) v) en ∙ entries-absent (presentOf (h .cards) c) (h .cards) v in
-    let f : _ = sym (frames-in-hand entries makers base reached last pending (h .cards) c) in
+    let f : _ = sym (frames-in-hand entries makers base reached last pending (h .cards) c b16) in
     let whole : w ≡ thereSound (modelOf entries makers last pending [] base stored kept reached line [] 0 h) c =
     ew ∙ ap (λ (x : Bool). numbersSound limits16 (numbersOf (at base c) (at stored c) (at kept c) (at reached c)) c && lineSound (partOf (h .cards) (phaseOf (h .phase)) (numbersOf (at base c) (at stored c) (at kept c) (at reached c)) (ring entries makers) (at line c)) c && x) f in
     ap₂ (λ (x y : Bool). x && y) (ap₂ (λ (x y : Bool). x && y) (ea ∙ there (vectorAt last c)) (eb ∙ there (vectorAt pending c))) (ap (λ (x : Bool). not (presentOf (h .cards) c) || x) whole)

@@ -54,12 +54,15 @@ ringFrame entries c x j = at entries (ringPlace c x * 16 + j)
 abbrev pub inHand : (base reached : List ℕ) → ℕ → ℕ → Bool
 inHand base reached c x = ltb (at base c) x && leb x (at reached c)
 
--- the frames in hand; a state that is not in hand shows change 0 and no entries
+-- the frames in hand, with an entry for each card; a state that is not in hand shows change 0 and no entries
 abbrev pub makerInHand : (makers base reached : List ℕ) → ℕ → ℕ → ℕ
 makerInHand makers base reached c x = cond (inHand base reached c x) (ringMaker makers c x) 0
 
+abbrev pub cut : history.Vector → history.Vector
+cut v j = cond (ltb j (limits16 .width)) (v j) 0
+
 abbrev pub frameInHand : (entries base reached : List ℕ) → ℕ → ℕ → history.Vector
-frameInHand entries base reached c x = cond (inHand base reached c x) (ringFrame entries c x) noEntries
+frameInHand entries base reached c x = cond (inHand base reached c x) (cut (ringFrame entries c x)) noEntries
 
 -- the frames of the ring, whether or not they are in hand
 abbrev pub ring : (entries makers : List ℕ) → Memory

@@ -100,7 +100,7 @@ there-sound-requires c κs = search needs
 
 -- src/sound.rt:164:1
 returns : tie.Need-returns
-returns c = let a : _ = c .before .before .before .before .before .before .before .before .before .args in card-whole (a .entries .now) (a .makers .now) (a .t3) (a .t4) (a .t5) (a .t6) (a .t7) (a .t8) (a .t9) (a .head) (a .c) _ _ _ _ (c .before .before .before .before .before .before .before .seen .ensures) (c .before .before .before .before .entries-sound .ensures) (c .before .entries-sound2 .ensures) (c .there-sound .ensures)
+returns c = let a : _ = c .before .before .before .before .before .before .before .before .before .args in card-whole (a .entries .now) (a .makers .now) (a .t3) (a .t4) (a .t5) (a .t6) (a .t7) (a .t8) (a .t9) (a .head) (a .c) _ _ _ _ (c .before .before .before .before .before .before .before .before .before .pre) (c .before .before .before .before .before .before .before .seen .ensures) (c .before .before .before .before .entries-sound .ensures) (c .before .entries-sound2 .ensures) (c .there-sound .ensures)
 
 pub card-sound-spec : {M : Type 1} → statement M
 card-sound-spec =

@@ -1,5 +1,4 @@
 use Rattle.soundness.proofs.Hand.{place-whole}
-use Rattle.soundness.proofs.Hand.{strays-within}
 use Rattle.verdicts.specs.Shape.{limits16, at, presentOf, ring, numbersOf, partOf, openOf, openAt, modelOf, phaseOf}
 use Rattle.verdicts.proofs.Limits.{width16, inHand48, places8, greatest60000}
 use Rattle.laws.proofs.Fill.{AllSoFar, all-none, all-more, all-done}
