@@ -10,7 +10,8 @@ use Rattle.laws.proofs.Seq.{sets-append, sets-part}
 use Rattle.line.specs.declared.Sums.{Sums}
 use Rattle.line.specs.Digits.{digits, written}
 use Rattle.line.specs.Line.{summed, checkOf, lineOf}
-use Rattle.line.proofs.Digits.{digits-length, written-length, total}
+use Rattle.line.proofs.Digits.{digits-length, written-length, written-all, total}
+use Rattle.line.proofs.Lines.{line-length}
 use Rattle.frame.specs.declared.Header.{Header}
 use Rattle.frame.specs.declared.Frame.{Frame}
 use Rattle.frame.specs.Format.{format, entryOf}
@@ -137,3 +138,12 @@ entries-begin b es at n =
 
 pub entries-done : (b es : List ℕ) (at n j : ℕ) → n ≤ j → sets b (at + j * 4) (written (replicate (n - j) 4) (map (entryOf 65535) (drop j es))) ≡ b
 entries-done b es at n j h = let m : n - j ≡ 0 = omega arith in rw m
+
+pub header-line-length : (h : Header) → length (headerLine format h) ≡ 25
+unfolding headerLine
+header-line-length h = line-length (startOf format h) 20 (written (headerWidths format) (headerNumbers h)) [] (written-all (headerWidths format) (headerNumbers h)) (written-length (headerWidths format) (headerNumbers h) refl)
+
+pub frame-line-length : (start : Sums) (n state : ℕ) (next : Frame) → length (next .entries) ≡ 16 → n ≤ 16 → length (frameLine format start n state next) ≡ 17 + n * 4
+unfolding frameLine
+frame-line-length start n state next l h =
+    line-length start (12 + n * 4) (written (frameWidths format n) (frameNumbers format state next)) [] (written-all (frameWidths format n) (frameNumbers format state next)) (frame-length n state next l h) ∙ omega arith
