@@ -67,7 +67,7 @@ fn store_entries(to: &mut [u32; 12288], at: usize, entries: [u32; 16])
 
 // Reads the sheet of a card, and of a read-out (`all`) the sheets of the cards behind it. The reading stops at the
 // first line at fault.
-fn read_sheets(s: &[u8], card: u32, all: bool) -> Reading
+pub fn read_sheets(s: &[u8], card: u32, all: bool) -> Reading
     ensures { λ r. ⌜ r ≡ readingOf all card (now (s .entry)) ⌝ }
 {
     let mut r = Readout {

@@ -1,0 +1,230 @@
+// The reader of a joined read-out: its lines, and then the sheets beside each other.
+ghost use mathlib.Core.Path.{_≡_};
+ghost use Prim.Native.Nat.{ℕ, _+_, _*_, _-_, _≤_, _<_, min};
+ghost use mathlib.Core.Bool.{not, _&&_, _||_};
+ghost use lib.ListN.{length, getD};
+ghost use lib.Dec.{eqb, ltb};
+ghost use Rattle.laws.specs.Below.{allBelow, anyBelow};
+ghost use Rattle.readout.specs.Joint.{lowestTo, lowestOf, apart, frameAt, differ, differsIn, twoVectors, jointVerdict, cardsOf, joined, readoutOf};
+ghost use Rattle.sheet.specs.Walk.{noReadout};
+use refusal::Refusal;
+use frame::Verdict;
+use sheet::Readout;
+use sheet::Reading;
+
+// The lowest of the sessions from the first to number `last`.
+fn lowest(sessions: [u32; 16], last: u32) -> u32
+    requires { ⌜ last < 16 ⌝ }
+    ensures { λ r. ⌜ r ≡ lowestTo (λ i. getD sessions i 0) last ⌝ }
+{
+    let mut low = sessions[0];
+    let mut i: u32 = 0;
+    while i < last {
+        i += 1;
+        let s = sessions[i as usize];
+        low = least(low, s);
+    }
+    low
+}
+
+fn least(a: u32, b: u32) -> u32
+    ensures { λ r. ⌜ r ≡ min a b ⌝ }
+{
+    if a <= b { a } else { b }
+}
+
+fn ahead(session: u32, count: u32, low: u32) -> bool
+    ensures { λ r. ⌜ r ≡ (ltb (low + 1) session || (ltb low session && ltb 0 count)) ⌝ }
+{
+    if session <= low {
+        return false;
+    }
+    if session - low != 1 {
+        return true;
+    }
+    0 < count
+}
+
+fn sessions_apart(sessions: [u32; 16], counts: [u32; 16], low: u32, n: u32) -> bool
+    requires { ⌜ n ≤ 16 ⌝ }
+    ensures { λ r. ⌜ r ≡ apart sessions counts low n ⌝ }
+{
+    let mut j: u32 = 0;
+    while j < n {
+        let i = j as usize;
+        if ahead(sessions[i], counts[i], low) {
+            return true;
+        }
+        j += 1;
+    }
+    false
+}
+
+fn place(card: u32, base: u32, a: u32) -> usize
+    requires { ⌜ card < 16 ⌝ }
+    ensures at { λ r. ⌜ r ≡ frameAt card base a ⌝ }
+    ensures small { λ r. ⌜ r < 768 ⌝ }
+{
+    card as usize * 48 + (base as usize + 1 + a as usize) % 48
+}
+
+fn same_entries(entries: &[u32], p: usize, q: usize, n: usize) -> bool
+    requires { ⌜ (length (now entries) ≡ 12288) × (p < 768) × (q < 768) × (n ≤ 16) ⌝ }
+    ensures { λ r. ⌜ r ≡ allBelow n (λ k. eqb (getD (now (entries .entry)) (p * 16 + k) 0) (getD (now (entries .entry)) (q * 16 + k) 0)) ⌝ }
+{
+    let mut k = 0;
+    while k < n {
+        if entries[p * 16 + k] != entries[q * 16 + k] {
+            return false;
+        }
+        k += 1;
+    }
+    true
+}
+
+fn differ_at<'a>(changes: &'a [u32], entries: &'a [u32], p: usize, q: usize, n: usize) -> bool
+    requires { ⌜ (length (now changes) ≡ 768) × (length (now entries) ≡ 12288) × (p < 768) × (q < 768) × (n ≤ 16) ⌝ }
+    ensures { λ r. ⌜ r ≡ differ (now (changes .entry)) (now (entries .entry)) n p q ⌝ }
+{
+    if changes[p] != changes[q] {
+        return false;
+    }
+    !same_entries(entries, p, q, n)
+}
+
+// Whether the frame at place p differs so from a frame of card j.
+fn differs_in<'a>(changes: &'a [u32], entries: &'a [u32], p: usize, j: u32, base: u32, count: u32, n: usize) -> bool
+    requires { ⌜ (length (now changes) ≡ 768) × (length (now entries) ≡ 12288) × (p < 768) × (j < 16) × (n ≤ 16) ⌝ }
+    ensures { λ r. ⌜ r ≡ differsIn (now (changes .entry)) (now (entries .entry)) n p j base count ⌝ }
+{
+    let mut b: u32 = 0;
+    while b < count {
+        if differ_at(changes, entries, p, place(j, base, b), n) {
+            return true;
+        }
+        b += 1;
+    }
+    false
+}
+
+// Whether a frame of card i differs so from a frame of card j.
+fn pair_differs(r: Readout, i: u32, j: u32, n: usize) -> bool
+    requires { ⌜ (i < 16) × (j < 16) × (n ≤ 16) ⌝ }
+    ensures { λ x. ⌜ x ≡ anyBelow (getD (r .counts) i 0) (λ a. differsIn (r .changes) (r .entries) n (frameAt i (getD (r .bases) i 0) a) j (getD (r .bases) j 0) (getD (r .counts) j 0)) ⌝ }
+{
+    let base = r.bases[i as usize];
+    let count = r.counts[i as usize];
+    let other = r.bases[j as usize];
+    let others = r.counts[j as usize];
+    let mut a: u32 = 0;
+    while a < count {
+        let p = place(i, base, a);
+        if differs_in(&r.changes, &r.entries, p, j, other, others, n) {
+            return true;
+        }
+        a += 1;
+    }
+    false
+}
+
+// Whether a frame of card i differs so from a frame of a card before it.
+fn card_differs(r: Readout, i: u32, n: usize) -> bool
+    requires { ⌜ (i < 16) × (n ≤ 16) ⌝ }
+    ensures { λ x. ⌜ x ≡ anyBelow i (λ j. anyBelow (getD (r .counts) i 0) (λ a. differsIn (r .changes) (r .entries) n (frameAt i (getD (r .bases) i 0) a) j (getD (r .bases) j 0) (getD (r .counts) j 0))) ⌝ }
+{
+    let mut j: u32 = 0;
+    while j < i {
+        if pair_differs(r, i, j, n) {
+            return true;
+        }
+        j += 1;
+    }
+    false
+}
+
+// Whether one change has two vectors on two sheets.
+fn two_vectors(r: Readout, n: u32) -> bool
+    requires { ⌜ n ≤ 16 ⌝ }
+    ensures { λ x. ⌜ x ≡ twoVectors r n ⌝ }
+{
+    let cards = n as usize;
+    let mut i: u32 = 0;
+    while i < n {
+        if card_differs(r, i, cards) {
+            return true;
+        }
+        i += 1;
+    }
+    false
+}
+
+fn before(n: u32) -> u32
+    ensures { λ r. ⌜ r ≡ n - 1 ⌝ }
+{
+    if n == 0 { 0 } else { n - 1 }
+}
+
+// The verdict on the sheets beside each other.
+fn joint_verdict(r: Readout, n: u32) -> Verdict
+    requires { ⌜ n ≤ 16 ⌝ }
+    ensures { λ x. ⌜ x ≡ jointVerdict r n ⌝ }
+{
+    let sessions = r.sessions;
+    let counts = r.counts;
+    let low = lowest(sessions, before(n));
+    if sessions_apart(sessions, counts, low, n) {
+        return Verdict::Refused(Refusal::SessionsApart);
+    }
+    if low == 4294967295 {
+        return Verdict::Refused(Refusal::LimitReached);
+    }
+    if two_vectors(r, n) {
+        return Verdict::Refused(Refusal::TwoVectors);
+    }
+    Verdict::Accepted
+}
+
+fn no_readout(x: Refusal) -> Reading
+    ensures { λ r. ⌜ r ≡ joined (Verdict.Refused x) noReadout ⌝ }
+{
+    let readout = Readout {
+        changes: [0u32; 768],
+        entries: [0u32; 12288],
+        sessions: [0u32; 16],
+        bases: [0u32; 16],
+        counts: [0u32; 16],
+        cards: 0,
+    };
+    Reading {
+        readout,
+        verdict: Verdict::Refused(x),
+    }
+}
+
+fn judged_jointly(r: Readout) -> Reading
+    ensures { λ x. ⌜ x ≡ joined (jointVerdict r (cardsOf r)) r ⌝ }
+{
+    let v = joint_verdict(r, least(r.cards, 16));
+    match v {
+        Verdict::Accepted => Reading { readout: r, verdict: Verdict::Accepted },
+        Verdict::Refused(x) => no_readout(x),
+    }
+}
+
+// Reads the sheets of all cards, joined in card order.
+pub fn read_readout(s: &[u8]) -> Reading
+    ensures { λ r. ⌜ r ≡ readoutOf (now (s .entry)) ⌝ }
+{
+    if 65536 < s.len() {
+        return no_readout(Refusal::TooLong);
+    }
+    let read = sheet::read_sheets(s, 0, true);
+    let v = read.verdict;
+    match v {
+        Verdict::Accepted => {
+            let r = read.readout;
+            judged_jointly(r)
+        }
+        Verdict::Refused(x) => no_readout(x),
+    }
+}
