@@ -11,6 +11,7 @@ pub mod Rolling
 pub mod Lost
 pub mod Steps
 pub mod Invariant
+pub mod Lay
 pub mod Restart
 pub mod Claims
 pub mod Lists

@@ -1,5 +1,5 @@
 -- The sheets of a cabinet that rolls back say enough: the cabinet that restarts from them meets the same invariant, with the same line and the same cards rolled. Assumes nothing.
-use Prim.Native.Nat.{ℕ, zero, suc, _+_, _-_, _≤_, _<_, zero-le}
+use Prim.Native.Nat.{ℕ, zero, suc, _+_, _*_, _-_, _≤_, _<_, zero-le}
 use mathlib.Core.Path.{_≡_, refl, sym, _∙_, ap, ap₂, subst}
 use mathlib.Core.Bool.{Bool, true, false, not, _&&_, _||_, cond}
 use mathlib.Core.Logic.{_⊎_, inl, inr, by-cases, ⊎-elim}
@@ -26,7 +26,13 @@ use Rattle.history.proofs.Appending.{Agree}
 use Rattle.protocol.specs.Model.{Limits, isRolling, Model, within}
 use Rattle.protocol.specs.Sound.{entriesSound}
 use Rattle.protocol.specs.Journal.{Journal}
-use Rattle.protocol.specs.Sheets.{cardCount, sheetSession, sheetFrame, sheetOf, sheets, noPage, pageOf, pageStored, frameOn, vectorOn, restarted}
+use Rattle.protocol.specs.Sheets.{cardCount, sheetSession, sheetFrame, sheetOf, sheets, storedIn, isIn, restarted}
+use Rattle.protocol.proofs.Lay.{Holds}
+use Rattle.sheet.specs.declared.Readout.{Readout}
+use Rattle.sheet.specs.Walk.{placeOf}
+use Rattle.readout.specs.Joint.{lowestOf}
+use Rattle.frame.specs.Lines.{padded}
+use Rattle.frame.proofs.Judged.{padded-at}
 use Rattle.protocol.proofs.Taking.{Framed}
 use Rattle.protocol.proofs.Intact.{Intact, lineAt, bridge, intact-lower}
 use Rattle.protocol.proofs.Running.{Carded}
@@ -50,36 +56,21 @@ module _ (L : Limits) (n : ℕ) (m : Model) (few : n ≤ L .width) (present-is :
   pub length-sheets : length (sheets L m) ≡ n
   length-sheets = ap length sheets-are ∙ length-tabulate n (sheetOf L m)
 
-  pub page-is : (c : ℕ) → c < n → pageOf (sheets L m) c ≡ sheetOf L m c
-  page-is c h = ap (λ (ps : List Page). getD ps c noPage) sheets-are ∙ getD-tabulate n (sheetOf L m) noPage c h
-
-  pub no-page : (c : ℕ) → n ≤ c → pageOf (sheets L m) c ≡ noPage
-  no-page c h = List·getD-eq-default (sheets L m) noPage (omega (arith, h, length-sheets))
-
-  -- the frame of a state that is stored
-  pub frame-written : (c x : ℕ) → m .numbers .base c < x → x ≤ m .numbers .stored c → frameOn (sheetOf L m c) x ≡ sheetFrame L m c x
-  frame-written c x a b =
-      rw (lt-ltb (m .numbers .base c) x a, le-leb x (m .numbers .base c + (m .numbers .stored c - m .numbers .base c)) (omega arith))
-      (getD-tabulate (m .numbers .stored c - m .numbers .base c) (λ k. sheetFrame L m c (suc (m .numbers .base c + k))) (record { change = 0; entries = [] }) (x - suc (m .numbers .base c)) (omega arith)
-      ∙ ap (sheetFrame L m c) back)
-    where
-      back : suc (m .numbers .base c + (x - suc (m .numbers .base c))) ≡ x
-      back = omega arith
-
   entry-written : (c x j : ℕ) → j < n → getD (sheetFrame L m c x .entries) j 0 ≡ m .memory .frame c x j
   entry-written c x j h = rw count-is (getD-tabulate n (m .memory .frame c x) 0 j h)
 
   entry-absent : (c x j : ℕ) → n ≤ j → getD (sheetFrame L m c x .entries) j 0 ≡ 0
   entry-absent c x j h = rw count-is (List·getD-eq-default (tabulate n (m .memory .frame c x)) 0 (omega (arith, h, length-tabulate n (m .memory .frame c x))))
 
--- the restart of a cabinet that rolls back
-module _ (L : Limits) (n : ℕ) (m : Model) (j : Journal) (few : n ≤ L .width) (present-is : (c : ℕ) → m .present c ≡ ltb c n)
-    (absent-start : (c : ℕ) → c < L .width → n ≤ c → j .start c ≡ 0) (r : Rolling L m j) where
-  abbrev ps : List Page
-  ps = sheets L m
+  length-entries : (c x : ℕ) → length (sheetFrame L m c x .entries) ≡ n
+  length-entries c x = rw count-is (length-tabulate n (m .memory .frame c x))
 
+-- the restart of a cabinet that rolls back, from a read-out that holds its sheets
+module _ (L : Limits) (n : ℕ) (m : Model) (j : Journal) (few : n ≤ L .width) (sixteen : L .width ≡ 16) (forty-eight : L .inHand ≡ 48) (present-is : (c : ℕ) → m .present c ≡ ltb c n)
+  (absent-start : (c : ℕ) → c < L .width → n ≤ c → j .start c ≡ 0) (r : Rolling L m j)
+  (out : Readout) (holds : Holds n (sheetOf L m) out) (cards-are : out .cards ≡ n) (lowest-is : lowestOf (out .sessions) (out .cards) ≡ m .session) where
   abbrev m' : Model
-  m' = restarted L (m .session) (sheets L m)
+  m' = restarted L out
 
   abbrev H₀ : History
   H₀ = historyOf (j .history)
@@ -87,8 +78,8 @@ module _ (L : Limits) (n : ℕ) (m : Model) (j : Journal) (few : n ≤ L .width)
   a₀ : AboutLine L m (j .start) (length (j .history)) (j .stored) (m .line) H₀
   a₀ = r .about H₀ (λ i h. refl)
 
-  present-same : (c : ℕ) → ltb c (length (sheets L m)) ≡ m .present c
-  present-same c = ap (ltb c) (length-sheets L n m few present-is) ∙ sym (present-is c)
+  present-same : (c : ℕ) → ltb c (out .cards) ≡ m .present c
+  present-same c = ap (ltb c) cards-are ∙ sym (present-is c)
 
   -- a card that is not there stands at 0
   absent-numbers : (c : ℕ) → c < L .width → n ≤ c → (m .numbers .base c ≡ 0) × (m .numbers .stored c ≡ 0)
@@ -106,24 +97,45 @@ module _ (L : Limits) (n : ℕ) (m : Model) (j : Journal) (few : n ≤ L .width)
 
   base-same : (c : ℕ) → c < L .width → m' .numbers .base c ≡ m .numbers .base c
   base-same c l =
-      by-cases (decLt c n) (λ h. ap (λ (p : Page). p .header .base) (page-is L n m few present-is c h))
-      (λ h. let g : n ≤ c = omega (arith, h) in ap (λ (p : Page). p .header .base) (no-page L n m few present-is c g) ∙ sym (absent-numbers c l g .0))
+      by-cases (decLt c n) (λ h. holds .base c h) (λ h. let g : n ≤ c = omega (arith, h) in holds .no-base c g ∙ sym (absent-numbers c l g .0))
+
+  -- the count of a sheet's frames
+  frames-count : (c : ℕ) → length (sheetOf L m c .frames) ≡ m .numbers .stored c - m .numbers .base c
+  frames-count c = length-tabulate (m .numbers .stored c - m .numbers .base c) (λ k. sheetFrame L m c (suc (m .numbers .base c + k)))
 
   stored-same : (c : ℕ) → c < L .width → m' .numbers .stored c ≡ m .numbers .stored c
   stored-same c l =
-      by-cases (decLt c n) (λ h. ap pageStored (page-is L n m few present-is c h) ∙ back)
-      (λ h. let g : n ≤ c = omega (arith, h) in ap pageStored (no-page L n m few present-is c g) ∙ sym (absent-numbers c l g .1))
-    where
-      back : m .numbers .base c + (m .numbers .stored c - m .numbers .base c) ≡ m .numbers .stored c
-      back = omega (arith, base-stored c l)
+      by-cases (decLt c n) (λ h. omega (arith, holds .base c h, holds .count c h, frames-count c, base-stored c l))
+      (λ h. let g : n ≤ c = omega (arith, h) in omega (arith, holds .no-base c g, holds .no-count c g, absent-numbers c l g .1))
 
   -- a state that is stored is one of a card that is there
   stored-there : (c x : ℕ) → c < L .width → m .numbers .base c < x → x ≤ m .numbers .stored c → c < n
   stored-there c x l a b = by-cases (decLt c n) (λ h. h) (λ h. let g : n ≤ c = omega (arith, h) in absurd (omega (arith, absent-numbers c l g .1, b, a)))
 
+  is-in : (c x : ℕ) → c < L .width → m .numbers .base c < x → x ≤ m .numbers .stored c → isIn out c x ≡ true
+  is-in c x l a b =
+      and-intro (lt-ltb (getD (out .bases) c 0) x (omega (arith, base-same c l, a))) (le-leb x (storedIn out c) (omega (arith, stored-same c l, b)))
+
+  -- state x of card c is frame x − base − 1 of its sheet
+  place-is : (c x : ℕ) → m .numbers .base c < x → m .numbers .base c + 1 + (x - suc (m .numbers .base c)) ≡ x
+  place-is c x a = omega arith
+
+  frame-at : (c x : ℕ) → m .numbers .base c < x → x ≤ m .numbers .stored c → getD (sheetOf L m c .frames) (x - suc (m .numbers .base c)) (record { change = 0; entries = [] }) ≡ sheetFrame L m c x
+  frame-at c x a b =
+      getD-tabulate (m .numbers .stored c - m .numbers .base c) (λ k. sheetFrame L m c (suc (m .numbers .base c + k))) (record { change = 0; entries = [] }) (x - suc (m .numbers .base c)) (omega arith)
+      ∙ ap (sheetFrame L m c) back
+    where
+      back : suc (m .numbers .base c + (x - suc (m .numbers .base c))) ≡ x
+      back = omega arith
+
+  in-frames : (c x : ℕ) → m .numbers .base c < x → x ≤ m .numbers .stored c → x - suc (m .numbers .base c) < length (sheetOf L m c .frames)
+  in-frames c x a b = omega (arith, frames-count c)
+
   maker-same : (c x : ℕ) → c < L .width → m .numbers .base c < x → x ≤ m .numbers .stored c → m' .memory .maker c x ≡ m .memory .maker c x
   maker-same c x l a b =
-      ap (λ (p : Page). frameOn p x .change) (page-is L n m few present-is c (stored-there c x l a b)) ∙ ap (λ (f : Frame). f .change) (frame-written L n m few present-is c x a b)
+      rw (is-in c x l a b)
+      (ap (λ (y : ℕ). getD (out .changes) (placeOf c y) 0) (sym (place-is c x a)) ∙ holds .change c (x - suc (m .numbers .base c)) (record { change = 0; entries = [] }) (stored-there c x l a b) (in-frames c x a b)
+      ∙ ap (λ (f : Frame). f .change) (frame-at c x a b))
 
   -- an entry of a card that is not there is none
   entry-none : (c x i : ℕ) → c < L .width → i < L .width → n ≤ i → m .numbers .base c < x → x ≤ m .numbers .stored c → m .memory .frame c x i ≡ 0
@@ -137,12 +149,16 @@ module _ (L : Limits) (n : ℕ) (m : Model) (j : Journal) (few : n ≤ L .width)
 
   frame-same : (c x i : ℕ) → c < L .width → i < L .width → m .numbers .base c < x → x ≤ m .numbers .stored c → m' .memory .frame c x i ≡ m .memory .frame c x i
   frame-same c x i l li a b =
-      ap (λ (p : Page). vectorOn p x i) (page-is L n m few present-is c (stored-there c x l a b)) ∙ ap (λ (f : Frame). getD (f .entries) i 0) (frame-written L n m few present-is c x a b)
+      rw (is-in c x l a b, lt-ltb i (L .width) li)
+      (ap (λ (y : ℕ). getD (out .entries) (placeOf c y * 16 + i) 0) (sym (place-is c x a))
+      ∙ holds .entry c (x - suc (m .numbers .base c)) i (record { change = 0; entries = [] }) (stored-there c x l a b) (in-frames c x a b) (omega (arith, sixteen, li))
+      ∙ ap (λ (f : Frame). getD (padded (f .entries)) i 0) (frame-at c x a b)
+      ∙ padded-at (sheetFrame L m c x .entries) (omega (arith, length-entries L n m few present-is c x, few, sixteen)) i
       ∙ by-cases (decLt i n) (λ h. entry-written L n m few present-is c x i h)
-      (λ h. let g : n ≤ i = omega (arith, h) in entry-absent L n m few present-is c x i g ∙ sym (entry-none c x i l li g a b))
+      (λ h. let g : n ≤ i = omega (arith, h) in entry-absent L n m few present-is c x i g ∙ sym (entry-none c x i l li g a b)))
 
   rolled-same : (c : ℕ) → c < n → m' .rolled c ≡ m .rolled c
-  rolled-same c h = ap (λ (p : Page). ltb (m .session) (p .header .session)) (page-is L n m few present-is c h) ∙ rw (r .is-rolling) (ahead (m .rolled c))
+  rolled-same c h = ap₂ ltb lowest-is (holds .session c h) ∙ rw (r .is-rolling) (ahead (m .rolled c))
     where
       ahead : (b : Bool) → ltb (m .session) (cond (true && b) (suc (m .session)) (m .session)) ≡ b
       ahead true = lt-ltb (m .session) (suc (m .session)) (le-refl (suc (m .session)))
@@ -151,7 +167,7 @@ module _ (L : Limits) (n : ℕ) (m : Model) (j : Journal) (few : n ≤ L .width)
   rolled-there : (c : ℕ) → m' .rolled c ≡ true → c < n
   rolled-there c e =
       by-cases (decLt c n) (λ h. h)
-      (λ h. let g : n ≤ c = omega (arith, h) in clash e (ap (λ (p : Page). ltb (m .session) (p .header .session)) (no-page L n m few present-is c g) ∙ le-ltb (m .session) 0 zero-le))
+      (λ h. let g : n ≤ c = omega (arith, h) in clash e (ap₂ ltb lowest-is (holds .no-session c g) ∙ le-ltb (m .session) 0 zero-le))
 
   intact-again : (H : History) → AboutLine L m (j .start) (length (j .history)) (j .stored) (m .line) H
       → Intact (L .width) H (j .start) (length (j .history)) (j .stored) (m' .numbers .base) (m' .numbers .stored) (m' .numbers .reached) (m' .memory .frame)
@@ -195,8 +211,8 @@ module _ (L : Limits) (n : ℕ) (m : Model) (j : Journal) (few : n ≤ L .width)
   restart-rolls =
       record {
         is-rolling = refl;
-        session-given = r .session-given;
-        session-left = r .session-left;
+        session-given = rw lowest-is (r .session-given);
+        session-left = rw lowest-is (r .session-left);
         carded =
             record {
               one = r .carded .one;

@@ -1,5 +1,5 @@
 -- A card's sheet, the joined read-out of a cabinet, and the cabinet that restarts from one: document 01, "Card sheets and restart".
-use Prim.Native.Nat.{ℕ, zero, suc, _+_, _-_}
+use Prim.Native.Nat.{ℕ, zero, suc, _+_, _*_, _-_}
 use mathlib.Core.Bool.{Bool, true, false, not, _&&_, _||_, cond}
 use mathlib.Core.List.{List, [], _∷_}
 use lib.Dec.{eqb, leb, ltb}
@@ -9,7 +9,11 @@ use Rattle.refusal.specs.declared.Refusal.the-variants.{NoSuchCard, TooShort, B
 use Rattle.frame.specs.declared.Header.{Header}
 use Rattle.frame.specs.declared.Frame.{Frame}
 use Rattle.frame.specs.Format.{Format}
+use Rattle.frame.specs.declared.Verdict.{Verdict}
+use Rattle.sheet.specs.declared.Readout.{Readout}
 use Rattle.sheet.specs.Pages.{Page, pageBytes, pagesBytes}
+use Rattle.sheet.specs.Walk.{placeOf}
+use Rattle.readout.specs.Joint.{lowestOf, readoutOf}
 use Rattle.history.specs.Change.{Numbers}
 use Rattle.history.specs.Vector.{Vector}
 use Rattle.history.specs.Line.{lineFrom}
@@ -45,6 +49,10 @@ sheetOf L m c =
       frames = tabulate (m .numbers .stored c - m .numbers .base c) (λ k. sheetFrame L m c (suc (m .numbers .base c + k)));
     }
 
+-- the last state of a sheet
+abbrev pub pageStored : Page → ℕ
+pageStored p = p .header .base + p .header .count
+
 -- "the sheets of all cards in card order"
 abbrev pub sheets : Limits → Model → List Page
 sheets L m = selected (L .width) (m .present) (sheetOf L m)
@@ -64,52 +72,48 @@ sheetChecks F L m c places =
 abbrev pub sheetPlan : Format → Limits → Model → (c places : ℕ) → Plan
 sheetPlan F L m c places = checked (sheetChecks F L m c places) (written (pageBytes F (sheetOf L m c))) []
 
--- ---- restart
--- no sheet: of a card that is not there
-abbrev pub noPage : Page
-noPage = record { header = record { session = 0; card = 0; cards = 0; base = 0; count = 0 }; frames = [] }
+-- ---- restart, from a read-out by value
+-- the state that card c has stored: base plus the count of its frames
+abbrev pub storedIn : Readout → Numbers
+storedIn r c = getD (r .bases) c 0 + getD (r .counts) c 0
 
--- the sheet of card c
-abbrev pub pageOf : List Page → ℕ → Page
-pageOf ps c = getD ps c noPage
+-- a frame from base + 1 to stored
+abbrev pub isIn : Readout → ℕ → ℕ → Bool
+isIn r c x = ltb (getD (r .bases) c 0) x && leb x (storedIn r c)
 
-abbrev pub pageStored : Page → ℕ
-pageStored p = p .header .base + p .header .count
+-- the change and the vector of state x of card c, and none of a state that has no frame
+abbrev pub makerIn : Readout → ℕ → ℕ → ℕ
+makerIn r c x = cond (isIn r c x) (getD (r .changes) (placeOf c x) 0) 0
 
--- the frame of state x, and none outside base + 1 to stored
-abbrev pub frameOn : Page → ℕ → Frame
-frameOn p x =
-    cond (ltb (p .header .base) x && leb x (pageStored p)) (getD (p .frames) (x - suc (p .header .base)) (record { change = 0; entries = [] }))
-    (record { change = 0; entries = [] })
-
-abbrev pub vectorOn : Page → ℕ → Vector
-vectorOn p x j = getD (frameOn p x .entries) j 0
+abbrev pub vectorIn : Limits → Readout → ℕ → ℕ → Vector
+vectorIn L r c x j = cond (isIn r c x && ltb j (L .width)) (getD (r .entries) (placeOf c x * 16 + j) 0) 0
 
 -- "It gives a cabinet in phase rolling with the line fixed and the lowest session found; cards one session ahead count as rolled. Held and reached are the stored number,
 -- last and pending are those of the card's last frame or all none, no change is open and the last change number is 0."
-abbrev pub restarted : Limits → (lowest : ℕ) → List Page → Model
-restarted L lowest ps =
+abbrev pub restarted : Limits → Readout → Model
+restarted L r =
     record {
-      session = lowest;
+      session = lowestOf (r .sessions) (r .cards);
       phase = rolling;
       count = 0;
-      present = λ c. ltb c (length ps);
-      numbers =
-          record {
-            base = λ c. pageOf ps c .header .base;
-            stored = λ c. pageStored (pageOf ps c);
-            held = λ c. pageStored (pageOf ps c);
-            reached = λ c. pageStored (pageOf ps c);
-          };
+      present = λ c. ltb c (r .cards);
+      numbers = record { base = λ c. getD (r .bases) c 0; stored = storedIn r; held = storedIn r; reached = storedIn r };
       memory =
-          record {
-            last = λ c. vectorOn (pageOf ps c) (pageStored (pageOf ps c));
-            pending = λ c. vectorOn (pageOf ps c) (pageStored (pageOf ps c));
-            maker = λ c x. frameOn (pageOf ps c) x .change;
-            frame = λ c. vectorOn (pageOf ps c);
-          };
+        record {
+          last = λ c. vectorIn L r c (storedIn r c);
+          pending = λ c. vectorIn L r c (storedIn r c);
+          maker = makerIn r;
+          frame = vectorIn L r;
+        };
       place = λ p. freePlace;
       ended = λ p. 0;
-      line = λ c. lineFrom (L .width) (λ i. pageStored (pageOf ps i)) (vectorOn (pageOf ps c)) (pageOf ps c .header .base) (pageStored (pageOf ps c));
-      rolled = λ c. ltb lowest (pageOf ps c .header .session);
+      line = λ c. lineFrom (L .width) (storedIn r) (vectorIn L r c) (getD (r .bases) c 0) (storedIn r c);
+      rolled = λ c. ltb (lowestOf (r .sessions) (r .cards)) (getD (r .sessions) c 0);
     }
+
+-- what a restart answers to any bytes, and the cabinet that it gives; refused, there is none
+abbrev pub restartReply : List ℕ → Verdict
+restartReply bytes = readoutOf bytes .verdict
+
+abbrev pub restartedFrom : Limits → List ℕ → Model
+restartedFrom L bytes = restarted L (readoutOf bytes .readout)
