@@ -201,7 +201,7 @@ pub record Holds (n : ℕ) (page : ℕ → Page) (r : Readout) : Type 0 where
   pub no-count : (c : ℕ) → n ≤ c → getD (r .counts) c 0 ≡ 0
   pub no-session : (c : ℕ) → n ≤ c → getD (r .sessions) c 0 ≡ 0
 
-zeros : (k i : ℕ) → _≡_ {A = ℕ} (getD (replicate k 0) i 0) 0
+pub zeros : (k i : ℕ) → _≡_ {A = ℕ} (getD (replicate k 0) i 0) 0
 zeros zero i = refl
 zeros (suc k) zero = refl
 zeros (suc k) (suc i) = zeros k i

@@ -13,6 +13,7 @@ pub mod Steps
 pub mod Invariant
 pub mod Lay
 pub mod Restart
+pub mod Reading
 pub mod Claims
 pub mod Lists
 pub mod Kept

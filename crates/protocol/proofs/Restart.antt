@@ -56,13 +56,13 @@ module _ (L : Limits) (n : ℕ) (m : Model) (few : n ≤ L .width) (present-is :
   pub length-sheets : length (sheets L m) ≡ n
   length-sheets = ap length sheets-are ∙ length-tabulate n (sheetOf L m)
 
-  entry-written : (c x j : ℕ) → j < n → getD (sheetFrame L m c x .entries) j 0 ≡ m .memory .frame c x j
+  pub entry-written : (c x j : ℕ) → j < n → getD (sheetFrame L m c x .entries) j 0 ≡ m .memory .frame c x j
   entry-written c x j h = rw count-is (getD-tabulate n (m .memory .frame c x) 0 j h)
 
   entry-absent : (c x j : ℕ) → n ≤ j → getD (sheetFrame L m c x .entries) j 0 ≡ 0
   entry-absent c x j h = rw count-is (List·getD-eq-default (tabulate n (m .memory .frame c x)) 0 (omega (arith, h, length-tabulate n (m .memory .frame c x))))
 
-  length-entries : (c x : ℕ) → length (sheetFrame L m c x .entries) ≡ n
+  pub length-entries : (c x : ℕ) → length (sheetFrame L m c x .entries) ≡ n
   length-entries c x = rw count-is (length-tabulate n (m .memory .frame c x))
 
 -- the restart of a cabinet that rolls back, from a read-out that holds its sheets

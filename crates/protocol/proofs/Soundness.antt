@@ -54,13 +54,13 @@ module _ (L : Limits) (present : CardSet) (start : Numbers) (n : ℕ) (H : Histo
   -- the frames in hand
   module _ (base reached : Numbers) (y : Memory) (f : Framed (L .width) H start n base reached (y .maker) (y .frame)) (count : ℕ) (nb : Numbered (L .width) H n count)
       (c : ℕ) (l : c < L .width) (from-start : start c ≤ base c) (top : reached c ≤ start c + writers H c n) where
-    frame-maker : (x : ℕ) → base c < x → x ≤ reached c → Maker H start n c x
+    pub frame-maker : (x : ℕ) → base c < x → x ≤ reached c → Maker H start n c x
     frame-maker x a b = maker H start n c x (omega arith) (omega arith)
 
-    number-at : (x : ℕ) → base c < x → x ≤ reached c → (k : Maker H start n c x) → y .maker c x ≡ H (k .at) .number
+    pub number-at : (x : ℕ) → base c < x → x ≤ reached c → (k : Maker H start n c x) → y .maker c x ≡ H (k .at) .number
     number-at x a b k = ap (y .maker c) (sym (k .makes)) ∙ f .number-is (k .at) c (k .in-history) l (k .wrote) (omega (arith, k .makes, a)) (omega (arith, k .makes, b))
 
-    vector-at : (x : ℕ) → base c < x → x ≤ reached c → (k : Maker H start n c x) → (j : ℕ) → j < L .width → y .frame c x j ≡ vector (L .width) H start (k .at) j
+    pub vector-at : (x : ℕ) → base c < x → x ≤ reached c → (k : Maker H start n c x) → (j : ℕ) → j < L .width → y .frame c x j ≡ vector (L .width) H start (k .at) j
     vector-at x a b k j lj = ap (λ (z : ℕ). y .frame c z j) (sym (k .makes)) ∙ f .vector-is (k .at) c j (k .in-history) l lj (k .wrote) (omega (arith, k .makes, a)) (omega (arith, k .makes, b))
 
     pub one-frame : (x : ℕ) → base c < x → x ≤ reached c → not (eqb (y .maker c x) 0) && eqb (y .frame c x c) x && entriesSound L present (y .frame c x) ≡ true
