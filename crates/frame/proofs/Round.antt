@@ -116,13 +116,13 @@ header-numbers f input =
 header-same : (g h : Header) → headerNumbers g ≡ headerNumbers h → g ≡ h
 header-same g h e =
     λ i.
-    record
-      { session = ap (λ (l : List ℕ). getD l 0 0) e i
-      ; card = ap (λ (l : List ℕ). getD l 1 0) e i
-      ; cards = ap (λ (l : List ℕ). getD l 2 0) e i
-      ; base = ap (λ (l : List ℕ). getD l 3 0) e i
-      ; count = ap (λ (l : List ℕ). getD l 4 0) e i
-      }
+    record {
+      session = ap (λ (l : List ℕ). getD l 0 0) e i;
+      card = ap (λ (l : List ℕ). getD l 1 0) e i;
+      cards = ap (λ (l : List ℕ). getD l 2 0) e i;
+      base = ap (λ (l : List ℕ). getD l 3 0) e i;
+      count = ap (λ (l : List ℕ). getD l 4 0) e i;
+    }
 
 header-total : (f : Format) → total (headerWidths f) ≡ headerDigits f
 header-total f = omega arith
@@ -177,7 +177,7 @@ header-again f due first input e =
     let w = whole-shaped n input (p .whole) in
     let st = startOf f (headerIn f input) in
     let b : written (headerWidths f) (headerNumbers (headerIn f input)) ≡ take n input =
-        ap (written (headerWidths f)) (header-numbers f input) ∙ own-numbers (headerWidths f) input n (header-total f) (body-length st n input w) (body-all st n input w)
+    ap (written (headerWidths f)) (header-numbers f input) ∙ own-numbers (headerWidths f) input n (header-total f) (body-length st n input w) (body-all st n input w)
     in
     ap (λ (x : List ℕ). lineOf st x ++ drop (n + 5) input) b ∙ ap (λ (x : List ℕ). x ++ drop (n + 5) input) (sym (line-bytes st n input w (p .right-is))) ∙ take-append-drop (n + 5) input
 
@@ -196,75 +196,75 @@ frame-total : (f : Format) (n : ℕ) → total (frameWidths f n) ≡ frameDigits
 frame-total f n = rw (total-replicate n (f .width)) (omega arith)
 
 module _ (f : Format) (s : Sound f) (start : Sums) (p : start .first < 256) (q : start .second < 256) (card n state : ℕ) (last fr : Frame) (rest : List ℕ)
-  (a : frameAllowed f card n state last state fr ≡ true) (l : length (fr .entries) ≡ n) (change : fr .change < 16 ^ 8) (r : state ≤ f .states)
+    (a : frameAllowed f card n state last state fr ≡ true) (l : length (fr .entries) ≡ n) (change : fr .change < 16 ^ 8) (r : state ≤ f .states)
   where
-  none-room : f .states ≤ noneOf f
-  none-room = omega (arith, s .states)
+    none-room : f .states ≤ noneOf f
+    none-room = omega (arith, s .states)
 
-  frame-within : Within (f .states) (fr .entries)
-  unfolding frameAllowed entriesAllowed
-  frame-within = within-of (f .states) (fr .entries) (λ j h. bound j (omega arith))
-    where
-      entries-pass : (j : ℕ) → j < n → entryAllowed f card state j (getD (last .entries) j 0) (getD (fr .entries) j 0) ≡ true
-      entries-pass =
-          all-at n (λ j. entryAllowed f card state j (getD (last .entries) j 0) (getD (fr .entries) j 0))
-          (and-right (ltb (last .change) (fr .change)) (entriesAllowed f card state n (last .entries) (fr .entries)) (and-right (eqb state state) (ltb (last .change) (fr .change) && entriesAllowed f card state n (last .entries) (fr .entries)) a))
+    frame-within : Within (f .states) (fr .entries)
+    unfolding frameAllowed entriesAllowed
+    frame-within = within-of (f .states) (fr .entries) (λ j h. bound j (omega arith))
+      where
+        entries-pass : (j : ℕ) → j < n → entryAllowed f card state j (getD (last .entries) j 0) (getD (fr .entries) j 0) ≡ true
+        entries-pass =
+            all-at n (λ j. entryAllowed f card state j (getD (last .entries) j 0) (getD (fr .entries) j 0))
+            (and-right (ltb (last .change) (fr .change)) (entriesAllowed f card state n (last .entries) (fr .entries)) (and-right (eqb state state) (ltb (last .change) (fr .change) && entriesAllowed f card state n (last .entries) (fr .entries)) a))
 
-      bound : (j : ℕ) → j < n → getD (fr .entries) j 0 ≤ f .states
-      bound j h =
-          let x = getD (last .entries) j 0 in
-          let y = getD (fr .entries) j 0 in
-          leb-true y (f .states) (and-left (leb y (f .states)) (not (eqb j card) || eqb y state) (and-right (leb x y) (leb y (f .states) && (not (eqb j card) || eqb y state)) (entries-pass j h)))
+        bound : (j : ℕ) → j < n → getD (fr .entries) j 0 ≤ f .states
+        bound j h =
+            let x = getD (last .entries) j 0 in
+            let y = getD (fr .entries) j 0 in
+            leb-true y (f .states) (and-left (leb y (f .states)) (not (eqb j card) || eqb y state) (and-right (leb x y) (leb y (f .states) && (not (eqb j card) || eqb y state)) (entries-pass j h)))
 
-  frame-fits : Fitting (frameWidths f n) (frameNumbers f state fr)
-  frame-fits =
-      (omega (arith, s .states), (change, rw (← l) (entries-fit (f .width) (noneOf f) (fr .entries) (omega (arith, s .states)) (within-less (f .states) (noneOf f) (fr .entries) none-room frame-within))))
+    frame-fits : Fitting (frameWidths f n) (frameNumbers f state fr)
+    frame-fits =
+        (omega (arith, s .states), (change, rw (← l) (entries-fit (f .width) (noneOf f) (fr .entries) (omega (arith, s .states)) (within-less (f .states) (noneOf f) (fr .entries) none-room frame-within))))
 
-  frame-count : length (frameWidths f n) ≡ length (frameNumbers f state fr)
-  frame-count = ap (λ (k : ℕ). suc (suc k)) (length-replicate n (f .width) ∙ sym l ∙ sym (length-map (fr .entries) (entryOf (noneOf f))))
+    frame-count : length (frameWidths f n) ≡ length (frameNumbers f state fr)
+    frame-count = ap (λ (k : ℕ). suc (suc k)) (length-replicate n (f .width) ∙ sym l ∙ sym (length-map (fr .entries) (entryOf (noneOf f))))
 
-  frame-length : length (written (frameWidths f n) (frameNumbers f state fr)) ≡ frameDigits f n
-  frame-length = written-length (frameWidths f n) (frameNumbers f state fr) frame-count ∙ frame-total f n
+    frame-length : length (written (frameWidths f n) (frameNumbers f state fr)) ≡ frameDigits f n
+    frame-length = written-length (frameWidths f n) (frameNumbers f state fr) frame-count ∙ frame-total f n
 
-  frame-reads : numbers (frameWidths f n) (frameLine f start n state fr ++ rest) ≡ frameNumbers f state fr
-  unfolding frameLine lineOf
-  frame-reads =
-      ap (numbers (frameWidths f n)) (split (written (frameWidths f n) (frameNumbers f state fr)) (digits 4 (checkOf (summed start (written (frameWidths f n) (frameNumbers f state fr))))))
-      ∙ numbers-written (frameWidths f n) (frameNumbers f state fr) (digits 4 (checkOf (summed start (written (frameWidths f n) (frameNumbers f state fr)))) ++ (10 ∷ rest)) frame-fits
-    where
-      split : (body check : List ℕ) → body ++ check ++ (10 ∷ []) ++ rest ≡ body ++ (check ++ (10 ∷ rest))
-      split body check = simp append-assoc
+    frame-reads : numbers (frameWidths f n) (frameLine f start n state fr ++ rest) ≡ frameNumbers f state fr
+    unfolding frameLine lineOf
+    frame-reads =
+        ap (numbers (frameWidths f n)) (split (written (frameWidths f n) (frameNumbers f state fr)) (digits 4 (checkOf (summed start (written (frameWidths f n) (frameNumbers f state fr))))))
+        ∙ numbers-written (frameWidths f n) (frameNumbers f state fr) (digits 4 (checkOf (summed start (written (frameWidths f n) (frameNumbers f state fr)))) ++ (10 ∷ rest)) frame-fits
+      where
+        split : (body check : List ℕ) → body ++ check ++ (10 ∷ []) ++ rest ≡ body ++ (check ++ (10 ∷ rest))
+        split body check = simp append-assoc
 
-  told : frameNumbers f (stateIn f (frameLine f start n state fr ++ rest)) (frameIn f n (frameLine f start n state fr ++ rest)) ≡ frameNumbers f state fr
-  told = frame-numbers f n (frameLine f start n state fr ++ rest) ∙ frame-reads
+    told : frameNumbers f (stateIn f (frameLine f start n state fr ++ rest)) (frameIn f n (frameLine f start n state fr ++ rest)) ≡ frameNumbers f state fr
+    told = frame-numbers f n (frameLine f start n state fr ++ rest) ∙ frame-reads
 
-  pub state-back : stateIn f (frameLine f start n state fr ++ rest) ≡ state
-  state-back = ap (λ (xs : List ℕ). getD xs 0 0) told
+    pub state-back : stateIn f (frameLine f start n state fr ++ rest) ≡ state
+    state-back = ap (λ (xs : List ℕ). getD xs 0 0) told
 
-  pub frame-back : frameIn f n (frameLine f start n state fr ++ rest) ≡ fr
-  unfolding frameIn entriesIn
-  frame-back = λ i. record { change = ap (λ (xs : List ℕ). getD xs 1 0) told i; entries = entries-told i }
-    where
-      entries-told : frameIn f n (frameLine f start n state fr ++ rest) .entries ≡ fr .entries
-      entries-told =
-          ap (map (dependency (noneOf f))) (ap (numbers (replicate n (f .width))) (sym (drop-drop 8 (f .width) (frameLine f start n state fr ++ rest))) ∙ ap (λ (xs : List ℕ). drop 2 xs) frame-reads)
-          ∙ entries-back (noneOf f) (fr .entries) (within-less (f .states) (noneOf f) (fr .entries) none-room frame-within)
+    pub frame-back : frameIn f n (frameLine f start n state fr ++ rest) ≡ fr
+    unfolding frameIn entriesIn
+    frame-back = λ i. record { change = ap (λ (xs : List ℕ). getD xs 1 0) told i; entries = entries-told i }
+      where
+        entries-told : frameIn f n (frameLine f start n state fr ++ rest) .entries ≡ fr .entries
+        entries-told =
+            ap (map (dependency (noneOf f))) (ap (numbers (replicate n (f .width))) (sym (drop-drop 8 (f .width) (frameLine f start n state fr ++ rest))) ∙ ap (λ (xs : List ℕ). drop 2 xs) frame-reads)
+            ∙ entries-back (noneOf f) (fr .entries) (within-less (f .states) (noneOf f) (fr .entries) none-room frame-within)
 
-  pub frame-rest : drop (frameDigits f n + 5) (frameLine f start n state fr ++ rest) ≡ rest
-  unfolding frameLine
-  frame-rest = line-rest start (frameDigits f n) (written (frameWidths f n) (frameNumbers f state fr)) rest (written-all (frameWidths f n) (frameNumbers f state fr)) frame-length
+    pub frame-rest : drop (frameDigits f n + 5) (frameLine f start n state fr ++ rest) ≡ rest
+    unfolding frameLine
+    frame-rest = line-rest start (frameDigits f n) (written (frameWidths f n) (frameNumbers f state fr)) rest (written-all (frameWidths f n) (frameNumbers f state fr)) frame-length
 
-  pub frame-accepted : frameVerdict f start card n state last (frameLine f start n state fr ++ rest) ≡ Accepted
-  unfolding frameVerdict frameLine
-  frame-accepted = rw (state-back, frame-back) (passes BadFrame (shaped-whole (frameDigits f n) (frameLine f start n state fr ++ rest) well-shaped) well-checked a)
-    where
-      well-shaped : shaped (frameDigits f n) (frameLine f start n state fr ++ rest) ≡ true
-      well-shaped = line-shaped start (frameDigits f n) (written (frameWidths f n) (frameNumbers f state fr)) rest (written-all (frameWidths f n) (frameNumbers f state fr)) frame-length
+    pub frame-accepted : frameVerdict f start card n state last (frameLine f start n state fr ++ rest) ≡ Accepted
+    unfolding frameVerdict frameLine
+    frame-accepted = rw (state-back, frame-back) (passes BadFrame (shaped-whole (frameDigits f n) (frameLine f start n state fr ++ rest) well-shaped) well-checked a)
+      where
+        well-shaped : shaped (frameDigits f n) (frameLine f start n state fr ++ rest) ≡ true
+        well-shaped = line-shaped start (frameDigits f n) (written (frameWidths f n) (frameNumbers f state fr)) rest (written-all (frameWidths f n) (frameNumbers f state fr)) frame-length
 
-      well-checked : checked start (frameDigits f n) (frameLine f start n state fr ++ rest) ≡ true
-      well-checked =
-          line-checked start (frameDigits f n) (written (frameWidths f n) (frameNumbers f state fr)) rest (written-all (frameWidths f n) (frameNumbers f state fr)) frame-length
-          (check-small start (written (frameWidths f n) (frameNumbers f state fr)) p q)
+        well-checked : checked start (frameDigits f n) (frameLine f start n state fr ++ rest) ≡ true
+        well-checked =
+            line-checked start (frameDigits f n) (written (frameWidths f n) (frameNumbers f state fr)) rest (written-all (frameWidths f n) (frameNumbers f state fr)) frame-length
+            (check-small start (written (frameWidths f n) (frameNumbers f state fr)) p q)
 
 -- a frame line that is accepted is the line that is written of what was read
 pub frame-again :
@@ -277,12 +277,12 @@ frame-again f start card n state last input e =
     let k = frameDigits f n in
     let w = whole-shaped k input (p .whole) in
     let t : stateIn f input ≡ state =
-        eqb-true (stateIn f input) state (and-left (eqb (stateIn f input) state) (ltb (last .change) (frameIn f n input .change) && entriesAllowed f card state n (last .entries) (frameIn f n input .entries)) (p .allowed-is))
+    eqb-true (stateIn f input) state (and-left (eqb (stateIn f input) state) (ltb (last .change) (frameIn f n input .change) && entriesAllowed f card state n (last .entries) (frameIn f n input .entries)) (p .allowed-is))
     in
     let b : written (frameWidths f n) (frameNumbers f state (frameIn f n input)) ≡ take k input =
-        ap (λ (x : ℕ). written (frameWidths f n) (frameNumbers f x (frameIn f n input))) (sym t)
-        ∙ ap (written (frameWidths f n)) (frame-numbers f n input)
-        ∙ own-numbers (frameWidths f n) input k (frame-total f n) (body-length start k input w) (body-all start k input w)
+    ap (λ (x : ℕ). written (frameWidths f n) (frameNumbers f x (frameIn f n input))) (sym t)
+    ∙ ap (written (frameWidths f n)) (frame-numbers f n input)
+    ∙ own-numbers (frameWidths f n) input k (frame-total f n) (body-length start k input w) (body-all start k input w)
     in
     ap (λ (x : List ℕ). lineOf start x ++ drop (k + 5) input) b ∙ ap (λ (x : List ℕ). x ++ drop (k + 5) input) (sym (line-bytes start k input w (p .right-is))) ∙ take-append-drop (k + 5) input
 

@@ -15,7 +15,7 @@ use Rattle.laws.proofs.Logic.{test, clash, fails, and-left, and-right, and-intr
 use Rattle.laws.proofs.Below.{Found, any-elim, any-intro, all-same, any-same, first-below, selected-first}
 use Rattle.laws.proofs.Fill.{tabulate-same}
 use Rattle.refusal.specs.declared.Refusal.{Refusal}
-use Rattle.frame.specs.Format.{Format}
+use Rattle.sheet.specs.declared.Reading.{Reading}
 use Rattle.history.specs.Change.{CardSet, Change, History, Numbers, touches, writers, made, historyOf, Cut, On}
 use Rattle.history.specs.Vector.{Vector, stateVector, IsVector}
 use Rattle.history.specs.Line.{wrote, inLine, lost}
@@ -27,10 +27,10 @@ use Rattle.protocol.specs.Model.{Limits, Phase, up, down, rolling, isUp,
 use Rattle.protocol.specs.Edit.{put, Edit, fall, halt, lower, renew, editedAll}
 use Rattle.protocol.specs.Plan.{CardRow, Answer, done, safe, unsafe, fixed, Reply, accepted, refused, Check, Plan, checked, afterPlan}
 use Rattle.protocol.specs.Calls.{lineOf, cardRows, someFrameAbove, hasFrame, writesLeft, isSafe, isLost, safeChecks, loseChecks, fixChecks, rollChecks, allRolled}
-use Rattle.protocol.specs.Sheets.{sheetOf, pageStored}
+use Rattle.protocol.specs.Sheets.{sheetOf, pageStored, restarted}
 use Rattle.protocol.specs.Journal.{Journal, Fixing, fixing}
-use Rattle.protocol.specs.Run.{Call, openCall, voteCall, takeCall, withdrawCall, storeCall, trimCall, safeCall, loseCall, fixCall, rollCall, sheetCall, Choice, Proper, planOf, Calls, none, further, Run, start, next, journal, lineNoted, lastKept}
-use Rattle.protocol.specs.Demands.{H, decisions, VectorsRight, FixRight, RollRight, SafeRight, CallRight, CabinetRight, Throughout, Demands}
+use Rattle.protocol.specs.Run.{Call, openCall, voteCall, takeCall, withdrawCall, storeCall, trimCall, safeCall, loseCall, fixCall, rollCall, sheetCall, restartCall, Choice, Proper, planOf, afterCall, Calls, none, further, Run, start, next, journal, lineNoted, lastKept}
+use Rattle.protocol.specs.Demands.{H, decisions, VectorsRight, FixRight, RollRight, SafeRight, CallRight, RestartsTo, CabinetRight, Throughout, RestartsRolling, SheetLimits, Demands}
 use Rattle.protocol.proofs.Taking.{put-same}
 use Rattle.protocol.proofs.Intact.{lineAt, line-same}
 use Rattle.protocol.proofs.Places.{Stood}
@@ -41,12 +41,12 @@ use Rattle.protocol.proofs.Lost.{Above, Numbered-as, frames-above, abov
 use Rattle.protocol.proofs.Steps.{Passed, checked-case, not-not, card-below, known-place, up-only}
 use Rattle.protocol.proofs.Invariant.{RollingBack, Invariant, invariant-sound}
 use Rattle.protocol.proofs.Claims.{not-both}
-use Rattle.protocol.proofs.Lists.{run-invariant, vectors-right, base-stored}
+use Rattle.protocol.proofs.Lists.{run-invariant, vectors-right, base-stored, joined-back, line-back}
 use Rattle.protocol.proofs.Kept.{stored-last}
 
 -- what an accepted plan answers
 pub answered : (P : Answer → Plan → Type 0) (cs : List Check) (a : Answer) (es : List Edit) → (Passed cs → P a (record { reply = accepted a; edits = es }))
-  → (b : Answer) → checked cs a es .reply ≡ accepted b → P b (checked cs a es)
+    → (b : Answer) → checked cs a es .reply ≡ accepted b → P b (checked cs a es)
 answered P cs a es f =
     checked-case (λ (p : Plan). (b : Answer) → p .reply ≡ accepted b → P b p) cs a es (λ r b e. not-both b r (sym e))
     (λ ps b e. let q : a ≡ b = cc in subst (λ (y : Answer). P y (record { reply = accepted a; edits = es })) q (f ps))
@@ -107,6 +107,7 @@ module _ (L : Limits) (n : ℕ) (few : n ≤ L .width) (m : Model) (j : Journal)
       where
         sv : ℕ → ℕ → Vector
         sv = stateVector (L .width) (H j) (j .start) (decisions j)
+
         sr : IsVector (L .width) (H j) (j .start) (decisions j) sv
         sr = state-vector-is (L .width) (H j) (j .start) (decisions j)
 
@@ -117,8 +118,10 @@ module _ (L : Limits) (n : ℕ) (few : n ≤ L .width) (m : Model) (j : Journal)
     where
       r : RollingBack L m j
       r = rolls e
+
       noted-line : m .line c ≡ lineNoted (j .fix) c
       noted-line = sym (ap (λ (f : Fixing). lineNoted f c) (r .notes .is-noted) ∙ r .notes .line-is c l)
+
       four : RollRight j c (editedAll L (lower c ∷ renew ∷ []) m)
       four =
           record {
@@ -127,6 +130,7 @@ module _ (L : Limits) (n : ℕ) (few : n ≤ L .width) (m : Model) (j : Journal)
             held = put-same (m .numbers .held) c (m .line c) ∙ noted-line;
             reached = put-same (m .numbers .reached) c (m .line c) ∙ noted-line;
           }
+
       four′ : RollRight j c (editedAll L (lower c ∷ []) m)
       four′ =
           record {
@@ -163,7 +167,7 @@ module _ (L : Limits) (n : ℕ) (few : n ≤ L .width) (m : Model) (j : Journal)
           let same : H j i ≡ m .place (s .p) .change = ap (H j) (sym (s .is-at)) ∙ st .change-is in
           let num : m .place (s .p) .change .number ≡ k = ap (λ (t : Change). t .number) (sym same) ∙ e in
           let kn : isKnown L m k ≡ true = lt-ltb (placeOf L m k) (L .places) (first-below (L .places) (λ p. isOpen (m .place p) && eqb (m .place p .change .number) k)
-            (any-intro (L .places) (λ p. isOpen (m .place p) && eqb (m .place p .change .number) k) (s .p) (s .is-place) (and-intro (s .is-open) (eq-eqb (m .place (s .p) .change .number) k num)))) in
+          (any-intro (L .places) (λ p. isOpen (m .place p) && eqb (m .place p .change .number) k) (s .p) (s .is-place) (and-intro (s .is-open) (eq-eqb (m .place (s .p) .change .number) k num)))) in
           let kp : (placeOf L m k < L .places) × (isOpen (m .place (placeOf L m k)) ≡ true) × (m .place (placeOf L m k) .change .number ≡ k) = known-place L m k kn in
           let q : s .p ≡ placeOf L m k = by-cases (ℕ-discrete (s .p) (placeOf L m k)) (λ (y : s .p ≡ placeOf L m k). y) (λ y. absurd (r .places-open .apart (s .p) (placeOf L m k) (s .is-place) (kp .0) y (s .is-open) (kp .1) (num ∙ sym (kp .2)))) in
           let tw : toWrite (m .place (s .p)) c ≡ true = and-intro (rw same at wr) (not-intro (sym (st .taken-is c l) ∙ ap (λ (x : ℕ). r .took x c) (s .is-at) ∙ nt)) in
@@ -174,8 +178,10 @@ module _ (L : Limits) (n : ℕ) (few : n ≤ L .width) (m : Model) (j : Journal)
         where
           none-above : someFrameAbove L m k (m .numbers .stored) ≡ false
           none-above = not-true (someFrameAbove L m k (m .numbers .stored)) (and-left (not (someFrameAbove L m k (m .numbers .stored))) (not (writesLeft L m k)) z)
+
           none-left : writesLeft L m k ≡ false
           none-left = not-true (writesLeft L m k) (and-right (not (someFrameAbove L m k (m .numbers .stored))) (not (writesLeft L m k)) z)
+
           not-stored : ¬ (made (H j) (j .start) i c ≤ j .stored c) → ⊥
           not-stored y =
               let above : Above (L .width) (H j) (j .start) (m .numbers .stored) i = record { c = c; is-card = l; wrote-it = wr; is-above = omega (arith, y, r .stored-is c l) } in
@@ -192,6 +198,7 @@ module _ (L : Limits) (n : ℕ) (few : n ≤ L .width) (m : Model) (j : Journal)
               let s : q .0 .i ≡ i = one-change (q .0 .i) i (q .0 .in-history) h (q .0 .is-number) e in
               let u : Above (L .width) (H j) (j .start) (m .numbers .stored) i = rw s at (q .1) in
               omega (arith, all (u .c) (u .is-card) (u .wrote-it), u .is-above, r .stored-is (u .c) (u .is-card))
+
           no-place : writesLeft L m k ≡ true → ⊥
           no-place z =
               let kn : isKnown L m k ≡ true = and-left (isKnown L m k) (awaitsWrite L (m .place (placeOf L m k))) z in
@@ -209,7 +216,7 @@ module _ (L : Limits) (n : ℕ) (few : n ≤ L .width) (m : Model) (j : Journal)
     safe-right : hasFrame L m k ≡ true → SafeRight L j k (cond (isSafe L m k) safe unsafe)
     safe-right z =
         let q : (y : Numbered-as (H j) (decisions j) k) × Above (L .width) (H j) (j .start) (m .numbers .base) (y .i) =
-          frames-above L m j r (H j) b (m .numbers .base) (λ c l. le-refl (m .numbers .base c)) k (and-right (not (eqb k 0)) (someFrameAbove L m k (m .numbers .base)) z) in
+        frames-above L m j r (H j) b (m .numbers .base) (λ c l. le-refl (m .numbers .base c)) k (and-right (not (eqb k 0)) (someFrameAbove L m k (m .numbers .base)) z) in
         record {
           i = q .0 .i;
           decided = q .0 .in-history;
@@ -221,31 +228,32 @@ module _ (L : Limits) (n : ℕ) (few : n ≤ L .width) (m : Model) (j : Journal)
         is-safe e = test (isSafe L m k) (λ y. y) (λ y. let d : unsafe ≡ safe = sym (ap (λ (x : Bool). cond x safe unsafe) y) ∙ e in let u : _≡_ {A = ℕ} 0 1 = cc in absurd (omega arith))
 
 -- ---- each accepted call of a list
-call-right : (F : Format) (L : Limits) (n : ℕ) → 1 ≤ n → n ≤ L .width → {cs : Calls} {m : Model} → Run F L n cs m → (call : Call) (x : Choice) → Proper L m call x
-  → (a : Answer) → planOf F L m call x .reply ≡ accepted a → CallRight L n cs call a m (afterPlan L (planOf F L m call x) m)
-call-right F L n low high r (openCall reads writes) x p a e = tt
-call-right F L n low high r (voteCall k c agrees) x p a e = tt
-call-right F L n low high r (takeCall k c) x p a e = tt
-call-right F L n low high r (withdrawCall k) x p a e = tt
-call-right F L n low high r (storeCall c s) x p a e = tt
-call-right F L n low high r trimCall x p a e = tt
-call-right F L n low high {cs} {m} r (safeCall k) x p a e =
+call-right : (L : Limits) → SheetLimits L → (n : ℕ) → 1 ≤ n → n ≤ L .width → {cs : Calls} {m : Model} (r : Run L n cs m) → RestartsRolling r → (call : Call) (x : Choice) → Proper L m call x
+    → (a : Answer) → planOf L m call x .reply ≡ accepted a → CallRight L n cs call a m (afterCall L m call x)
+call-right L lim n low high r w (openCall reads writes) x p a e = tt
+call-right L lim n low high r w (voteCall k c agrees) x p a e = tt
+call-right L lim n low high r w (takeCall k c) x p a e = tt
+call-right L lim n low high r w (withdrawCall k) x p a e = tt
+call-right L lim n low high r w (storeCall c s) x p a e = tt
+call-right L lim n low high r w trimCall x p a e = tt
+call-right L lim n low high {cs} {m} r w (safeCall k) x p a e =
     answered (λ (b : Answer) (q : Plan). SafeRight L (journal L n cs) k b) (safeChecks L m k) _ _
     (λ ps. safe-right L n high m (journal L n cs) v (runs L n high m (journal L n cs) v (up-runs (not-not (isUp (m .phase)) (ps .1 .0)))) (not-not (isUp (m .phase)) (ps .1 .0)) k (not-not (hasFrame L m k) (ps .1 .1 .0))) a e
   where
     v : Invariant L n m (journal L n cs)
-    v = run-invariant low high r
+    v = run-invariant lim low high r w
+
     up-runs : isUp (m .phase) ≡ true → isRolling (m .phase) ≡ false
     up-runs = up-only (m .phase)
-call-right F L n low high {cs} {m} r (loseCall cards) x p a e =
+call-right L lim n low high {cs} {m} r w (loseCall cards) x p a e =
     answered (λ (b : Answer) (q : Plan). (c : ℕ) → c < n → cards c ≡ true → afterPlan L q m .numbers .held c ≡ lastKept L n cs c) (loseChecks L m cards) _ _
-    (λ ps c h here. held-falls c here ∙ stored-last low high r c h) a e
+    (λ ps c h here. held-falls c here ∙ stored-last lim low high r w c h) a e
   where
     held-falls : (c : ℕ) → cards c ≡ true → editedAll L (fall cards ∷ cond (isUp (m .phase)) (halt ∷ []) []) m .numbers .held c ≡ m .numbers .stored c
     held-falls c here =
         cond-case (λ (es : List Edit). editedAll L (fall cards ∷ es) m .numbers .held c ≡ m .numbers .stored c) (isUp (m .phase)) (λ y. rw here) (λ y. rw here)
-call-right F L n low high {cs} {m} r (fixCall u w) x p a e =
-    answered (λ (b : Answer) (q : Plan). (rows : List CardRow) (numbers : List ℕ) → b ≡ fixed rows numbers → FixRight L n (journal L n cs) rows numbers) (fixChecks L m u w (x .lost)) _ _
+call-right L lim n low high {cs} {m} r w (fixCall u z) x p a e =
+    answered (λ (b : Answer) (q : Plan). (rows : List CardRow) (numbers : List ℕ) → b ≡ fixed rows numbers → FixRight L n (journal L n cs) rows numbers) (fixChecks L m u z (x .lost)) _ _
     (λ ps rows numbers y.
     let rows-same : cardRows L m ≡ rows = cc in
     let numbers-same : x .lost ≡ numbers = cc in
@@ -253,34 +261,50 @@ call-right F L n low high {cs} {m} r (fixCall u w) x p a e =
     (fix-right L n high m (journal L n cs) v (runs L n high m (journal L n cs) v (down-runs (m .phase) (not-not (isDown (m .phase)) (ps .1 .0)))) (not-not (isDown (m .phase)) (ps .1 .0)) (x .lost) p)) a e
   where
     v : Invariant L n m (journal L n cs)
-    v = run-invariant low high r
+    v = run-invariant lim low high r w
+
     down-runs : (q : Phase) → isDown q ≡ true → isRolling q ≡ false
     down-runs up z = refl
     down-runs down z = refl
     down-runs rolling z = clash z refl
-call-right F L n low high {cs} {m} r (rollCall c) x p a e =
+call-right L lim n low high {cs} {m} r w (rollCall c) x p a e =
     answered (λ (b : Answer) (q : Plan). RollRight (journal L n cs) c (afterPlan L q m)) (rollChecks L m c) _ _
-    (λ ps. roll-right L n high m (journal L n cs) (run-invariant low high r) c (card-below L m c (not-not (isCard L m c) (ps .1 .0))) (not-not (isRolling (m .phase)) (ps .1 .1 .0))) a e
-call-right F L n low high r (sheetCall c places) x p a e = tt
+    (λ ps. roll-right L n high m (journal L n cs) (run-invariant lim low high r w) c (card-below L m c (not-not (isCard L m c) (ps .1 .0))) (not-not (isRolling (m .phase)) (ps .1 .1 .0))) a e
+call-right L lim n low high r w (sheetCall c places) x p a e = tt
+call-right L lim n low high r w restartCall x p a e = tt
 
-cabinet-right : (F : Format) (L : Limits) (n : ℕ) → 1 ≤ n → n ≤ L .width → {cs : Calls} {m : Model} → Run F L n cs m → CabinetRight L n cs m
-cabinet-right F L n low high {cs} {m} r =
+cabinet-right : (L : Limits) → SheetLimits L → (n : ℕ) → 1 ≤ n → n ≤ L .width → {cs : Calls} {m : Model} (r : Run L n cs m) → RestartsRolling r → CabinetRight L n cs m
+cabinet-right L lim n low high {cs} {m} r w =
     record {
       never-28 = invariant-sound L n m (journal L n cs) v;
       vectors = vectors-right L n m (journal L n cs) v;
-      stored-kept = stored-last low high r;
-      sheet-kept = λ c h. whole c (omega arith) ∙ stored-last low high r c h;
+      stored-kept = stored-last lim low high r w;
+      sheet-kept = λ c h. whole c (omega arith) ∙ stored-last lim low high r w c h;
+      sheets-give-line = λ line marked e. ⊎-elim
+          (λ (q : Running L m (journal L n cs)). let z : _≡_ {A = ℕ} 0 1 = cc (e, q .not-fixed) in absurd (omega arith))
+          (λ (q : RollingBack L m (journal L n cs)). give-line line marked e q) (v .state);
+      restart-accepted = λ e. ap (λ (x : Reading). x .verdict) (joined-back L lim n low high m (journal L n cs) v (rolls L n high m (journal L n cs) v e));
     }
   where
     v : Invariant L n m (journal L n cs)
-    v = run-invariant low high r
+    v = run-invariant lim low high r w
+
+    give-line : (line : Numbers) (marked : CardSet) → journal L n cs .fix ≡ fixing line marked → RollingBack L m (journal L n cs) → RestartsTo L n m line
+    give-line line marked e q =
+        let same : q .notes .line ≡ line = cc (e, q .notes .is-noted) in
+        record {
+          accepted-so = ap (λ (x : Reading). x .verdict) (joined-back L lim n low high m (journal L n cs) v q);
+          same-line = λ c h. ap (λ (x : Reading). restarted L (x .readout) .line c) (joined-back L lim n low high m (journal L n cs) v q) ∙ line-back L lim n low high m (journal L n cs) v q c (omega arith)
+              ∙ sym (q .notes .line-is c (omega arith)) ∙ ap (λ (f : Numbers). f c) same;
+        }
+
     whole : (c : ℕ) → c < L .width → m .numbers .base c + (m .numbers .stored c - m .numbers .base c) ≡ m .numbers .stored c
     whole c l = omega (arith, base-stored L n m (journal L n cs) v c l)
 
--- demands 2 and 3, for every list of calls
-pub demands : (F : Format) (L : Limits) → Demands F L
-demands F L n low high cs m r = throughout r
+-- demands 2 and 3, for every list of calls in which every restart stands in phase rolling
+pub demands : (L : Limits) → SheetLimits L → Demands L
+demands L lim n low high cs m r w = throughout r w
   where
-    throughout : {cs : Calls} {m : Model} (r : Run F L n cs m) → Throughout r
-    throughout start = cabinet-right F L n low high start
-    throughout (next r call x p) = (throughout r, call-right F L n low high r call x p, cabinet-right F L n low high (next r call x p))
+    throughout : {cs : Calls} {m : Model} (r : Run L n cs m) → RestartsRolling r → Throughout r
+    throughout start w = cabinet-right L lim n low high start w
+    throughout (next r call x p) w = (throughout r (w .0), call-right L lim n low high r (w .0) call x p, cabinet-right L lim n low high (next r call x p) w)

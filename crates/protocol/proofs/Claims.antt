@@ -17,13 +17,15 @@ use Rattle.laws.proofs.Fill.{tabulate-same}
 use Rattle.refusal.specs.declared.Refusal.{Refusal}
 use Rattle.refusal.specs.declared.Refusal.the-variants.{CardCount, NoSuchCard, BothSetsEmpty, TooShort, BadLine, BadCheck, BadHeader, EndOrMore, BadFrame, TwoVectors, SessionsApart, TooLong, WrongPhase, Barred, NoPlace, InHandFull, LimitReached, NotAwaited, AlreadyDecided, StoreOutside, BadCabinet, NotDecided, AlreadyRolled}
 use Rattle.refusal.specs.Number.{numberOf}
-use Rattle.frame.specs.Format.{Format}
+use Rattle.frame.specs.declared.Verdict.{Verdict}
+use Rattle.frame.specs.declared.Verdict.the-variants.{Accepted, Refused}
+use Rattle.frame.specs.Format.{format}
 use Rattle.protocol.specs.Model.{Limits, Model}
 use Rattle.protocol.specs.Edit.{Edit}
-use Rattle.protocol.specs.Plan.{Answer, Reply, accepted, refused, Check, Plan, checked, afterPlan}
+use Rattle.protocol.specs.Plan.{Answer, done, Reply, accepted, refused, Check, Plan, checked, afterPlan}
 use Rattle.protocol.specs.Calls.{openChecks, voteChecks, takeChecks, withdrawChecks, storeChecks, trimChecks, safeChecks, loseChecks, fixChecks, rollChecks}
-use Rattle.protocol.specs.Sheets.{sheetChecks}
-use Rattle.protocol.specs.Run.{Call, openCall, voteCall, takeCall, withdrawCall, storeCall, trimCall, safeCall, loseCall, fixCall, rollCall, sheetCall, Choice, planOf}
+use Rattle.protocol.specs.Sheets.{sheetChecks, joinedSheets, restartReply, restartedFrom}
+use Rattle.protocol.specs.Run.{Call, openCall, voteCall, takeCall, withdrawCall, storeCall, trimCall, safeCall, loseCall, fixCall, rollCall, sheetCall, restartCall, Choice, planOf, afterCall, verdictReply, verdictCabinet}
 use Rattle.protocol.specs.Demands.{Listed, Refuses, Demand1}
 use Rattle.protocol.proofs.Steps.{checked-case}
 
@@ -61,9 +63,9 @@ refusal-keeps L m cs a es =
     checked-case (λ (p : Plan). (r : Refusal) → p .reply ≡ refused r → afterPlan L p m ≡ m) cs a es (λ x r e. refl) (λ ps r e. not-both a r e)
 
 pub demand-1 : Demand1
-demand-1 F L m call x = record { listed = λ r e. all-listed r; unchanged = unchanged call }
+demand-1 L m call x = record { listed = λ r e. all-listed r; unchanged = unchanged call }
   where
-    unchanged : (call : Call) (r : Refusal) → planOf F L m call x .reply ≡ refused r → afterPlan L (planOf F L m call x) m ≡ m
+    unchanged : (call : Call) (r : Refusal) → planOf L m call x .reply ≡ refused r → afterCall L m call x ≡ m
     unchanged (openCall reads writes) = refusal-keeps L m (openChecks L m reads writes (x .named)) _ _
     unchanged (voteCall k c agrees) = refusal-keeps L m (voteChecks L m k c) _ _
     unchanged (takeCall k c) = refusal-keeps L m (takeChecks L m k c) _ _
@@ -74,4 +76,9 @@ demand-1 F L m call x = record { listed = λ r e. all-listed r; unchanged = unch
     unchanged (loseCall cards) = refusal-keeps L m (loseChecks L m cards) _ _
     unchanged (fixCall a b) = refusal-keeps L m (fixChecks L m a b (x .lost)) _ _
     unchanged (rollCall c) = refusal-keeps L m (rollChecks L m c) _ _
-    unchanged (sheetCall c places) = refusal-keeps L m (sheetChecks F L m c places) _ _
+    unchanged (sheetCall c places) = refusal-keeps L m (sheetChecks format L m c places) _ _
+    unchanged restartCall = by-verdict (restartReply (joinedSheets format L m))
+      where
+        by-verdict : (v : Verdict) (r : Refusal) → verdictReply v ≡ refused r → verdictCabinet v (restartedFrom L (joinedSheets format L m)) m ≡ m
+        by-verdict Accepted r e = not-both done r e
+        by-verdict (Refused q) r e = refl

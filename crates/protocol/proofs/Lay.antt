@@ -28,10 +28,13 @@ module _ {A : Type 0} (d : A) where
     where
       before : q < i → q < suc i
       before h = omega arith
+
       behind : i + suc (length vs) ≤ q → suc i + length vs ≤ q
       behind h = omega arith
+
       lower : q < i → ¬ (q ≡ i)
       lower h e = omega arith
+
       higher : i + suc (length vs) ≤ q → ¬ (q ≡ i)
       higher h e = omega arith
 
@@ -97,7 +100,7 @@ length-padded es = length-sets (replicate 16 0) 0 es ∙ length-replicate {A = �
 module _ (card : ℕ) (is-card : card < 16) where
   -- what is laid elsewhere stays
   frames-heads : (state k : ℕ) (frs : List Frame) (r : Readout)
-    → (layFrames card state k frs r .sessions ≡ r .sessions) × (layFrames card state k frs r .bases ≡ r .bases) × (layFrames card state k frs r .cards ≡ r .cards)
+      → (layFrames card state k frs r .sessions ≡ r .sessions) × (layFrames card state k frs r .bases ≡ r .bases) × (layFrames card state k frs r .cards ≡ r .cards)
   frames-heads state k [] r = (refl, refl, refl)
   frames-heads state k (fr ∷ frs) r = frames-heads (state + 1) (k + 1) frs (layFrame card state k fr r)
 
@@ -122,10 +125,13 @@ module _ (card : ℕ) (is-card : card < 16) where
     where
       later : {i : ℕ} → i < length frs → suc i < suc (length frs)
       later h = omega arith
+
       next : (i : ℕ) → state + 1 + i ≡ state + suc i
       next i = omega arith
+
       first : 0 < suc (length frs)
       first = omega arith
+
       now : state ≡ state + 0
       now = omega arith
 
@@ -150,26 +156,31 @@ module _ (card : ℕ) (is-card : card < 16) where
     where
       later : {i : ℕ} → i < length frs → suc i < suc (length frs)
       later h = omega arith
+
       next : (i : ℕ) → state + 1 + i ≡ state + suc i
       next i = omega arith
+
       differs : ¬ (q ≡ placeOf card state)
       differs e = f 0 (first) (e ∙ ap (placeOf card) now)
         where
           first : 0 < suc (length frs)
           first = omega arith
+
           now : state ≡ state + 0
           now = omega arith
+
       apart : (q * 16 + j < placeOf card state * 16) ⊎ (placeOf card state * 16 + length (padded (fr .entries)) ≤ q * 16 + j)
       apart =
           by-cases (decLt q (placeOf card state)) (λ h. inl (below h)) (λ h. inr (above h))
         where
           below : q < placeOf card state → q * 16 + j < placeOf card state * 16
           below h = omega arith
+
           above : ¬ (q < placeOf card state) → placeOf card state * 16 + length (padded (fr .entries)) ≤ q * 16 + j
           above h = let ne = differs in omega (arith, h, ne, length-padded (fr .entries))
 
   entries-own : (state k : ℕ) (frs : List Frame) (r : Readout) → Sized r → length frs ≤ 48 → (i j : ℕ) (fr₀ : Frame) → i < length frs → j < 16
-    → getD (layFrames card state k frs r .entries) (placeOf card (state + i) * 16 + j) 0 ≡ getD (padded (getD frs i fr₀ .entries)) j 0
+      → getD (layFrames card state k frs r .entries) (placeOf card (state + i) * 16 + j) 0 ≡ getD (padded (getD frs i fr₀ .entries)) j 0
   entries-own state k [] r s few i j fr₀ h lj = absurd (not-suc-le-zero h)
   entries-own state k (fr ∷ frs) r s few zero j fr₀ h lj =
       let now : state + 0 ≡ state = omega arith in
@@ -225,17 +236,22 @@ laid-holds page (suc n) few cards short =
   where
     less : suc n ≤ 16 → n ≤ 16
     less h = omega arith
+
     wider : {c : ℕ} → c < n → c < suc n
     wider h = omega arith
+
     own : page n .header .card ≡ n
     own = cards n (here)
       where
         here : n < suc n
         here = omega arith
+
     r : Readout
     r = layPages (tabulate n page) noReadout
+
     h₀ : Header
     h₀ = page n .header
+
     step : Holds n page (layPages (tabulate n page) noReadout) → Holds (suc n) page (layPage (page n) (layPages (tabulate n page) noReadout))
     step k =
         rw own
@@ -246,11 +262,11 @@ laid-holds page (suc n) few cards short =
           base = λ c h. ⊎-elim (λ (q : c ≡ n). rw q (at-heads .1 n ∙ getD-set-same (r .bases) n (h₀ .base) 0 (room (r .bases) (k .sized .bases)))) (λ (l : c < n). at-heads .1 c ∙ getD-set-other (r .bases) n c (h₀ .base) 0 (λ q. absurd (omega (arith, l, q))) ∙ k .base c l) (below-suc h);
           count = λ c h. ⊎-elim (λ (q : c ≡ n). rw q (counts-own n is-card (h₀ .base + 1) 0 (page n .frames) headed headed-sized (k .no-count n (same n)) ∙ zero-add′ (length (page n .frames)))) (λ (l : c < n). counts-other n is-card (h₀ .base + 1) 0 (page n .frames) headed c (λ q. absurd (omega (arith, l, q))) ∙ k .count c l) (below-suc h);
           change = λ c i fr₀ h li. ⊎-elim
-            (λ (q : c ≡ n). rw q (changes-own n is-card (h₀ .base + 1) 0 (page n .frames) headed headed-sized (short n (next n)) i fr₀ (rw q at li)))
-            (λ (l : c < n). changes-other n is-card (h₀ .base + 1) 0 (page n .frames) headed (placeOf c (page c .header .base + 1 + i)) (λ i′ l′ e. absurd (omega (arith, l, e))) ∙ k .change c i fr₀ l li) (below-suc h);
+              (λ (q : c ≡ n). rw q (changes-own n is-card (h₀ .base + 1) 0 (page n .frames) headed headed-sized (short n (next n)) i fr₀ (rw q at li)))
+              (λ (l : c < n). changes-other n is-card (h₀ .base + 1) 0 (page n .frames) headed (placeOf c (page c .header .base + 1 + i)) (λ i′ l′ e. absurd (omega (arith, l, e))) ∙ k .change c i fr₀ l li) (below-suc h);
           entry = λ c i j fr₀ h li lj. ⊎-elim
-            (λ (q : c ≡ n). rw q (entries-own n is-card (h₀ .base + 1) 0 (page n .frames) headed headed-sized (short n (next n)) i j fr₀ (rw q at li) lj))
-            (λ (l : c < n). entries-other n is-card (h₀ .base + 1) 0 (page n .frames) headed (placeOf c (page c .header .base + 1 + i)) j lj (λ i′ l′ e. absurd (omega (arith, l, e))) ∙ k .entry c i j fr₀ l li lj) (below-suc h);
+              (λ (q : c ≡ n). rw q (entries-own n is-card (h₀ .base + 1) 0 (page n .frames) headed headed-sized (short n (next n)) i j fr₀ (rw q at li) lj))
+              (λ (l : c < n). entries-other n is-card (h₀ .base + 1) 0 (page n .frames) headed (placeOf c (page c .header .base + 1 + i)) j lj (λ i′ l′ e. absurd (omega (arith, l, e))) ∙ k .entry c i j fr₀ l li lj) (below-suc h);
           no-base = λ c h. at-heads .1 c ∙ getD-set-other (r .bases) n c (h₀ .base) 0 (λ q. absurd (omega (arith, h, q))) ∙ k .no-base c (fewer h);
           no-count = λ c h. counts-other n is-card (h₀ .base + 1) 0 (page n .frames) headed c (λ q. absurd (omega (arith, h, q))) ∙ k .no-count c (fewer h);
           no-session = λ c h. at-heads .0 c ∙ getD-set-other (r .sessions) n c (h₀ .session) 0 (λ q. absurd (omega (arith, h, q))) ∙ k .no-session c (fewer h);
@@ -258,18 +274,25 @@ laid-holds page (suc n) few cards short =
       where
         is-card : n < 16
         is-card = few
+
         same : (i : ℕ) → i ≤ i
         same i = omega arith
+
         next : (i : ℕ) → i < suc i
         next i = omega arith
+
         fewer : {c : ℕ} → suc n ≤ c → n ≤ c
         fewer h = omega arith
+
         zero-add′ : (i : ℕ) → 0 + i ≡ i
         zero-add′ i = omega arith
+
         room : (l : List ℕ) → length l ≡ 16 → n < length l
         room l e = omega arith
+
         headed : Readout
         headed = record { changes = r .changes; entries = r .entries; sessions = set (r .sessions) n (h₀ .session); bases = set (r .bases) n (h₀ .base); counts = r .counts; cards = h₀ .cards }
+
         headed-sized : Sized headed
         headed-sized =
             record {
@@ -279,6 +302,7 @@ laid-holds page (suc n) few cards short =
               bases = length-set (r .bases) n (h₀ .base) ∙ k .sized .bases;
               counts = k .sized .counts;
             }
+
         at-heads : ((c : ℕ) → getD (layFrames n (h₀ .base + 1) 0 (page n .frames) headed .sessions) c 0 ≡ getD (set (r .sessions) n (h₀ .session)) c 0) × ((c : ℕ) → getD (layFrames n (h₀ .base + 1) 0 (page n .frames) headed .bases) c 0 ≡ getD (set (r .bases) n (h₀ .base)) c 0)
         at-heads =
             (λ c. ap (λ (l : List ℕ). getD l c 0) (frames-heads n is-card (h₀ .base + 1) 0 (page n .frames) headed .0), λ c. ap (λ (l : List ℕ). getD l c 0) (frames-heads n is-card (h₀ .base + 1) 0 (page n .frames) headed .1))

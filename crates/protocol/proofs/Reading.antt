@@ -70,8 +70,12 @@ frames-bytes start n state (fr ∷ frs) f few =
 
 page-bytes : (p : Page) → Formed (p .header .cards) (p .frames) → p .header .cards ≤ 16 → length (p .frames) ≤ 48 → length (pageBytes format p) ≤ 3913
 page-bytes p f few short =
-    omega (arith, length-append (headerLine format (p .header)) (framesBytes format (startOf format (p .header)) (p .header .cards) (p .header .base + 1) (p .frames)), header-line-length (p .header),
-    frames-bytes (startOf format (p .header)) (p .header .cards) (p .header .base + 1) (p .frames) f few)
+    omega (
+      arith,
+      length-append (headerLine format (p .header)) (framesBytes format (startOf format (p .header)) (p .header .cards) (p .header .base + 1) (p .frames)),
+      header-line-length (p .header),
+      frames-bytes (startOf format (p .header)) (p .header .cards) (p .header .base + 1) (p .frames) f few,
+    )
 
 pages-bytes : (n : ℕ) (page : ℕ → Page) → ((c : ℕ) → c < n → length (pageBytes format (page c)) ≤ 3913) → length (pagesBytes format (tabulate n page)) ≤ n * 3913
 pages-bytes zero page f = zero-le
@@ -81,6 +85,7 @@ pages-bytes (suc n) page f =
   where
     first : 0 < suc n
     first = omega arith
+
     later : {c : ℕ} → c < n → suc c < suc n
     later h = omega arith
 
@@ -92,12 +97,13 @@ formed-all n (suc k) f g =
   where
     first : 0 < suc k
     first = omega arith
+
     later : {i : ℕ} → i < k → suc i < suc k
     later h = omega arith
 
 -- frames of consecutive states, each allowed behind the one before
 frames-pass : (card n k state : ℕ) (last : Frame) (f : ℕ → Frame) → ((i : ℕ) → i < k → frameAllowed format card n (state + i) (cond (eqb i 0) last (f (i - 1))) (state + i) (f i) ≡ true)
-  → framesAllowed format card n state last (tabulate k f) ≡ true
+    → framesAllowed format card n state last (tabulate k f) ≡ true
 frames-pass card n zero state last f g = refl
 frames-pass card n (suc k) state last f g =
     subst (λ (l : List Frame). framesAllowed format card n state last l ≡ true) (sym (tabulate-cons k f))
@@ -108,6 +114,7 @@ frames-pass card n (suc k) state last f g =
       where
         first : 0 < suc k
         first = omega arith
+
     later : (i : ℕ) → i < k → frameAllowed format card n (state + 1 + i) (cond (eqb i 0) (f 0) (f (suc (i - 1)))) (state + 1 + i) (f (suc i)) ≡ true
     later i h =
         let e : state + suc i ≡ state + 1 + i = omega arith in
@@ -118,6 +125,7 @@ frames-pass card n (suc k) state last f g =
       where
         wider : i < k → suc i < suc k
         wider l = omega arith
+
         before : (i : ℕ) → cond (eqb (suc i) 0) last (f (suc i - 1)) ≡ cond (eqb i 0) (f 0) (f (suc (i - 1)))
         before zero = refl
         before (suc i) = let e : suc (suc i) - 1 ≡ suc (suc i - 1) = omega arith in rw (ne-eqb (suc (suc i)) 0 (λ z. absurd (omega arith)), ne-eqb (suc i) 0 (λ z. absurd (omega arith)), e)
@@ -130,6 +138,7 @@ all-pass (suc k) due first page g =
   where
     now : Allowed format due first (page 0)
     now = let e : due + 0 ≡ due = omega arith in rw e at (g 0 (omega arith))
+
     later : (i : ℕ) → i < k → Allowed format (due + 1 + i) first (page (suc i))
     later i h = let e : due + suc i ≡ due + 1 + i = omega arith in rw e at (g (suc i) (omega arith))
 
@@ -149,12 +158,14 @@ lowest-ge f (suc k) s g = omega (arith, lowest-ge f k s (λ i h. g i (le-step h)
 
 -- ---- a cabinet that rolls back
 module _ (L : Limits) (n : ℕ) (m : Model) (j : Journal) (few : n ≤ L .width) (some : 1 ≤ n)
-  (sixteen : L .width ≡ 16) (forty-eight : L .inHand ≡ 48) (sixty-thousand : L .greatestState ≡ 60000) (top : L .greatestNumber ≡ 4294967295)
-  (present-is : (c : ℕ) → m .present c ≡ ltb c n) (r : Rolling L m j) where
+    (sixteen : L .width ≡ 16) (forty-eight : L .inHand ≡ 48) (sixty-thousand : L .greatestState ≡ 60000) (top : L .greatestNumber ≡ 4294967295)
+    (present-is : (c : ℕ) → m .present c ≡ ltb c n) (r : Rolling L m j) where
   abbrev H₀ : History
   H₀ = historyOf (j .history)
+
   abbrev N : ℕ
   N = length (j .history)
+
   abbrev page : ℕ → Page
   page = sheetOf L m
 
@@ -207,7 +218,7 @@ module _ (L : Limits) (n : ℕ) (m : Model) (j : Journal) (few : n ≤ L .width)
   entry-le : (c x i : ℕ) → c < L .width → i < L .width → m .numbers .base c < x → x ≤ m .numbers .stored c → m .memory .frame c x i ≤ 60000
   entry-le c x i l li a b =
       let e : leb (m .memory .frame c x i) (cond (m .present i) (L .greatestState) 0) ≡ true =
-        all-at (L .width) (λ k. leb (m .memory .frame c x k) (cond (m .present k) (L .greatestState) 0)) (and-right (not (eqb (m .memory .maker c x) 0) && eqb (m .memory .frame c x c) x) (entriesSound L (m .present) (m .memory .frame c x)) (one c x l a b)) i li in
+      all-at (L .width) (λ k. leb (m .memory .frame c x k) (cond (m .present k) (L .greatestState) 0)) (and-right (not (eqb (m .memory .maker c x) 0) && eqb (m .memory .frame c x c) x) (entriesSound L (m .present) (m .memory .frame c x)) (one c x l a b)) i li in
       le-trans (leb-true (m .memory .frame c x i) (cond (m .present i) (L .greatestState) 0) e) (cond-case (λ (y : ℕ). y ≤ 60000) (m .present i) (λ z. omega (arith, sixty-thousand)) (λ z. zero-le))
 
   rise : (c x : ℕ) → c < L .width → m .numbers .base c < x → suc x ≤ m .numbers .stored c → risesSound L (m .memory) c x ≡ true
@@ -215,30 +226,37 @@ module _ (L : Limits) (n : ℕ) (m : Model) (j : Journal) (few : n ≤ L .width)
 
   -- ---- 9
   frame-pass : (c : ℕ) → c < n → (i : ℕ) → i < m .numbers .stored c - m .numbers .base c
-    → frameAllowed format c (cardCount L m) (m .numbers .base c + 1 + i) (cond (eqb i 0) noFrame (sheetFrame L m c (suc (m .numbers .base c + (i - 1))))) (m .numbers .base c + 1 + i) (sheetFrame L m c (suc (m .numbers .base c + i))) ≡ true
+      → frameAllowed format c (cardCount L m) (m .numbers .base c + 1 + i) (cond (eqb i 0) noFrame (sheetFrame L m c (suc (m .numbers .base c + (i - 1))))) (m .numbers .base c + 1 + i) (sheetFrame L m c (suc (m .numbers .base c + i))) ≡ true
   unfolding frameAllowed entriesAllowed
   frame-pass c h i li = by-cases (ℕ-discrete i 0) first later
     where
       l : c < L .width
       l = card c h
+
       x : ℕ
       x = suc (m .numbers .base c + i)
+
       above : m .numbers .base c < suc (m .numbers .base c + i)
       above = omega arith
+
       inside : suc (m .numbers .base c + i) ≤ m .numbers .stored c
       inside = omega arith
+
       state-is : m .numbers .base c + 1 + i ≡ suc (m .numbers .base c + i)
       state-is = omega arith
+
       own-test : (k : ℕ) → not (eqb k c) || eqb (m .memory .frame c (suc (m .numbers .base c + i)) k) (m .numbers .base c + 1 + i) ≡ true
       own-test k =
           by-cases (ℕ-discrete k c)
           (λ (q : k ≡ c). or-right (not (eqb k c)) (eq-eqb (m .memory .frame c (suc (m .numbers .base c + i)) k) (m .numbers .base c + 1 + i) (ap (m .memory .frame c (suc (m .numbers .base c + i))) q ∙ own-is c (suc (m .numbers .base c + i)) l above inside ∙ sym state-is)))
           (λ q. or-left (eqb (m .memory .frame c (suc (m .numbers .base c + i)) k) (m .numbers .base c + 1 + i)) (not-intro (ne-eqb k c q)))
+
       entry-test : (k p : ℕ) → k < n → p ≤ m .memory .frame c (suc (m .numbers .base c + i)) k → entryAllowed format c (m .numbers .base c + 1 + i) k p (getD (sheetFrame L m c (suc (m .numbers .base c + i)) .entries) k 0) ≡ true
       entry-test k p hk le =
           rw (entry-written L n m few present-is c (suc (m .numbers .base c + i)) k hk)
           (and-intro (le-leb p (m .memory .frame c (suc (m .numbers .base c + i)) k) le)
           (and-intro (le-leb (m .memory .frame c (suc (m .numbers .base c + i)) k) 60000 (entry-le c (suc (m .numbers .base c + i)) k l (card k hk) above inside)) (own-test k)))
+
       first : i ≡ 0 → frameAllowed format c (cardCount L m) (m .numbers .base c + 1 + i) (cond (eqb i 0) noFrame (sheetFrame L m c (suc (m .numbers .base c + (i - 1))))) (m .numbers .base c + 1 + i) (sheetFrame L m c (suc (m .numbers .base c + i))) ≡ true
       first q =
           rw (eq-eqb i 0 q)
@@ -248,6 +266,7 @@ module _ (L : Limits) (n : ℕ) (m : Model) (j : Journal) (few : n ≤ L .width)
         where
           zero-entry : (k : ℕ) → getD (replicate 16 0) k 0 ≤ m .memory .frame c (suc (m .numbers .base c + i)) k
           zero-entry k = rw (zeros 16 k) zero-le
+
       later : ¬ (i ≡ 0) → frameAllowed format c (cardCount L m) (m .numbers .base c + 1 + i) (cond (eqb i 0) noFrame (sheetFrame L m c (suc (m .numbers .base c + (i - 1))))) (m .numbers .base c + 1 + i) (sheetFrame L m c (suc (m .numbers .base c + i))) ≡ true
       later q =
           let y : suc (m .numbers .base c + (i - 1)) ≡ m .numbers .base c + i = omega (arith, q) in
@@ -261,7 +280,7 @@ module _ (L : Limits) (n : ℕ) (m : Model) (j : Journal) (few : n ≤ L .width)
           (leb-true (m .memory .frame c (m .numbers .base c + i) k) (m .memory .frame c (suc (m .numbers .base c + i)) k)
           (all-at (L .width) (λ z. leb (m .memory .frame c (m .numbers .base c + i) z) (m .memory .frame c (suc (m .numbers .base c + i)) z))
           (and-right (ltb (m .memory .maker c (m .numbers .base c + i)) (m .memory .maker c (suc (m .numbers .base c + i)))) (allBelow (L .width) (λ z. leb (m .memory .frame c (m .numbers .base c + i) z) (m .memory .frame c (suc (m .numbers .base c + i)) z))) up)
-          k (card k (omega (arith, hk, count-of)))))))))) 
+          k (card k (omega (arith, hk, count-of))))))))))
 
   -- ---- 7
   session-small : (c : ℕ) → (0 < sheetSession m c) × (sheetSession m c < 16 ^ 8)
@@ -286,14 +305,14 @@ module _ (L : Limits) (n : ℕ) (m : Model) (j : Journal) (few : n ≤ L .width)
   sheet-allowed c first h f =
       record {
         header =
-          and-intro (not-intro (ne-eqb (sheetSession m c) 0 (λ z. absurd (omega (arith, session-small c .0, z)))))
-          (and-intro (eq-eqb c c refl)
-          (and-intro (lt-ltb c (cardCount L m) (omega (arith, count-of)))
-          (and-intro (le-leb (cardCount L m) 16 (omega (arith, count-of, few, sixteen)))
-          (and-intro (⊎-elim (λ (z : first ≡ 0). or-left (eqb (cardCount L m) first) (eq-eqb first 0 z)) (λ (z : first ≡ n). or-right (eqb first 0) (eq-eqb (cardCount L m) first (count-of ∙ sym z))) f)
-          (and-intro (le-leb (m .numbers .stored c - m .numbers .base c) 48 (short c (card c h)))
-          (le-leb (m .numbers .base c + (m .numbers .stored c - m .numbers .base c)) 60000
-          (omega (arith, base-stored c (card c h), stored-top c (card c h), a₀ .intact .reached-top c (card c h), a₀ .bounded c (card c h), sixty-thousand))))))));
+            and-intro (not-intro (ne-eqb (sheetSession m c) 0 (λ z. absurd (omega (arith, session-small c .0, z)))))
+            (and-intro (eq-eqb c c refl)
+            (and-intro (lt-ltb c (cardCount L m) (omega (arith, count-of)))
+            (and-intro (le-leb (cardCount L m) 16 (omega (arith, count-of, few, sixteen)))
+            (and-intro (⊎-elim (λ (z : first ≡ 0). or-left (eqb (cardCount L m) first) (eq-eqb first 0 z)) (λ (z : first ≡ n). or-right (eqb first 0) (eq-eqb (cardCount L m) first (count-of ∙ sym z))) f)
+            (and-intro (le-leb (m .numbers .stored c - m .numbers .base c) 48 (short c (card c h)))
+            (le-leb (m .numbers .base c + (m .numbers .stored c - m .numbers .base c)) 60000
+            (omega (arith, base-stored c (card c h), stored-top c (card c h), a₀ .intact .reached-top c (card c h), a₀ .bounded c (card c h), sixty-thousand))))))));
         session = session-small c .1;
         count = sym (frames-length c);
         formed = formed c h;
@@ -306,9 +325,12 @@ module _ (L : Limits) (n : ℕ) (m : Model) (j : Journal) (few : n ≤ L .width)
 
   bytes-few : length bytes ≤ 65536
   bytes-few =
-      omega
-      (arith,
-      pages-bytes n page (λ c h. page-bytes (page c) (formed c h) (omega (arith, count-of, few, sixteen)) (omega (arith, frames-length c, short c (card c h)))), few, sixteen)
+      omega (
+        arith,
+        pages-bytes n page (λ c h. page-bytes (page c) (formed c h) (omega (arith, count-of, few, sixteen)) (omega (arith, frames-length c, short c (card c h)))),
+        few,
+        sixteen,
+      )
 
   lines-back : readSheets format true 0 bytes ≡ record { pages = tabulate n page; verdict = Accepted; rest = [] }
   lines-back = go n some refl
@@ -356,6 +378,7 @@ module _ (L : Limits) (n : ℕ) (m : Model) (j : Journal) (few : n ≤ L .width)
     where
       unrolled-session : sheetSession m (not-rolled .0) ≡ m .session
       unrolled-session = rw (r .is-rolling, not-rolled .2)
+
       session-from : (c : ℕ) → m .session ≤ sheetSession m c
       session-from c = cond-case (λ (s : ℕ). m .session ≤ s) (isRolling (m .phase) && m .rolled c) (λ e. omega arith) (λ e. le-refl (m .session))
 
@@ -402,40 +425,49 @@ module _ (L : Limits) (n : ℕ) (m : Model) (j : Journal) (few : n ≤ L .width)
 
   -- frames of one change have one vector
   same-vector : (c d i k e : ℕ) → c < n → d < n → e < n → i < m .numbers .stored c - m .numbers .base c → k < m .numbers .stored d - m .numbers .base d
-    → m .memory .maker c (suc (m .numbers .base c + i)) ≡ m .memory .maker d (suc (m .numbers .base d + k))
-    → m .memory .frame c (suc (m .numbers .base c + i)) e ≡ m .memory .frame d (suc (m .numbers .base d + k)) e
+      → m .memory .maker c (suc (m .numbers .base c + i)) ≡ m .memory .maker d (suc (m .numbers .base d + k))
+      → m .memory .frame c (suc (m .numbers .base c + i)) e ≡ m .memory .frame d (suc (m .numbers .base d + k)) e
   same-vector c d i k e hc hd he li lk q =
       vector-is c x e (card c hc) (card e he) above-c inside-c ∙ ap (λ (t : ℕ). vector (L .width) H₀ (j .start) t e) same ∙ sym (vector-is d y e (card d hd) (card e he) above-d inside-d)
     where
       x : ℕ
       x = suc (m .numbers .base c + i)
+
       y : ℕ
       y = suc (m .numbers .base d + k)
+
       above-c : m .numbers .base c < suc (m .numbers .base c + i)
       above-c = omega arith
+
       inside-c : suc (m .numbers .base c + i) ≤ m .numbers .stored c
       inside-c = omega arith
+
       above-d : m .numbers .base d < suc (m .numbers .base d + k)
       above-d = omega arith
+
       inside-d : suc (m .numbers .base d + k) ≤ m .numbers .stored d
       inside-d = omega arith
+
       s : Maker H₀ (j .start) N c (suc (m .numbers .base c + i))
       s = maker-of c (suc (m .numbers .base c + i)) (card c hc) above-c inside-c
+
       t : Maker H₀ (j .start) N d (suc (m .numbers .base d + k))
       t = maker-of d (suc (m .numbers .base d + k)) (card d hd) above-d inside-d
+
       numbers : H₀ (s .at) .number ≡ H₀ (t .at) .number
       numbers = sym (number-is c (suc (m .numbers .base c + i)) (card c hc) above-c inside-c) ∙ q ∙ number-is d (suc (m .numbers .base d + k)) (card d hd) above-d inside-d
+
       same : s .at ≡ t .at
       same =
           by-cases (decLt (s .at) (t .at)) (λ z. absurd (a₀ .numbered .distinct (s .at) (t .at) z (t .in-history) numbers))
           (λ z. by-cases (decLt (t .at) (s .at)) (λ w. absurd (a₀ .numbered .distinct (t .at) (s .at) w (s .in-history) (sym numbers))) (λ w. omega (arith, z, w)))
 
   not-differ : (c d i k : ℕ) → c < n → d < n → i < m .numbers .stored c - m .numbers .base c → k < m .numbers .stored d - m .numbers .base d
-    → differ (out .changes) (out .entries) n (frameAt c (getD (out .bases) c 0) i) (frameAt d (getD (out .bases) d 0) k) ≡ false
+      → differ (out .changes) (out .entries) n (frameAt c (getD (out .bases) c 0) i) (frameAt d (getD (out .bases) d 0) k) ≡ false
   not-differ c d i k hc hd li lk =
       fails (differ (out .changes) (out .entries) n p q)
       (λ e. let same : m .memory .maker c (suc (m .numbers .base c + i)) ≡ m .memory .maker d (suc (m .numbers .base d + k)) =
-        sym (change-at c i hc li) ∙ eqb-true (getD (out .changes) p 0) (getD (out .changes) q 0) (and-left (eqb (getD (out .changes) p 0) (getD (out .changes) q 0)) (not alike) e) ∙ change-at d k hd lk in
+      sym (change-at c i hc li) ∙ eqb-true (getD (out .changes) p 0) (getD (out .changes) q 0) (and-left (eqb (getD (out .changes) p 0) (getD (out .changes) q 0)) (not alike) e) ∙ change-at d k hd lk in
       clash
       (all-intro n (λ x. eqb (getD (out .entries) (p * 16 + x) 0) (getD (out .entries) (q * 16 + x) 0))
       (λ x hx. eq-eqb (getD (out .entries) (p * 16 + x) 0) (getD (out .entries) (q * 16 + x) 0) (entry-at c i x hc hx li ∙ same-vector c d i k x hc hd hx li lk same ∙ sym (entry-at d k x hd hx lk))))
@@ -443,8 +475,10 @@ module _ (L : Limits) (n : ℕ) (m : Model) (j : Journal) (few : n ≤ L .width)
     where
       p : ℕ
       p = frameAt c (getD (out .bases) c 0) i
+
       q : ℕ
       q = frameAt d (getD (out .bases) d 0) k
+
       alike : Bool
       alike = allBelow n (λ x. eqb (getD (out .entries) (p * 16 + x) 0) (getD (out .entries) (q * 16 + x) 0))
 

@@ -67,8 +67,8 @@ module _ (L : Limits) (n : ℕ) (m : Model) (few : n ≤ L .width) (present-is :
 
 -- the restart of a cabinet that rolls back, from a read-out that holds its sheets
 module _ (L : Limits) (n : ℕ) (m : Model) (j : Journal) (few : n ≤ L .width) (sixteen : L .width ≡ 16) (forty-eight : L .inHand ≡ 48) (present-is : (c : ℕ) → m .present c ≡ ltb c n)
-  (absent-start : (c : ℕ) → c < L .width → n ≤ c → j .start c ≡ 0) (r : Rolling L m j)
-  (out : Readout) (holds : Holds n (sheetOf L m) out) (cards-are : out .cards ≡ n) (lowest-is : lowestOf (out .sessions) (out .cards) ≡ m .session) where
+    (absent-start : (c : ℕ) → c < L .width → n ≤ c → j .start c ≡ 0) (r : Rolling L m j)
+    (out : Readout) (holds : Holds n (sheetOf L m) out) (cards-are : out .cards ≡ n) (lowest-is : lowestOf (out .sessions) (out .cards) ≡ m .session) where
   abbrev m' : Model
   m' = restarted L out
 
@@ -244,7 +244,7 @@ module _ (L : Limits) (n : ℕ) (m : Model) (j : Journal) (few : n ≤ L .width)
                     vector-is = intact-again H a .vectors;
                   };
               count = a .count;
-            count-given = a .count-given;
+              count-given = a .count-given;
               numbered = a .numbered;
               bounded = a .bounded;
               there = λ i c h l e. present-same c ∙ a .there i c h l e;

@@ -9,17 +9,18 @@ use lib.ListN.{length}
 use Rattle.laws.specs.Below.{one-if, anyBelow, tabulate, occurs}
 use Rattle.refusal.specs.declared.Refusal.{Refusal}
 use Rattle.refusal.specs.Number.{numberOf}
-use Rattle.frame.specs.Format.{Format}
+use Rattle.frame.specs.declared.Verdict.the-variants.{Accepted}
+use Rattle.frame.specs.Format.{format}
 use Rattle.history.specs.Change.{CardSet, Change, History, Numbers, writers, made, Cut, On, historyOf}
 use Rattle.history.specs.Vector.{Entry, entryOf, LastPreceding}
 use Rattle.history.specs.Line.{lost}
-use Rattle.protocol.specs.Model.{Limits, isUp, Model}
+use Rattle.protocol.specs.Model.{Limits, isUp, isRolling, Model}
 use Rattle.protocol.specs.Sound.{sound}
-use Rattle.protocol.specs.Plan.{CardRow, Answer, done, safe, unsafe, fixed, Reply, accepted, refused, Plan, afterPlan}
+use Rattle.protocol.specs.Plan.{CardRow, Answer, done, safe, unsafe, fixed, Reply, accepted, refused, Plan}
 use Rattle.protocol.specs.Calls.{freshModel}
-use Rattle.protocol.specs.Sheets.{sheetOf, pageStored}
+use Rattle.protocol.specs.Sheets.{sheetOf, pageStored, joinedSheets, restartReply, restartedFrom}
 use Rattle.protocol.specs.Journal.{Journal, Fixing, fixing, lineIn}
-use Rattle.protocol.specs.Run.{Call, voteCall, takeCall, withdrawCall, openCall, storeCall, trimCall, safeCall, loseCall, fixCall, rollCall, sheetCall, Choice, Proper, planOf, Calls, none, further, Run, start, next, journal, lineNoted, lastKept}
+use Rattle.protocol.specs.Run.{Call, voteCall, takeCall, withdrawCall, openCall, storeCall, trimCall, safeCall, loseCall, fixCall, rollCall, sheetCall, restartCall, Choice, Proper, planOf, afterCall, Calls, none, further, Run, start, next, journal, lineNoted, lastKept}
 
 -- ---- Demand 1, for any cabinet, a forged one too, and any arguments: "gets an answer or a refusal from document 01. A refusal changes neither the cabinet nor any lent list or buffer."
 -- (The lent lists and buffers are in the contracts of the calls.)
@@ -28,12 +29,12 @@ use Rattle.protocol.specs.Run.{Call, voteCall, takeCall, withdrawCall, o
 abbrev pub Listed : ℕ → Type 0
 Listed k = ((1 ≤ k) × (k ≤ 12)) ⊎ ((20 ≤ k) × (k ≤ 30))
 
-pub record Refuses (F : Format) (L : Limits) (m : Model) (call : Call) (x : Choice) : Type 0 where
-  pub listed : (r : Refusal) → planOf F L m call x .reply ≡ refused r → Listed (numberOf r)
-  pub unchanged : (r : Refusal) → planOf F L m call x .reply ≡ refused r → afterPlan L (planOf F L m call x) m ≡ m
+pub record Refuses (L : Limits) (m : Model) (call : Call) (x : Choice) : Type 0 where
+  pub listed : (r : Refusal) → planOf L m call x .reply ≡ refused r → Listed (numberOf r)
+  pub unchanged : (r : Refusal) → planOf L m call x .reply ≡ refused r → afterCall L m call x ≡ m
 
 abbrev pub Demand1 : Type 0
-Demand1 = (F : Format) (L : Limits) (m : Model) (call : Call) (x : Choice) → Refuses F L m call x
+Demand1 = (L : Limits) (m : Model) (call : Call) (x : Choice) → Refuses L m call x
 
 -- ---- the history of the journal: "the changes decided since the last recovery"
 abbrev pub H : Journal → History
@@ -46,10 +47,10 @@ decisions j = length (j .history)
 pub record VectorsRight (L : Limits) (m : Model) (j : Journal) : Type 0 where
   -- of every state in hand
   pub in-hand : (c x i : ℕ) → c < L .width → i < L .width → m .numbers .base c < x → x ≤ m .numbers .reached c
-    → LastPreceding (L .width) (H j) (j .start) (decisions j) c x i (entryOf (m .memory .frame c x i))
+      → LastPreceding (L .width) (H j) (j .start) (decisions j) c x i (entryOf (m .memory .frame c x i))
   -- in phase up the last vector of a card is that of its present state, also where a trim has put its frame away
   pub last : isUp (m .phase) ≡ true → (c i : ℕ) → c < L .width → i < L .width → j .start c < m .numbers .reached c
-    → LastPreceding (L .width) (H j) (j .start) (decisions j) c (m .numbers .reached c) i (entryOf (m .memory .last c i))
+      → LastPreceding (L .width) (H j) (j .start) (decisions j) c (m .numbers .reached c) i (entryOf (m .memory .last c i))
   -- and none at the session's start
   pub none-yet : isUp (m .phase) ≡ true → (c i : ℕ) → c < L .width → i < L .width → m .numbers .reached c ≡ j .start c → m .memory .last c i ≡ 0
 
@@ -65,7 +66,7 @@ pub record FixRight (L : Limits) (n : ℕ) (j : Journal) (rows : List CardRow) (
   pub greatest : (g : Numbers) → Cut (L .width) (H j) (j .start) (decisions j) (j .stored) g → (c : ℕ) → c < L .width → g c ≤ line c
   -- "a change is on every card it wrote or on none"
   pub whole : (i c c' : ℕ) → i < decisions j → c < L .width → c' < L .width → H j i .writes c ≡ true → H j i .writes c' ≡ true
-    → On (H j) (j .start) line i c → On (H j) (j .start) line i c'
+      → On (H j) (j .start) line i c → On (H j) (j .start) line i c'
   -- "Lost: decided in this session, wrote a card, not in the line. Each is listed once"
   pub lost-listed : (k : ℕ) → occurs k numbers ≡ one-if (anyBelow (decisions j) (λ i. lost (L .width) (H j) (j .start) line i && eqb (H j i .number) k))
 
@@ -97,6 +98,12 @@ CallRight L n cs (loseCall cards) a m m' = (c : ℕ) → c < n → cards c ≡ t
 CallRight L n cs (fixCall x y) a m m' = (rows : List CardRow) (numbers : List ℕ) → a ≡ fixed rows numbers → FixRight L n (journal L n cs) rows numbers
 CallRight L n cs (rollCall c) a m m' = RollRight (journal L n cs) c m'
 CallRight L n cs (sheetCall c places) a m m' = Unit {0}
+CallRight L n cs restartCall a m m' = Unit {0}
+
+-- the sheets of the cabinet m, joined, restart to the line
+pub record RestartsTo (L : Limits) (n : ℕ) (m : Model) (line : Numbers) : Type 0 where
+  pub accepted-so : restartReply (joinedSheets format L m) ≡ Accepted
+  pub same-line : (c : ℕ) → c < n → restartedFrom L (joinedSheets format L m) .line c ≡ line c
 
 -- what holds of the cabinet m after the calls cs
 pub record CabinetRight (L : Limits) (n : ℕ) (cs : Calls) (m : Model) : Type 0 where
@@ -107,15 +114,46 @@ pub record CabinetRight (L : Limits) (n : ℕ) (cs : Calls) (m : Model) : Type 0
   -- cuts: the stored number of each card, and the last state of its sheet, is its last accepted store or roll
   pub stored-kept : (c : ℕ) → c < n → m .numbers .stored c ≡ lastKept L n cs c
   pub sheet-kept : (c : ℕ) → c < n → pageStored (sheetOf L m c) ≡ lastKept L n cs c
+  -- "After an accepted fix, and after each later call short of the last roll, the sheets of all cards, joined, restart to the line answered": the engine's memory is gone
+  pub sheets-give-line : (line : Numbers) (marked : CardSet) → journal L n cs .fix ≡ fixing line marked → RestartsTo L n m line
+  -- while rolling a restart is never refused
+  pub restart-accepted : isRolling (m .phase) ≡ true → restartReply (joinedSheets format L m) ≡ Accepted
 
 -- throughout a list: of each call, and of the cabinet after it
-abbrev pub Throughout : {F : Format} {L : Limits} {n : ℕ} {cs : Calls} {m : Model} → Run F L n cs m → Type 0
-Throughout {F} {L} {n} start = CabinetRight L n none (freshModel n)
-Throughout {F} {L} {n} (next {cs} {m} r call x p) =
+abbrev pub Throughout : {L : Limits} {n : ℕ} {cs : Calls} {m : Model} → Run L n cs m → Type 0
+Throughout {L} {n} start = CabinetRight L n none (freshModel n)
+Throughout {L} {n} (next {cs} {m} r call x p) =
     Throughout r
-    × ((a : Answer) → planOf F L m call x .reply ≡ accepted a → CallRight L n cs call a m (afterPlan L (planOf F L m call x) m))
-    × CabinetRight L n (further cs call (planOf F L m call x .reply)) (afterPlan L (planOf F L m call x) m)
+    × ((a : Answer) → planOf L m call x .reply ≡ accepted a → CallRight L n cs call a m (afterCall L m call x))
+    × CabinetRight L n (further cs call (planOf L m call x .reply)) (afterCall L m call x)
 
--- demands 2 and 3, for every list of calls from a fresh cabinet of any allowed size
-abbrev pub Demands : Format → Limits → Type 0
-Demands F L = (n : ℕ) → 1 ≤ n → n ≤ L .width → (cs : Calls) (m : Model) (r : Run F L n cs m) → Throughout r
+-- "While rolling, the list may also hold a restart"
+abbrev pub WhileRolling : Call → Model → Type 0
+WhileRolling (openCall reads writes) m = Unit {0}
+WhileRolling (voteCall k c agrees) m = Unit {0}
+WhileRolling (takeCall k c) m = Unit {0}
+WhileRolling (withdrawCall k) m = Unit {0}
+WhileRolling (storeCall c s) m = Unit {0}
+WhileRolling trimCall m = Unit {0}
+WhileRolling (safeCall k) m = Unit {0}
+WhileRolling (loseCall cards) m = Unit {0}
+WhileRolling (fixCall a b) m = Unit {0}
+WhileRolling (rollCall c) m = Unit {0}
+WhileRolling (sheetCall c places) m = Unit {0}
+WhileRolling restartCall m = isRolling (m .phase) ≡ true
+
+-- every restart of a list stands in phase rolling
+abbrev pub RestartsRolling : {L : Limits} {n : ℕ} {cs : Calls} {m : Model} → Run L n cs m → Type 0
+RestartsRolling start = Unit {0}
+RestartsRolling (next {cs} {m} r call x p) = RestartsRolling r × WhileRolling call m
+
+-- the limits for which document 01's sheets have room
+pub record SheetLimits (L : Limits) : Type 0 where
+  pub width : L .width ≡ 16
+  pub inHand : L .inHand ≡ 48
+  pub greatestState : L .greatestState ≡ 60000
+  pub greatestNumber : L .greatestNumber ≡ 4294967295
+
+-- demands 2 and 3, for every list of calls from a fresh cabinet of any allowed size in which every restart stands in phase rolling
+abbrev pub Demands : Limits → Type 0
+Demands L = (n : ℕ) → 1 ≤ n → n ≤ L .width → (cs : Calls) (m : Model) (r : Run L n cs m) → RestartsRolling r → Throughout r

@@ -5,16 +5,18 @@ use mathlib.Core.Bool.{Bool, true, false}
 use mathlib.Core.List.{List, []}
 use lib.Dec.{ltb}
 use Rattle.laws.specs.Below.{one-if, anyBelow, occurs}
-use Rattle.frame.specs.Format.{Format}
+use Rattle.frame.specs.declared.Verdict.{Verdict}
+use Rattle.frame.specs.declared.Verdict.the-variants.{Accepted, Refused}
+use Rattle.frame.specs.Format.{format}
 use Rattle.history.specs.Change.{CardSet, Numbers}
 use Rattle.protocol.specs.Model.{Limits, Model}
 use Rattle.protocol.specs.Edit.{put}
 use Rattle.protocol.specs.Plan.{CardRow, Answer, done, opened, safe, unsafe, fixed, written, Reply, accepted, refused, Plan, afterPlan}
 use Rattle.protocol.specs.Calls.{freshModel, barred, isLost, openPlan, votePlan, takePlan, withdrawPlan, storePlan, trimPlan, safePlan, losePlan, fixPlan, rollPlan}
-use Rattle.protocol.specs.Sheets.{sheetPlan}
+use Rattle.protocol.specs.Sheets.{joinedSheets, sheetPlan, restartReply, restartedFrom}
 use Rattle.protocol.specs.Journal.{Journal, Fixing, unfixed, fixing, emptyJournal, noteOpen, noteVote, noteStruck, noteStore, noteLose, noteFix, noteRoll}
 
--- calls 1 to 10 with the lengths of the lists lent, and sheet writing with the buffer's
+-- calls 1 to 10 with the lengths of the lists lent, sheet writing with the buffer's, and restart
 pub data Call : Type 0 where
   openCall : (reads writes : CardSet) → Call
   voteCall : (change card : ℕ) (agrees : Bool) → Call
@@ -27,6 +29,8 @@ pub data Call : Type 0 where
   fixCall : (cardPlaces lostPlaces : ℕ) → Call
   rollCall : (card : ℕ) → Call
   sheetCall : (card places : ℕ) → Call
+  -- restart from the sheets of all cards as this cabinet writes them, joined
+  restartCall : Call
 
 -- what document 01 leaves to the program: the card named with 21, and the order of the lost changes
 pub record Choice : Type 0 where
@@ -47,20 +51,46 @@ Proper L m (loseCall cards) x = Unit {0}
 Proper L m (fixCall a b) x = (k : ℕ) → occurs k (x .lost) ≡ one-if (isLost L m k)
 Proper L m (rollCall c) x = Unit {0}
 Proper L m (sheetCall c places) x = Unit {0}
+Proper L m restartCall x = Unit {0}
 
--- the plan of a call
-abbrev pub planOf : Format → Limits → Model → Call → Choice → Plan
-planOf F L m (openCall reads writes) x = openPlan L m reads writes (x .named)
-planOf F L m (voteCall k c agrees) x = votePlan L m k c agrees
-planOf F L m (takeCall k c) x = takePlan L m k c
-planOf F L m (withdrawCall k) x = withdrawPlan L m k
-planOf F L m (storeCall c s) x = storePlan L m c s
-planOf F L m trimCall x = trimPlan L m
-planOf F L m (safeCall k) x = safePlan L m k
-planOf F L m (loseCall cards) x = losePlan L m cards
-planOf F L m (fixCall a b) x = fixPlan L m a b (x .lost)
-planOf F L m (rollCall c) x = rollPlan L m c
-planOf F L m (sheetCall c places) x = sheetPlan F L m c places
+-- what a verdict on a read-out answers, and the cabinet after it: the one restarted, or the old one where it is refused
+abbrev pub verdictReply : Verdict → Reply
+verdictReply Accepted = accepted done
+verdictReply (Refused r) = refused r
+
+abbrev pub verdictCabinet : Verdict → Model → Model → Model
+verdictCabinet Accepted new old = new
+verdictCabinet (Refused r) new old = old
+
+-- the plan of a call; a restart gives another cabinet, and no edits
+abbrev pub planOf : Limits → Model → Call → Choice → Plan
+planOf L m (openCall reads writes) x = openPlan L m reads writes (x .named)
+planOf L m (voteCall k c agrees) x = votePlan L m k c agrees
+planOf L m (takeCall k c) x = takePlan L m k c
+planOf L m (withdrawCall k) x = withdrawPlan L m k
+planOf L m (storeCall c s) x = storePlan L m c s
+planOf L m trimCall x = trimPlan L m
+planOf L m (safeCall k) x = safePlan L m k
+planOf L m (loseCall cards) x = losePlan L m cards
+planOf L m (fixCall a b) x = fixPlan L m a b (x .lost)
+planOf L m (rollCall c) x = rollPlan L m c
+planOf L m (sheetCall c places) x = sheetPlan format L m c places
+planOf L m restartCall x = record { reply = verdictReply (restartReply (joinedSheets format L m)); edits = [] }
+
+-- the cabinet after a call
+abbrev pub afterCall : Limits → Model → Call → Choice → Model
+afterCall L m (openCall reads writes) x = afterPlan L (planOf L m (openCall reads writes) x) m
+afterCall L m (voteCall k c agrees) x = afterPlan L (planOf L m (voteCall k c agrees) x) m
+afterCall L m (takeCall k c) x = afterPlan L (planOf L m (takeCall k c) x) m
+afterCall L m (withdrawCall k) x = afterPlan L (planOf L m (withdrawCall k) x) m
+afterCall L m (storeCall c s) x = afterPlan L (planOf L m (storeCall c s) x) m
+afterCall L m trimCall x = afterPlan L (planOf L m trimCall x) m
+afterCall L m (safeCall k) x = afterPlan L (planOf L m (safeCall k) x) m
+afterCall L m (loseCall cards) x = afterPlan L (planOf L m (loseCall cards) x) m
+afterCall L m (fixCall a b) x = afterPlan L (planOf L m (fixCall a b) x) m
+afterCall L m (rollCall c) x = afterPlan L (planOf L m (rollCall c) x) m
+afterCall L m (sheetCall c places) x = afterPlan L (planOf L m (sheetCall c places) x) m
+afterCall L m restartCall x = verdictCabinet (restartReply (joinedSheets format L m)) (restartedFrom L (joinedSheets format L m)) m
 
 -- the calls of a list with their replies, the last one outermost
 pub data Calls : Type 0 where
@@ -68,10 +98,10 @@ pub data Calls : Type 0 where
   further : Calls → Call → Reply → Calls
 
 -- a list of calls from a fresh cabinet of n cards, and the cabinet that it leads to. "Each call gets the cabinet that the last one returned".
-pub data Run (F : Format) (L : Limits) (n : ℕ) : Calls → Model → Type 0 where
-  start : Run F L n none (freshModel n)
-  next : {cs : Calls} {m : Model} → Run F L n cs m → (call : Call) (x : Choice) → Proper L m call x
-    → Run F L n (further cs call (planOf F L m call x .reply)) (afterPlan L (planOf F L m call x) m)
+pub data Run (L : Limits) (n : ℕ) : Calls → Model → Type 0 where
+  start : Run L n none (freshModel n)
+  next : {cs : Calls} {m : Model} → Run L n cs m → (call : Call) (x : Choice) → Proper L m call x
+      → Run L n (further cs call (planOf L m call x .reply)) (afterCall L m call x)
 
 -- ---- the journal of a list
 -- the number that an opening answers
@@ -105,6 +135,7 @@ noteAccepted L n j (loseCall cards) a = noteLose j
 noteAccepted L n j (fixCall x y) a = noteFix j (rowsIn a)
 noteAccepted L n j (rollCall c) a = noteRoll L (λ i. ltb i n) j c
 noteAccepted L n j (sheetCall c places) a = j
+noteAccepted L n j restartCall a = j
 
 -- "Refused call .. : nothing."
 abbrev pub note : Limits → ℕ → Journal → Call → Reply → Journal
@@ -133,6 +164,7 @@ keptAfter j (loseCall cards) x = x
 keptAfter j (fixCall a b) x = x
 keptAfter j (rollCall c) x = put x c (lineNoted (j .fix) c)
 keptAfter j (sheetCall c places) x = x
+keptAfter j restartCall x = x
 
 abbrev pub keptBy : Journal → Call → Reply → Numbers → Numbers
 keptBy j call (accepted a) x = keptAfter j call x

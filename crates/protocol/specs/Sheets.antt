@@ -99,12 +99,12 @@ restarted L r =
       present = λ c. ltb c (r .cards);
       numbers = record { base = λ c. getD (r .bases) c 0; stored = storedIn r; held = storedIn r; reached = storedIn r };
       memory =
-        record {
-          last = λ c. vectorIn L r c (storedIn r c);
-          pending = λ c. vectorIn L r c (storedIn r c);
-          maker = makerIn r;
-          frame = vectorIn L r;
-        };
+          record {
+            last = λ c. vectorIn L r c (storedIn r c);
+            pending = λ c. vectorIn L r c (storedIn r c);
+            maker = makerIn r;
+            frame = vectorIn L r;
+          };
       place = λ p. freePlace;
       ended = λ p. 0;
       line = λ c. lineFrom (L .width) (storedIn r) (vectorIn L r c) (getD (r .bases) c 0) (storedIn r c);

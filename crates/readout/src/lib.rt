@@ -7,10 +7,10 @@ ghost use lib.Dec.{eqb, ltb};
 ghost use Rattle.laws.specs.Below.{allBelow, anyBelow};
 ghost use Rattle.readout.specs.Joint.{lowestTo, lowestOf, apart, frameAt, differ, differsIn, twoVectors, jointVerdict, cardsOf, joined, readoutOf};
 ghost use Rattle.sheet.specs.Walk.{noReadout};
-use refusal::Refusal;
 use frame::Verdict;
-use sheet::Readout;
+use refusal::Refusal;
 use sheet::Reading;
+use sheet::Readout;
 
 // The lowest of the sessions from the first to number `last`.
 fn lowest(sessions: [u32; 16], last: u32) -> u32
@@ -93,7 +93,15 @@ fn differ_at<'a>(changes: &'a [u32], entries: &'a [u32], p: usize, q: usize, n: 
 }
 
 // Whether the frame at place p differs so from a frame of card j.
-fn differs_in<'a>(changes: &'a [u32], entries: &'a [u32], p: usize, j: u32, base: u32, count: u32, n: usize) -> bool
+fn differs_in<'a>(
+    changes: &'a [u32],
+    entries: &'a [u32],
+    p: usize,
+    j: u32,
+    base: u32,
+    count: u32,
+    n: usize,
+) -> bool
     requires { ⌜ (length (now changes) ≡ 768) × (length (now entries) ≡ 12288) × (p < 768) × (j < 16) × (n ≤ 16) ⌝ }
     ensures { λ r. ⌜ r ≡ differsIn (now (changes .entry)) (now (entries .entry)) n p j base count ⌝ }
 {
@@ -206,7 +214,10 @@ fn judged_jointly(r: Readout) -> Reading
 {
     let v = joint_verdict(r, least(r.cards, 16));
     match v {
-        Verdict::Accepted => Reading { readout: r, verdict: Verdict::Accepted },
+        Verdict::Accepted => Reading {
+            readout: r,
+            verdict: Verdict::Accepted,
+        },
         Verdict::Refused(x) => no_readout(x),
     }
 }

@@ -171,10 +171,10 @@ pub record Alters (input : List ℕ) (p b : ℕ) : Type 0 where
 later : (input : List ℕ) (p b k : ℕ) → Alters input p b → k ≤ p → Alters (drop k input) (p - k) b
 later input p b k a h =
     let e : k + (p - k) ≡ p = omega arith in
-    record
-      { inside = rw length-drop (omega (arith, a .inside))
-      ; other = λ (q : b ≡ getD (drop k input) (p - k) 0). a .other (q ∙ getD-drop k input (p - k) 0 ∙ ap (λ (i : ℕ). getD input i 0) e)
-      }
+    record {
+      inside = rw length-drop (omega (arith, a .inside));
+      other = λ (q : b ≡ getD (drop k input) (p - k) 0). a .other (q ∙ getD-drop k input (p - k) 0 ∙ ap (λ (i : ℕ). getD input i 0) e);
+    }
 
 drop-later : (input : List ℕ) (p b k : ℕ) → k ≤ p → drop k (set input p b) ≡ set (drop k input) (p - k) b
 drop-later input p b k h =

@@ -50,15 +50,15 @@ module _ (entries makers base reached : List ℕ) (last pending : List Vector) w
   frame-here n c x h e =
       ap (λ (b : Bool). not (eqb (cond b (ringMaker makers c x) 0) 0) && eqb (cond b (cut (ringFrame entries c x)) noEntries c) x && entriesSound limits16 (presentOf n) (cond b (cut (ringFrame entries c x)) noEntries)) e
       ∙ ap₂ (λ (y : ℕ) (b : Bool). not (eqb (ringMaker makers c x) 0) && eqb y x && b)
-          (ap (λ (b : Bool). cond b (ringFrame entries c x c) 0) (lt-ltb c (limits16 .width) (omega (arith, width16))))
-          (cut-all (presentOf n) (ringFrame entries c x))
+      (ap (λ (b : Bool). cond b (ringFrame entries c x c) 0) (lt-ltb c (limits16 .width) (omega (arith, width16))))
+      (cut-all (presentOf n) (ringFrame entries c x))
 
   rises-here : (c x : ℕ) → inHand base reached c x ≡ true → inHand base reached c (suc x) ≡ true
       → risesSound limits16 handMemory c x ≡ risesSound limits16 (ring entries makers) c x
   rises-here c x e d =
       ap₂ (λ (a b : Bool). ltb (cond a (ringMaker makers c x) 0) (cond b (ringMaker makers c (suc x)) 0) && allBelow (limits16 .width) (λ j. leb (cond a (cut (ringFrame entries c x)) noEntries j) (cond b (cut (ringFrame entries c (suc x))) noEntries j))) e d
       ∙ ap (λ (b : Bool). ltb (ringMaker makers c x) (ringMaker makers c (suc x)) && b)
-          (all-same (limits16 .width) _ _ (λ k h. ap (λ (b : Bool). leb (cond b (ringFrame entries c x k) 0) (cond b (ringFrame entries c (suc x) k) 0)) (lt-ltb k (limits16 .width) h)))
+      (all-same (limits16 .width) _ _ (λ k h. ap (λ (b : Bool). leb (cond b (ringFrame entries c x k) 0) (cond b (ringFrame entries c (suc x) k) 0)) (lt-ltb k (limits16 .width) h)))
 
   pub frames-in-hand : (n c : ℕ) → c < 16
       → framesSound limits16 (partOf n up handNumbers handMemory 0) c ≡ framesSound limits16 (partOf n up (numbersOf (at base c) 0 0 (at reached c)) (ring entries makers) 0) c

@@ -9,9 +9,9 @@ ghost use Rattle.frame.specs.Lines.{headerAllowed, noFrame};
 ghost use Rattle.sheet.specs.Pages.{pageBytes};
 ghost use Rattle.sheet.specs.Allowed.{framesAllowed};
 ghost use Rattle.write.specs.Write.{headerOf, rowOf, rowsOf, pageOf, wrote};
-use refusal::Refusal;
-use frame::Header;
 use frame::Frame;
+use frame::Header;
+use refusal::Refusal;
 
 // Places beyond the count and the number of cards are not looked at.
 pub struct Sheet {
@@ -52,13 +52,19 @@ fn frames_pass(s: Sheet) -> bool
     let n = s.cards;
     let base = s.base;
     let count = s.count;
-    let mut last = Frame { change: 0, entries: [0u32; 16] };
+    let mut last = Frame {
+        change: 0,
+        entries: [0u32; 16],
+    };
     let mut k: u32 = 0;
     while k < count {
         let state = base + 1 + k;
         let i = k as usize;
         let entries = row_at(&s.entries, i * 16);
-        let next = Frame { change: s.changes[i], entries };
+        let next = Frame {
+            change: s.changes[i],
+            entries,
+        };
         if !frame::frame_allowed(card, n, state, last, state, next) {
             return false;
         }
@@ -78,14 +84,23 @@ fn put_sheet(s: Sheet, b: &mut [u8])
     let base = s.base;
     let count = s.count;
     let n = s.cards as usize;
-    let h = Header { session, card, cards: s.cards, base, count };
+    let h = Header {
+        session,
+        card,
+        cards: s.cards,
+        base,
+        count,
+    };
     frame::put_header(b, 0, h);
     let mut at: usize = 25;
     let mut k: u32 = 0;
     while k < count {
         let i = k as usize;
         let entries = row_at(&s.entries, i * 16);
-        let next = Frame { change: s.changes[i], entries };
+        let next = Frame {
+            change: s.changes[i],
+            entries,
+        };
         let start = frame::start_of(card, session);
         frame::put_frame(b, at, start, n, base + 1 + k, next);
         at += 17 + n * 4;
@@ -100,7 +115,13 @@ pub fn write_sheet(s: Sheet, b: &mut [u8]) -> Written
     let card = s.card;
     let cards = s.cards;
     let count = s.count;
-    let h = Header { session: s.session, card, cards, base: s.base, count };
+    let h = Header {
+        session: s.session,
+        card,
+        cards,
+        base: s.base,
+        count,
+    };
     if !frame::header_allowed(h, card, 0) {
         return Written::Refused(Refusal::BadHeader);
     }
