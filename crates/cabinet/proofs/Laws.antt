@@ -113,3 +113,40 @@ fall-law s cards es eh =
 
     none : (k : ℕ) → 16 ≤ k → cond (cards k) (at (s .stored) k) (at (s .held) k) ≡ 0
     none k h = either (cards k) (at (s .stored) k) (at (s .held) k) (beyond (s .stored) k es h) (beyond (s .held) k eh h)
+
+-- ---- the law of a halt
+pub free-fits : Fits freePlace
+free-fits = record { reads = λ k h. refl; writes = λ k h. refl; yes = λ k h. refl; taken = λ k h. refl; vector = λ k h. refl }
+
+no-place : openOf (record { vector = []; number = 0; reads = 0; writes = 0; yes = 0; taken = 0 }) ≡ freePlace
+no-place = sym free-open ∙ open-back freePlace free-fits
+
+-- a list of eight places, one by one, and what stands beyond them
+places-by : {A B : Type 0} (d : A) (f : A → B) (g : ℕ → A) (h : ℕ → B) → ((p : ℕ) → p < 8 → f (g p) ≡ h p) → ((p : ℕ) → 8 ≤ p → f d ≡ h p)
+    → (λ (p : ℕ). f (getD (tabulate (limits16 .places) g) p d)) ≡ h
+places-by d f g h below beyond′ = λ i p. by-cases (decLt p 8) (here p) (there p) i
+  where
+    here : (p : ℕ) → p < 8 → f (getD (tabulate (limits16 .places) g) p d) ≡ h p
+    here p l = ap f (getD-tabulate (limits16 .places) g d p (omega (arith, places8))) ∙ below p l
+
+    there : (p : ℕ) → ¬ (p < 8) → f (getD (tabulate (limits16 .places) g) p d) ≡ h p
+    there p l = ap f (List·getD-eq-default (tabulate (limits16 .places) g) d (omega (arith, l, length-tabulate (limits16 .places) g, places8))) ∙ beyond′ p (omega (arith, l))
+
+pub halt-law : (s : Cabinet) → length (s .places) ≡ 8 → view (apply edit.halt s) ≡ edited limits16 edit.halt (view s)
+halt-law s e =
+    λ i. record {
+      session = view s .session;
+      phase = Rattle.protocol.specs.Model.down;
+      count = view s .count;
+      present = view s .present;
+      numbers = view s .numbers;
+      memory = view s .memory;
+      place = places-by (record { vector = []; number = 0; reads = 0; writes = 0; yes = 0; taken = 0 }) openOf (λ p. placeFor freePlace) (λ p. freePlace) (λ p l. open-back freePlace free-fits) (λ p l. no-place) i;
+      ended = places-by 0 (λ (x : ℕ). x) (λ p. remembered limits16 (openAt (s .places) p)) (λ p. remembered limits16 (openAt (s .places) p)) (λ p l. refl) gone i;
+      line = view s .line;
+      rolled = view s .rolled;
+    }
+  where
+    gone : (p : ℕ) → 8 ≤ p → 0 ≡ remembered limits16 (openAt (s .places) p)
+    gone p l =
+        sym (ap (λ (q : Place). remembered limits16 (openOf q)) (List·getD-eq-default (s .places) (record { vector = []; number = 0; reads = 0; writes = 0; yes = 0; taken = 0 }) (omega (arith, e))))

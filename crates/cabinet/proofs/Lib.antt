@@ -2,3 +2,4 @@ pub mod Known
 pub mod Call
 pub mod Share
 pub mod Laws
+pub mod Grow
