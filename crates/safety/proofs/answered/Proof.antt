@@ -1,0 +1,43 @@
+use borrow.Author.Tests.{ltb-true, not-false}
+use Rattle.verdicts.specs.Shape.{limits16, at, ringMaker, openOf, openAt, modelOf}
+use Rattle.verdicts.proofs.Limits.{width16, places8}
+use Rattle.laws.proofs.Fill.{AnySoFar, any-none, any-more, any-done}
+use Rattle.laws.specs.Below.{anyBelow}
+use Prim.Native.Nat.{ℕ, zero, suc, _+_, _*_, _-_, _/_, _%_, _^_, _≤_, _<_, max}
+use mathlib.Core.Path.{_≡_, refl, sym, _∙_, ap, ap₂}
+use mathlib.Core.Bool.{Bool, true, false, not, _&&_, _||_, cond}
+use mathlib.Core.List.{List, [], _∷_}
+use mathlib.Core.Logic.{⊎-elim, by-cases, inl, inr}
+use native.Mathlib.Numerals.{add-one}
+use native.Mathlib.Omega.{arith}
+use lib.ListN.{length, getD, set, List·getD-eq-default}
+use lib.Dec.{leb, ltb, eqb}
+use borrow.Author.Needs.{needs}
+use Rattle.safety.proofs.answered.Statement.{statement}
+use Rattle.safety.proofs.answered.Tie as tie
+use Rattle.safety.proofs.answered.Reads as reads
+use Rattle.safety.proofs.answered.Lts as lts
+use Rattle.safety.proofs.graded.Reads as graded-reads
+
+-- src/lib.rt:82:24
+enum-told : tie.Need-enum-told
+enum-told c = search needs
+
+-- src/lib.rt:82:24
+graded-requires : tie.Need-graded-requires
+graded-requires c κs = search needs
+
+-- src/lib.rt:83:24
+enum-known-r : tie.Need-enum-known-r
+enum-known-r c = search needs
+
+-- src/lib.rt:78:1
+returns : tie.Need-returns
+returns c = rw (c .before .enum-told .given .1) (c .graded .ensures)
+
+-- src/lib.rt:78:1
+returns-2 : tie.Need-returns-2
+returns-2 c = rw (c .before .r .given .1)
+
+pub answered-spec : {M : Type 1} → statement M
+answered-spec = tie.close (tie.spec enum-told graded-requires enum-known-r returns returns-2)

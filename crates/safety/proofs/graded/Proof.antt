@@ -1,0 +1,30 @@
+use borrow.Author.Tests.{ltb-true, not-false}
+use Rattle.verdicts.specs.Shape.{limits16, at, ringMaker, openOf, openAt, modelOf}
+use Rattle.verdicts.proofs.Limits.{width16, places8}
+use Rattle.laws.proofs.Fill.{AnySoFar, any-none, any-more, any-done}
+use Rattle.laws.specs.Below.{anyBelow}
+use Prim.Native.Nat.{ℕ, zero, suc, _+_, _*_, _-_, _/_, _%_, _^_, _≤_, _<_, max}
+use mathlib.Core.Path.{_≡_, refl, sym, _∙_, ap, ap₂}
+use mathlib.Core.Bool.{Bool, true, false, not, _&&_, _||_, cond}
+use mathlib.Core.List.{List, [], _∷_}
+use mathlib.Core.Logic.{⊎-elim, by-cases, inl, inr}
+use native.Mathlib.Numerals.{add-one}
+use native.Mathlib.Omega.{arith}
+use lib.ListN.{length, getD, set, List·getD-eq-default}
+use lib.Dec.{leb, ltb, eqb}
+use borrow.Author.Needs.{needs}
+use Rattle.safety.proofs.graded.Statement.{statement}
+use Rattle.safety.proofs.graded.Tie as tie
+use Rattle.safety.proofs.graded.Reads as reads
+use Rattle.safety.proofs.graded.Lts as lts
+
+-- src/lib.rt:71:1
+returns : tie.Need-returns
+returns c = rw (c .if1 .taken)
+
+-- src/lib.rt:71:1
+returns-2 : tie.Need-returns-2
+returns-2 c = rw (c .if1 .left)
+
+pub graded-spec : {M : Type 1} → statement M
+graded-spec = tie.close (tie.spec returns returns-2)

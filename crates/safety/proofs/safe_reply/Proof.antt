@@ -1,0 +1,101 @@
+use Rattle.safety.specs.Known.{gradedOf}
+use Rattle.safety.proofs.Window.{graded-first, window}
+use Rattle.protocol.specs.Model.{Model, OpenChange, placeOf, awaitsWrite}
+use Rattle.protocol.specs.Calls.{safeChecks, isSafe, someFrameAbove, hasFrame, writesLeft}
+use Rattle.verdicts.specs.Answers.{rest}
+use Rattle.protocol.specs.Plan.{Check, checked, safe, unsafe}
+use Rattle.verdicts.specs.declared.Reply.{Reply}
+use Rattle.verdicts.specs.declared.Reply.the-variants.{Done}
+use Rattle.verdicts.specs.Answers.{after28}
+use Rattle.verdicts.proofs.Checks.{folded, folded-first}
+use borrow.Author.Tests.{ltb-true, not-false}
+use Rattle.verdicts.specs.Shape.{limits16, at, ringMaker, openOf, openAt, modelOf}
+use Rattle.verdicts.proofs.Limits.{width16, places8}
+use Rattle.laws.proofs.Fill.{AnySoFar, any-none, any-more, any-done}
+use Rattle.laws.specs.Below.{anyBelow}
+use Prim.Native.Nat.{ℕ, zero, suc, _+_, _*_, _-_, _/_, _%_, _^_, _≤_, _<_, max}
+use mathlib.Core.Path.{_≡_, refl, sym, _∙_, ap, ap₂}
+use mathlib.Core.Bool.{Bool, true, false, not, _&&_, _||_, cond}
+use mathlib.Core.List.{List, [], _∷_}
+use mathlib.Core.Logic.{⊎-elim, by-cases, inl, inr}
+use native.Mathlib.Numerals.{add-one}
+use native.Mathlib.Omega.{arith}
+use lib.ListN.{length, getD, set, List·getD-eq-default}
+use lib.Dec.{leb, ltb, eqb}
+use borrow.Author.Needs.{needs}
+use Rattle.safety.proofs.safe_reply.Statement.{statement}
+use Rattle.safety.proofs.safe_reply.Tie as tie
+use Rattle.safety.proofs.safe_reply.Reads as reads
+use Rattle.safety.proofs.safe_reply.Lts as lts
+use Rattle.safety.proofs.answered.Reads as answered-reads
+use Rattle.safety.proofs.some_above.Reads as some-above-reads
+use Rattle.verdicts.proofs.is_up.Reads as is-up-reads
+use Rattle.verdicts.proofs.places.awaits_write.Reads as awaits-write-reads
+use Rattle.verdicts.proofs.places.place_at.Reads as place-at-reads
+use Rattle.verdicts.proofs.places.place_of.Reads as place-of-reads
+use Rattle.verdicts.proofs.replies.next.Reads as next-reads
+
+-- src/lib.rt:92:9
+returns : tie.Need-returns
+returns c = rw (c .if1 .taken)
+
+-- src/lib.rt:94:17
+cast-cards : tie.Need-cast-cards
+cast-cards c = search needs
+
+-- src/lib.rt:96:9
+is-up-requires : tie.Need-is-up-requires
+is-up-requires c κs = search needs
+
+-- src/lib.rt:97:9
+some-above-requires : tie.Need-some-above-requires
+some-above-requires c κs = λ i h l. c .before .before .before .pre (not-false (c .before .before .before .args .sound) (c .before .before .if1 .left)) .high i h l
+
+-- src/lib.rt:98:9
+some-above-requires-2 : tie.Need-some-above-requires-2
+some-above-requires-2 c κs = λ i h l. c .before .before .before .before .pre (not-false (c .before .before .before .before .args .sound) (c .before .before .before .if1 .left)) .high i h l
+
+-- src/lib.rt:99:9
+place-of-requires : tie.Need-place-of-requires
+place-of-requires c κs = search needs
+
+-- src/lib.rt:100:9
+place-at-requires : tie.Need-place-at-requires
+place-at-requires c κs = search needs
+
+-- src/lib.rt:101:9
+awaits-write-requires : tie.Need-awaits-write-requires
+awaits-write-requires c κs = search needs
+
+-- src/lib.rt:102:9
+next-requires : tie.Need-next-requires
+next-requires c κs = search needs
+
+-- src/lib.rt:103:9
+next-requires-2 : tie.Need-next-requires-2
+next-requires-2 c κs = search needs
+
+-- src/lib.rt:104:5
+answered-requires : tie.Need-answered-requires
+answered-requires c κs = search needs
+
+-- src/lib.rt:87:1
+returns-2 : tie.Need-returns-2
+returns-2 c = let a : _ = c .before .before .before .before .before .before .before .before .before .before .before .args in let m : Model = modelOf [] (a .makers .now) [] [] (a .all) (a .base) (a .stored) [] (a .reached) [] [] 0 (a .head) in let P : ℕ = placeOf limits16 m (a .k) in let ok : a .sound ≡ true = not-false (a .sound) (c .before .before .before .before .before .before .before .before .before .before .if1 .left) in let ord : _ = c .before .before .before .before .before .before .before .before .before .before .before .pre ok in let cs : List Check = rest (safeChecks limits16 m (a .k)) in let fk : c .before .before .before .before .before .before .before .some-above .result ≡ someFrameAbove limits16 m (a .k) (at (a .base)) = c .before .before .before .before .before .before .before .some-above .ensures ∙ window (a .makers .now) (a .base) (a .reached) (a .base) (a .head .cards) (a .k) (λ i h l. omega arith) in let fl : c .before .before .before .before .before .before .some-above2 .result ≡ someFrameAbove limits16 m (a .k) (at (a .stored)) = c .before .before .before .before .before .before .some-above2 .ensures ∙ window (a .makers .now) (a .base) (a .reached) (a .stored) (a .head .cards) (a .k) (ord .low) in let ep : c .before .before .before .before .before .place-of .result ≡ P = c .before .before .before .before .before .place-of .ensures in let eo : openOf (c .before .before .before .before .place-at .result) ≡ openAt (a .all) P = c .before .before .before .before .place-at .ensures ∙ ap (openAt (a .all)) ep in let ew : c .before .before .before .awaits-write .result ≡ awaitsWrite limits16 (openAt (a .all) P) = c .before .before .before .awaits-write .ensures ∙ ap (awaitsWrite limits16) eo in let ek : ltb (c .before .before .before .before .before .place-of .result) 8 ≡ ltb P (limits16 .places) = ap₂ (λ (x y : ℕ). ltb x y) ep (sym places8) in let good : not (c .before .before .before .before .before .before .some-above2 .result) && not (ltb (c .before .before .before .before .before .place-of .result) 8 && c .before .before .before .awaits-write .result) ≡ isSafe limits16 m (a .k) = rw (fl, ek, ew) in let e : c .before .next2 .result ≡ folded cs Done = rw (c .before .next2 .ensures, c .before .before .next .ensures, c .before .before .before .before .before .before .before .before .is-up .ensures, fk) in c .answered .ensures ∙ ap₂ (λ (r : Reply) (g : Bool). gradedOf r g) (e ∙ folded-first cs) good ∙ graded-first cs (isSafe limits16 m (a .k)) ∙ sym (ap (λ (x : Bool). checked (after28 (not x) (safeChecks limits16 m (a .k))) (cond (isSafe limits16 m (a .k)) safe unsafe) [] .reply) ok)
+
+pub safe-reply-spec : {M : Type 1} → statement M
+safe-reply-spec =
+    tie.close
+    (tie.spec
+    returns
+    cast-cards
+    is-up-requires
+    some-above-requires
+    some-above-requires-2
+    place-of-requires
+    place-at-requires
+    awaits-write-requires
+    next-requires
+    next-requires-2
+    answered-requires
+    returns-2)

@@ -1,0 +1,124 @@
+// 7. safe: whether every card that a change wrote has stored its state.
+ghost use Prim.Native.Nat.{ℕ, _-_, _+_, _≤_, _<_, suc};
+ghost use mathlib.Core.Path.{_≡_};
+ghost use mathlib.Core.Bool.{true, not, _&&_, cond};
+ghost use mathlib.Core.List.{[]};
+ghost use lib.Dec.{eqb, ltb};
+ghost use Rattle.laws.specs.Below.{anyBelow};
+ghost use Rattle.protocol.specs.Calls.{safeChecks, isSafe};
+ghost use Rattle.protocol.specs.Plan.{checked, accepted, safe, unsafe};
+ghost use Rattle.verdicts.specs.Shape.{limits16, at, ringMaker, modelOf};
+ghost use Rattle.verdicts.specs.Answers.{safeReplyOf, after28};
+ghost use Rattle.safety.specs.Known.{InOrder, gradedOf};
+use refusal::Refusal;
+use verdicts::Head;
+use verdicts::Place;
+use verdicts::Reply;
+use verdicts::SafeReply;
+use verdicts::places;
+use verdicts::replies::next;
+
+// How many states there are above x, up to reached.
+fn above(x: u32, reached: u32) -> u32
+    ensures { λ r. ⌜ r ≡ reached - x ⌝ }
+{
+    if x < reached { reached - x } else { 0 }
+}
+
+// Card c has a frame of change k above state x.
+fn frame_above(makers: &[u32; 768], c: usize, x: u32, reached: u32, k: u32) -> bool
+    requires { ⌜ (c < 16) × (reached ≤ 60000) ⌝ }
+    ensures { λ r. ⌜ r ≡ anyBelow (reached - x) (λ s. eqb (ringMaker (now (makers .entry)) c (suc (x + s))) k) ⌝ }
+{
+    let n = above(x, reached);
+    let mut found = false;
+    let mut s: u32 = 0;
+    while s < n {
+        let place = c * 48 + ((x + s + 1) % 48) as usize;
+        found = found | (makers[place] == k);
+        s += 1;
+    }
+    found
+}
+
+// The same of a card that is there.
+fn there_above(makers: &[u32; 768], there: bool, c: usize, x: u32, reached: u32, k: u32) -> bool
+    requires { ⌜ (c < 16) × (there ≡ true → reached ≤ 60000) ⌝ }
+    ensures { λ r. ⌜ r ≡ (there && anyBelow (reached - x) (λ s. eqb (ringMaker (now (makers .entry)) c (suc (x + s))) k)) ⌝ }
+{
+    if there {
+        frame_above(makers, c, x, reached, k)
+    } else {
+        false
+    }
+}
+
+// Some card of the cabinet has a frame of change k above its number.
+fn some_above(
+    makers: &[u32; 768],
+    cards: usize,
+    numbers: [u32; 16],
+    reached: [u32; 16],
+    k: u32,
+) -> bool
+    requires { ⌜ ((c : ℕ) → c < 16 → c < cards → at reached c ≤ 60000) ⌝ }
+    ensures { λ r. ⌜ r ≡ anyBelow (limits16 .width) (λ c. ltb c cards && anyBelow (at reached c - at numbers c) (λ s. eqb (ringMaker (now (makers .entry)) c (suc (at numbers c + s))) k)) ⌝ }
+{
+    let mut found = false;
+    let mut c: usize = 0;
+    while c < 16 {
+        let there = c < cards;
+        found = found | there_above(makers, there, c, numbers[c], reached[c], k);
+        c += 1;
+    }
+    found
+}
+
+fn graded(good: bool) -> SafeReply
+    ensures { λ r. ⌜ safeReplyOf r ≡ accepted (cond good safe unsafe) ⌝ }
+{
+    if good {
+        SafeReply::Safe
+    } else {
+        SafeReply::Unsafe
+    }
+}
+
+// The answer on change k, whose checks gave that reply.
+fn answered(r: Reply, good: bool) -> SafeReply
+    ensures { λ x. ⌜ safeReplyOf x ≡ gradedOf r good ⌝ }
+{
+    match r {
+        Reply::Done => graded(good),
+        Reply::Refused(q) => SafeReply::Unknown(q),
+    }
+}
+
+pub fn safe_reply(
+    sound: bool,
+    makers: &[u32; 768],
+    head: Head,
+    all: [Place; 8],
+    base: [u32; 16],
+    stored: [u32; 16],
+    reached: [u32; 16],
+    k: u32,
+) -> SafeReply
+    requires { ⌜ (sound ≡ true → InOrder base stored reached (head .cards)) ⌝ }
+    ensures { λ r. ⌜ safeReplyOf r ≡ checked (after28 (not sound) (safeChecks limits16 (modelOf [] (now (makers .entry)) [] [] all base stored [] reached [] [] 0 head) k)) (cond (isSafe limits16 (modelOf [] (now (makers .entry)) [] [] all base stored [] reached [] [] 0 head) k) safe unsafe) [] .reply ⌝ }
+{
+    if !sound {
+        return SafeReply::Unknown(Refusal::BadCabinet);
+    }
+    let cards = head.cards as usize;
+    let phase = head.phase;
+    let up = verdicts::is_up(phase);
+    let known = some_above(makers, cards, base, reached, k);
+    let left = some_above(makers, cards, stored, reached, k);
+    let p = places::place_of(all, k);
+    let o = places::place_at(all, p);
+    let waits = places::awaits_write(o);
+    let r = next(Reply::Done, !up, Refusal::WrongPhase);
+    let r = next(r, !((k != 0) & known), Refusal::NotAwaited);
+    answered(r, !left & !((p < 8) & waits))
+}
