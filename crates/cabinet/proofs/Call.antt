@@ -5,7 +5,7 @@ use mathlib.Core.Bool.{Bool, true, false, not, _&&_, _||_}
 use mathlib.Core.List.{List, [], _∷_}
 use native.Mathlib.Omega.{arith}
 use lib.Dec.{ltb, leb, eqb}
-use borrow.Author.Tests.{ltb-true, leb-false, not-false, not-true}
+use borrow.Author.Tests.{ltb-true, lt-ltb, leb-false, not-false, not-true}
 use Rattle.laws.proofs.Logic.{and-left, and-right, and-intro, not-intro, clash, test, or-right}
 use Rattle.refusal.specs.declared.Refusal.{Refusal}
 use Rattle.protocol.specs.Model.{Model, OpenChange, isCard, isUp, isKnown, isOpen, decided, toWrite, placeOf, freeAt, strays, isEmpty}
@@ -18,13 +18,14 @@ use Rattle.protocol.specs.Plan as plan
 use Rattle.verdicts.specs.declared.Reply.{Reply}
 use Rattle.verdicts.specs.declared.Reply.the-variants.{Done, Refused}
 use Rattle.verdicts.specs.Answers.{replyOf, firstFailing, rest}
-use Rattle.verdicts.specs.Shape.{limits16}
+use Rattle.verdicts.specs.Shape.{limits16, at}
+use Rattle.safety.specs.Known.{InOrder}
 use Rattle.verdicts.proofs.Limits.{width16, places8}
 use Rattle.verdicts.proofs.Checks.{Passes, passes, done-plan, refused-plan}
 use Rattle.history.specs.Change.{CardSet, touches}
 use Rattle.laws.specs.Below.{anyBelow}
 use Rattle.verdicts.proofs.Limits.{greatestNumber32}
-use Rattle.cabinet.proofs.Known.{first-at, sound-places, sound-reached, written-there, room-known, room-below}
+use Rattle.cabinet.proofs.Known.{first-at, sound-places, sound-reached, sound-stored, written-there, room-known, room-below}
 use Rattle.cabinet.specs.declared.Cabinet.{Cabinet}
 use Rattle.cabinet.specs.Apply.{applyAll, Carried}
 
@@ -146,3 +147,18 @@ opens m reads writes n e =
     let l : freeAt limits16 m < limits16 .places = ltb-true (freeAt limits16 m) (limits16 .places) (not-false (ltb (freeAt limits16 m) (limits16 .places)) free) in
     let k : m .count < limits16 .greatestNumber = leb-false (limits16 .greatestNumber) (m .count) (test last (λ t. clash (or-right top t) tops) (λ f. f)) in
     record { place = omega (arith, places8); count = omega (arith, greatestNumber32) }
+
+-- a call that changes nothing, accepted or not
+pub no-edits : (cs : List Check) (a : Answer) → checked cs a [] .edits ≡ []
+no-edits [] a = refl
+no-edits ((true ⇒ r) ∷ cs) a = refl
+no-edits ((false ⇒ r) ∷ cs) a = no-edits cs a
+
+pub in-order : (m : Model) (base stored reached : List ℕ) (n : ℕ) → ((c : ℕ) → ltb c n ≡ true → m .present c ≡ true)
+    → ((c : ℕ) → m .numbers .base c ≡ at base c) → ((c : ℕ) → m .numbers .stored c ≡ at stored c) → ((c : ℕ) → m .numbers .reached c ≡ at reached c)
+    → sound limits16 m ≡ true → InOrder base stored reached n
+in-order m base stored reached n p eb es er e =
+    record {
+      low = λ c h l. let x : _ = sound-stored m e c h (p c (lt-ltb c n l)) in omega (arith, eb c, es c);
+      high = λ c h l. let x : _ = sound-reached m e c h (p c (lt-ltb c n l)) in omega (arith, er c);
+    }

@@ -73,12 +73,16 @@ room-below m c e =
     omega (arith, greatest60000)
 
 -- a card that is there has numbers within the limits
-pub sound-reached : (m : Model) → sound limits16 m ≡ true → (c : ℕ) → c < 16 → m .present c ≡ true → m .numbers .reached c ≤ 60000
-sound-reached m e c h p =
+pub sound-numbers : (m : Model) → sound limits16 m ≡ true → (c : ℕ) → c < 16 → m .present c ≡ true → numbersSound limits16 (m .numbers) c ≡ true
+sound-numbers m e c h p =
     let a : numbersSound limits16 (m .numbers) c && lineSound m c && framesSound limits16 m c ≡ true =
     or-use (m .present c) (numbersSound limits16 (m .numbers) c && lineSound m c && framesSound limits16 m c)
     (and-right (entriesSound limits16 (λ j. m .present c && m .present j) (m .memory .last c) && entriesSound limits16 (λ j. m .present c && m .present j) (m .memory .pending c)) (not (m .present c) || (numbersSound limits16 (m .numbers) c && lineSound m c && framesSound limits16 m c)) (sound-cards m e c h)) p in
-    let n : numbersSound limits16 (m .numbers) c ≡ true = and-left (numbersSound limits16 (m .numbers) c) (lineSound m c) (and-left (numbersSound limits16 (m .numbers) c && lineSound m c) (framesSound limits16 m c) a) in
+    and-left (numbersSound limits16 (m .numbers) c) (lineSound m c) (and-left (numbersSound limits16 (m .numbers) c && lineSound m c) (framesSound limits16 m c) a)
+
+pub sound-reached : (m : Model) → sound limits16 m ≡ true → (c : ℕ) → c < 16 → m .present c ≡ true → m .numbers .reached c ≤ 60000
+sound-reached m e c h p =
+    let n : numbersSound limits16 (m .numbers) c ≡ true = sound-numbers m e c h p in
     let l : m .numbers .reached c ≤ limits16 .greatestState =
     leb-true (m .numbers .reached c) (limits16 .greatestState)
     (and-right (leb (m .numbers .base c) (m .numbers .stored c) && leb (m .numbers .stored c) (m .numbers .held c) && leb (m .numbers .held c) (m .numbers .reached c) && leb (m .numbers .reached c) (m .numbers .base c + limits16 .inHand)) (leb (m .numbers .reached c) (limits16 .greatestState)) n) in
@@ -93,3 +97,15 @@ written-there m o e op c h w =
     (and-left (not (strays limits16 m (touches (o .change))) && allBelow (limits16 .width) (λ c. not (toWrite o c) || roomToWrite limits16 (m .numbers) c)) (entriesSound limits16 (m .present) (o .vector)) s) in
     let t : touches (o .change) c ≡ true = or-right (o .change .reads c) w in
     test (m .present c) (λ p. p) (λ q. clash (any-intro (limits16 .width) (λ c. touches (o .change) c && not (m .present c)) c (omega (arith, width16)) (and-intro t (not-intro q))) (not-true (strays limits16 m (touches (o .change))) n))
+
+pub sound-stored : (m : Model) → sound limits16 m ≡ true → (c : ℕ) → c < 16 → m .present c ≡ true → m .numbers .base c ≤ m .numbers .stored c
+sound-stored m e c h p =
+    let b : ℕ = m .numbers .base c in
+    let s : ℕ = m .numbers .stored c in
+    let d : ℕ = m .numbers .held c in
+    let r : ℕ = m .numbers .reached c in
+    leb-true b s
+    (and-left (leb b s) (leb s d)
+    (and-left (leb b s && leb s d) (leb d r)
+    (and-left (leb b s && leb s d && leb d r) (leb r (b + limits16 .inHand))
+    (and-left (leb b s && leb s d && leb d r && leb r (b + limits16 .inHand)) (leb r (limits16 .greatestState)) (sound-numbers m e c h p)))))

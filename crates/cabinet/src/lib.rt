@@ -1,9 +1,9 @@
 // The cabinet of 16 cards: its struct, and calls 1 to 10 as methods that hand it back.
 ghost use mathlib.Core.Path.{_≡_};
 ghost use Rattle.bits.specs.Member.{member};
-ghost use Rattle.protocol.specs.Calls.{storePlan, takePlan, losePlan, votePlan, withdrawPlan};
+ghost use Rattle.protocol.specs.Calls.{storePlan, takePlan, losePlan, votePlan, withdrawPlan, safePlan};
 ghost use Rattle.verdicts.specs.Shape.{limits16};
-ghost use Rattle.verdicts.specs.Answers.{replyOf, openReplyOf};
+ghost use Rattle.verdicts.specs.Answers.{replyOf, openReplyOf, safeReplyOf};
 ghost use Rattle.cabinet.specs.View.{view};
 ghost use Rattle.cabinet.specs.Apply.{Carried, OpenCarried};
 ghost use Rattle.cabinet.specs.Fresh.{Freshly, zeroCabinet};
@@ -13,6 +13,7 @@ use verdicts::OpenReply;
 use verdicts::Phase;
 use verdicts::Place;
 use verdicts::Reply;
+use verdicts::SafeReply;
 use verdicts::Vector;
 
 pub mod writes;
@@ -37,6 +38,12 @@ pub struct Cabinet {
     // while rolling: the cards already rolled
     pub rolled: u16,
     pub head: Head,
+}
+
+// What safe hands back.
+pub struct SafeAnswer {
+    pub cabinet: Cabinet,
+    pub reply: SafeReply,
 }
 
 // What open hands back.
@@ -419,6 +426,48 @@ impl Cabinet {
                 cabinet: self,
                 reply: OpenReply::NotOpened(q),
             },
+        }
+    }
+
+    // 7. safe
+    pub fn safe(self, change: u32) -> SafeAnswer
+        ensures { λ r. ⌜ Carried self (safePlan limits16 (view self) change) (safeReplyOf (r .reply)) (r .cabinet) ⌝ }
+    {
+        let last = self.last;
+        let pending = self.pending;
+        let places = self.places;
+        let base = self.base;
+        let stored = self.stored;
+        let held = self.held;
+        let reached = self.reached;
+        let line = self.line;
+        let head = self.head;
+        let sound = soundness::cabinet_sound(
+            &self.entries,
+            &self.makers,
+            last,
+            pending,
+            places,
+            base,
+            stored,
+            held,
+            reached,
+            line,
+            head,
+        );
+        let r = safety::safe_reply(
+            sound,
+            &self.makers,
+            head,
+            places,
+            base,
+            stored,
+            reached,
+            change,
+        );
+        SafeAnswer {
+            cabinet: self,
+            reply: r,
         }
     }
 }
