@@ -5,7 +5,7 @@ ghost use mathlib.Core.Bool.{not, _&&_, _||_};
 ghost use lib.ListN.{length, getD};
 ghost use lib.Dec.{eqb, ltb};
 ghost use Rattle.laws.specs.Below.{allBelow, anyBelow};
-ghost use Rattle.readout.specs.Joint.{lowestTo, lowestOf, apart, frameAt, differ, differsIn, twoVectors, jointVerdict, cardsOf, joined, readoutOf};
+ghost use Rattle.readout.specs.Joint.{lowestTo, lowestOf, apart, frameAt, differ, differsIn, twoVectors, jointVerdict, cardsOf, joined, readoutOf, sheetReadOf};
 ghost use Rattle.sheet.specs.Walk.{noReadout};
 use frame::Verdict;
 use refusal::Refusal;
@@ -235,6 +235,27 @@ pub fn read_readout(s: &[u8]) -> Reading
         Verdict::Accepted => {
             let r = read.readout;
             judged_jointly(r)
+        }
+        Verdict::Refused(x) => no_readout(x),
+    }
+}
+
+// Reads the sheet of the card told: the one sheet of a read-out.
+pub fn read_sheet(s: &[u8], card: u32) -> Reading
+    ensures { λ r. ⌜ r ≡ sheetReadOf card (now (s .entry)) ⌝ }
+{
+    if 65536 < s.len() {
+        return no_readout(Refusal::TooLong);
+    }
+    let read = sheet::read_sheets(s, card, false);
+    let v = read.verdict;
+    match v {
+        Verdict::Accepted => {
+            let r = read.readout;
+            Reading {
+                readout: r,
+                verdict: Verdict::Accepted,
+            }
         }
         Verdict::Refused(x) => no_readout(x),
     }
