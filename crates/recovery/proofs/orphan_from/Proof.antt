@@ -1,0 +1,85 @@
+use Prim.Native.Nat.{ℕ, zero, suc, _+_, _*_, _-_, _/_, _%_, _^_, _≤_, _<_, max}
+use mathlib.Core.Path.{_≡_, refl, sym, _∙_, ap, ap₂}
+use mathlib.Core.Bool.{Bool, true, false, not, _&&_, _||_, cond}
+use mathlib.Core.List.{List, [], _∷_, _++_}
+use mathlib.Core.Logic.{⊎-elim, by-cases, inl, inr}
+use native.Mathlib.Numerals.{add-one}
+use native.Mathlib.Omega.{arith}
+use lib.ListN.{length, getD, set, List·getD-eq-default}
+use lib.Dec.{leb, ltb, eqb}
+use borrow.Author.Tests.{eq-eqb, ne-eqb, lt-ltb, le-ltb, le-leb, lt-leb, ltb-true, leb-true}
+use Rattle.laws.specs.Below.{allBelow, anyBelow, tabulate}
+use Rattle.laws.proofs.Logic.{test, clash, cond-true, cond-false, and-intro, and-left, and-right}
+use Rattle.laws.proofs.Fill.{AnySoFar, any-none, any-more, any-done, any-same, all-same, FilledSoFar, filled-none, filled-more, filled-done}
+use Rattle.history.specs.Line.{orphan, climb, lineFrom}
+use Rattle.verdicts.specs.Shape.{limits16, at, listOf, setOf, ringFrame, ringPlace, headModel, modelOf}
+use Rattle.verdicts.proofs.Limits.{width16, places8, greatestNumber32}
+use Rattle.recovery.proofs.Climb.{orphan-held}
+use borrow.Author.Needs.{needs}
+use Rattle.recovery.proofs.orphan_from.Statement.{statement}
+use Rattle.recovery.proofs.orphan_from.Tie as tie
+use Rattle.recovery.proofs.orphan_from.Reads as reads
+use Rattle.recovery.proofs.orphan_from.Lts as lts
+
+abbrev Inv-loop : tie.InvT-loop
+Inv-loop entries from stored hit₀ j₀ hit j = AnySoFar 16 (λ k. ltb (at stored k) (at entries (from + k))) hit j
+
+abbrev μ-loop : tie.MeasureT-loop
+μ-loop entries from stored hit₀ j₀ hit j = 16 - j
+
+-- src/lib.rt:23:5
+loop-holds : tie.Need-loop-holds Inv-loop μ-loop
+loop-holds c = any-none
+
+-- src/lib.rt:24:22
+mul-hit : tie.Need-mul-hit Inv-loop μ-loop
+mul-hit c = search needs
+
+-- src/lib.rt:24:22
+array-read-hit : tie.Need-array-read-hit Inv-loop μ-loop
+array-read-hit c = search needs
+
+-- src/lib.rt:24:42
+add-hit : tie.Need-add-hit Inv-loop μ-loop
+add-hit c = search needs
+
+-- src/lib.rt:24:34
+mul-hit-2 : tie.Need-mul-hit-2 Inv-loop μ-loop
+mul-hit-2 c = search needs
+
+-- src/lib.rt:24:34
+element-copy-out-hit : tie.Need-element-copy-out-hit Inv-loop μ-loop
+element-copy-out-hit c = search needs
+
+-- src/lib.rt:25:9
+add-j : tie.Need-add-j Inv-loop μ-loop
+add-j c = search needs
+
+-- src/lib.rt:23:5
+loop-less : tie.Need-loop-less Inv-loop μ-loop
+loop-less c = search needs
+
+-- src/lib.rt:23:5
+loop-again : tie.Need-loop-again Inv-loop μ-loop
+loop-again c = any-more (c .before .before .loop .inv) (c .before .loop-test .taken) refl
+
+-- src/lib.rt:17:1
+returns : tie.Need-returns Inv-loop μ-loop
+returns c = let a : _ = c .before .before .args in any-done (c .before .loop .inv) (c .loop-test .left) width16 ∙ orphan-held (limits16 .width) (at (a .t2)) (λ j. at (a .entries .now) (a .from + j))
+
+pub orphan-from-spec : {M : Type 1} → statement M
+orphan-from-spec =
+    tie.close
+    (tie.spec
+    Inv-loop
+    μ-loop
+    loop-holds
+    mul-hit
+    array-read-hit
+    add-hit
+    mul-hit-2
+    element-copy-out-hit
+    add-j
+    loop-less
+    loop-again
+    returns)

@@ -1,0 +1,102 @@
+// The recovery line from what is in hand, the changes lost with it, and the replies of the calls of the recovery.
+ghost use Prim.Native.Nat.{ℕ, _+_, _*_, _<_, _≤_};
+ghost use mathlib.Core.Path.{_≡_};
+ghost use mathlib.Core.Bool.{not, cond};
+ghost use mathlib.Core.List.{[]};
+ghost use Rattle.history.specs.Line.{orphan, lineFrom};
+ghost use Rattle.protocol.specs.Model.{isCard};
+ghost use Rattle.protocol.specs.Calls.{lines, trimChecks};
+ghost use Rattle.verdicts.specs.Shape.{limits16, at, listOf, ringFrame, headModel, modelOf};
+ghost use Rattle.verdicts.specs.Answers.{firstFailing, after28};
+use refusal::Refusal;
+use verdicts::Head;
+use verdicts::Reply;
+use verdicts::is_up;
+use verdicts::replies::next;
+
+// "A state is hit when some entry of its vector, for card j, is at or above stored of j": the vector that begins at a place of the ring.
+fn orphan_from(entries: &[u32; 12288], stored: [u32; 16], from: usize) -> bool
+    requires { ⌜ from + 16 ≤ 12288 ⌝ }
+    ensures { λ r. ⌜ r ≡ orphan (limits16 .width) (at stored) (λ j. at (now (entries .entry)) (from + j)) ⌝ }
+{
+    let mut hit = false;
+    let mut j: usize = 0;
+    while j < 16 {
+        hit = hit | (stored[j] < entries[from + j]);
+        j += 1;
+    }
+    hit
+}
+
+// State x of the card is an orphan.
+fn is_orphan(entries: &[u32; 12288], stored: [u32; 16], card: usize, x: u32) -> bool
+    requires { ⌜ card < 16 ⌝ }
+    ensures { λ r. ⌜ r ≡ orphan (limits16 .width) (at stored) (ringFrame (now (entries .entry)) card x) ⌝ }
+{
+    let place = card * 48 + (x % 48) as usize;
+    orphan_from(entries, stored, place * 16)
+}
+
+// "The line of a card is its greatest state, from base to reached, with no hit from base + 1 up to it."
+fn climbed(entries: &[u32; 12288], stored: [u32; 16], card: usize, base: u32, reached: u32) -> u32
+    requires { ⌜ card < 16 ⌝ }
+    ensures { λ r. ⌜ r ≡ lineFrom (limits16 .width) (at stored) (ringFrame (now (entries .entry)) card) base reached ⌝ }
+{
+    let mut x = base;
+    while x < reached {
+        let hit = is_orphan(entries, stored, card, x + 1);
+        if hit {
+            return x;
+        }
+        x += 1;
+    }
+    x
+}
+
+// The line of a card whose numbers are base and reached; of a card that is not there, its base.
+pub fn line_of(
+    entries: &[u32; 12288],
+    head: Head,
+    stored: [u32; 16],
+    card: u32,
+    base: u32,
+    reached: u32,
+) -> u32
+    ensures { λ r. ⌜ r ≡ cond (isCard limits16 (headModel head) card) (lineFrom (limits16 .width) (at stored) (ringFrame (now (entries .entry)) card) base reached) base ⌝ }
+{
+    if (card < 16) & (card < head.cards) {
+        climbed(entries, stored, card as usize, base, reached)
+    } else {
+        base
+    }
+}
+
+// The line of each card; of a card that is not there, its base.
+pub fn lines(
+    entries: &[u32; 12288],
+    head: Head,
+    base: [u32; 16],
+    stored: [u32; 16],
+    reached: [u32; 16],
+) -> [u32; 16]
+    ensures { λ r. ⌜ r ≡ listOf (lines limits16 (modelOf (now (entries .entry)) [] [] [] [] base stored [] reached [] [] 0 head)) ⌝ }
+{
+    let mut out = [0u32; 16];
+    let mut c: usize = 0;
+    while c < 16 {
+        let x = line_of(entries, head, stored, c as u32, base[c], reached[c]);
+        out[c] = x;
+        c += 1;
+    }
+    out
+}
+
+// 6. trim
+pub fn trim_reply(sound: bool, head: Head) -> Reply
+    ensures { λ r. ⌜ r ≡ firstFailing (after28 (not sound) (trimChecks limits16 (headModel head))) ⌝ }
+{
+    let phase = head.phase;
+    let up = is_up(phase);
+    let r = next(Reply::Done, !sound, Refusal::BadCabinet);
+    next(r, !up, Refusal::WrongPhase)
+}
