@@ -16,6 +16,7 @@ use verdicts::Reply;
 use verdicts::SafeReply;
 use verdicts::Vector;
 
+pub mod recover;
 pub mod writes;
 
 // A cabinet by value. Frames stand in a ring: state x of card c has the place c * 48 + x % 48.

@@ -4,14 +4,20 @@ ghost use mathlib.Core.Path.{_≡_};
 ghost use mathlib.Core.Bool.{not, cond};
 ghost use mathlib.Core.List.{[]};
 ghost use Rattle.history.specs.Line.{orphan, lineFrom};
-ghost use Rattle.protocol.specs.Model.{isCard};
-ghost use Rattle.protocol.specs.Calls.{lines, trimChecks};
-ghost use Rattle.verdicts.specs.Shape.{limits16, at, listOf, ringFrame, headModel, modelOf};
+ghost use Rattle.laws.specs.Below.{tabulate};
+ghost use Rattle.bits.specs.Member.{member};
+ghost use Rattle.history.specs.Vector.{noEntries};
+ghost use Rattle.protocol.specs.Model.{isCard, withCard};
+ghost use Rattle.protocol.specs.Calls.{lines, trimChecks, rollChecks, allRolled};
+ghost use Rattle.verdicts.specs.Shape.{limits16, at, listOf, setOf, vectorFor, ringFrame, headModel, modelOf};
 ghost use Rattle.verdicts.specs.Answers.{firstFailing, after28};
 use refusal::Refusal;
 use verdicts::Head;
 use verdicts::Reply;
+use verdicts::Vector;
+use verdicts::is_rolling;
 use verdicts::is_up;
+use verdicts::replies::is_card;
 use verdicts::replies::next;
 
 // "A state is hit when some entry of its vector, for card j, is at or above stored of j": the vector that begins at a place of the ring.
@@ -99,4 +105,45 @@ pub fn trim_reply(sound: bool, head: Head) -> Reply
     let up = is_up(phase);
     let r = next(Reply::Done, !sound, Refusal::BadCabinet);
     next(r, !up, Refusal::WrongPhase)
+}
+
+// 10. roll
+pub fn roll_reply(sound: bool, head: Head, rolled: u16, card: u32) -> Reply
+    ensures { λ r. ⌜ r ≡ firstFailing (after28 (not sound) (rollChecks limits16 (modelOf [] [] [] [] [] [] [] [] [] [] [] rolled head) card)) ⌝ }
+{
+    let there = is_card(head, card);
+    let phase = head.phase;
+    let rolling = is_rolling(phase);
+    let already = bits::has(rolled, card);
+    let r = next(Reply::Done, !sound, Refusal::BadCabinet);
+    let r = next(r, !there, Refusal::NoSuchCard);
+    let r = next(r, !rolling, Refusal::WrongPhase);
+    next(r, already, Refusal::AlreadyRolled)
+}
+
+// The cards rolled, with one card more.
+pub fn rolled_with(rolled: u16, card: u32) -> u16
+    ensures { λ r. ⌜ r ≡ setOf (withCard (member rolled) card) ⌝ }
+{
+    bits::with(rolled, card)
+}
+
+// With that card all cards of the cabinet are rolled.
+pub fn is_last(head: Head, rolled: u16, card: u32) -> bool
+    ensures { λ r. ⌜ r ≡ allRolled limits16 (headModel head) (withCard (member rolled) card) ⌝ }
+{
+    let all = bits::all_below(head.cards);
+    let done = bits::with(rolled, card);
+    let left = bits::difference(all, done);
+    bits::is_empty(left)
+}
+
+// "all entries are none"
+pub fn no_vectors() -> [Vector; 16]
+    ensures { λ r. ⌜ r ≡ tabulate (limits16 .width) (λ c. vectorFor noEntries) ⌝ }
+{
+    let none = Vector {
+        entries: [0u32; 16],
+    };
+    [none; 16]
 }
