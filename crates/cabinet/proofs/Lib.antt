@@ -3,3 +3,4 @@ pub mod Call
 pub mod Share
 pub mod Laws
 pub mod Grow
+pub mod Roll
