@@ -18,7 +18,7 @@ use Rattle.history.specs.Vector.{entryOf, Vector}
 use Rattle.history.specs.Line.{atOrAbove, orphan, climb, lineFrom}
 use Rattle.protocol.specs.Calls.{lines}
 use Rattle.verdicts.specs.declared.Head.{Head}
-use Rattle.verdicts.specs.Shape.{limits16, at, listOf, ringFrame, inHand, frameInHand, modelOf}
+use Rattle.verdicts.specs.Shape.{limits16, at, listOf, ringFrame, cut, inHand, frameInHand, modelOf}
 use Rattle.verdicts.proofs.Limits.{width16}
 use Rattle.verdicts.proofs.Held.{list-same}
 
@@ -62,6 +62,12 @@ climb-same f g base zero h = refl
 climb-same f g base (suc k) h =
     ap₂ (λ (b : Bool) (x : ℕ). cond b base x) (h (suc base) (omega arith) (omega arith)) (climb-same f g (suc base) k (λ x l u. h x (omega arith) (omega arith)))
 
+-- entries beyond the width are not looked at
+cut-orphan : (stored : Numbers) (v : Vector) → orphan (limits16 .width) stored v ≡ orphan (limits16 .width) stored (cut v)
+cut-orphan stored v =
+    any-same (limits16 .width) (λ j. atOrAbove (entryOf (v j)) (stored j)) (λ j. atOrAbove (entryOf (cut v j)) (stored j))
+    (λ j h. ap (λ (e : ℕ). atOrAbove (entryOf e) (stored j)) (sym (cond-true (v j) 0 (lt-ltb j (limits16 .width) h))))
+
 -- the line of the ring's frames is that of the frames in hand
 pub line-in-hand : (stored : Numbers) (entries base reached : List ℕ) (c : ℕ)
     → lineFrom (limits16 .width) stored (ringFrame entries c) (at base c) (at reached c) ≡ lineFrom (limits16 .width) stored (frameInHand entries base reached c) (at base c) (at reached c)
@@ -71,7 +77,7 @@ line-in-hand stored entries base reached c = climb-same _ _ (at base c) (at reac
         → orphan (limits16 .width) stored (ringFrame entries c x) ≡ orphan (limits16 .width) stored (frameInHand entries base reached c x)
     each x l u =
         let e : inHand base reached c x ≡ true = and-intro (lt-ltb (at base c) x l) (le-leb x (at reached c) (omega arith)) in
-        ap (λ (b : Bool). orphan (limits16 .width) stored (cond b (ringFrame entries c x) (λ j. 0))) (sym e)
+        cut-orphan stored (ringFrame entries c x) ∙ ap (λ (b : Bool). orphan (limits16 .width) stored (cond b (cut (ringFrame entries c x)) (λ j. 0))) (sym e)
 
 -- the test that the code makes of each entry
 pub orphan-held : (w : ℕ) (stored : Numbers) (v : Vector) → anyBelow w (λ j. ltb (stored j) (v j)) ≡ orphan w stored v
