@@ -16,7 +16,7 @@ use Rattle.bits.specs.Member.{member}
 use Rattle.history.specs.Change.{CardSet, Numbers}
 use Rattle.history.specs.Vector.{noEntries}
 use Rattle.history.specs.Vector as history
-use Rattle.protocol.specs.Model.{Model, OpenChange, freePlace}
+use Rattle.protocol.specs.Model.{Model, OpenChange, freePlace, noCards}
 use Rattle.protocol.specs.Edit.{Edit, put, edited, remembered}
 use Rattle.protocol.specs.Edit as edit
 use Rattle.verdicts.specs.declared.Place.{Place}
@@ -150,3 +150,47 @@ halt-law s e =
     gone : (p : ℕ) → 8 ≤ p → 0 ≡ remembered limits16 (openAt (s .places) p)
     gone p l =
         sym (ap (λ (q : Place). remembered limits16 (openOf q)) (List·getD-eq-default (s .places) (record { vector = []; number = 0; reads = 0; writes = 0; yes = 0; taken = 0 }) (omega (arith, e))))
+
+-- ---- the laws of a trim, a fix, a roll and a new session
+pub fix-law : (s : Cabinet) (line : Numbers) → ((k : ℕ) → 16 ≤ k → line k ≡ 0) → view (apply (edit.fix line) s) ≡ edited limits16 (edit.fix line) (view s)
+fix-law s line z =
+    λ i. record {
+      session = view s .session;
+      phase = Rattle.protocol.specs.Model.rolling;
+      count = view s .count;
+      present = view s .present;
+      numbers = view s .numbers;
+      memory = view s .memory;
+      place = view s .place;
+      ended = places-by 0 (λ (x : ℕ). x) (λ p. 0) (λ p. 0) (λ p l. refl) (λ p l. refl) i;
+      line = at-list-all line z i;
+      rolled = member-set noCards (λ k h. refl) i;
+    }
+
+vectors-none : vectorAt (tabulate (limits16 .width) (λ c. vectorFor noEntries)) ≡ (λ c. noEntries)
+vectors-none = λ i c. by-cases (decLt c 16) (here c) (there c) i
+  where
+    here : (c : ℕ) → c < 16 → vectorAt (tabulate (limits16 .width) (λ c. vectorFor noEntries)) c ≡ noEntries
+    here c l =
+        ap (λ (x : Vector). at (x .entries)) (getD-tabulate (limits16 .width) (λ c. vectorFor noEntries) (record { entries = [] }) c (omega (arith, width16)))
+        ∙ at-list-all noEntries (λ k h. refl)
+
+    there : (c : ℕ) → ¬ (c < 16) → vectorAt (tabulate (limits16 .width) (λ c. vectorFor noEntries)) c ≡ noEntries
+    there c l =
+        ap (λ (x : Vector). at (x .entries))
+        (List·getD-eq-default (tabulate (limits16 .width) (λ c. vectorFor noEntries)) (record { entries = [] }) (omega (arith, l, width16, length-tabulate (limits16 .width) (λ c. vectorFor noEntries))))
+
+pub renew-law : (s : Cabinet) → view (apply edit.renew s) ≡ edited limits16 edit.renew (view s)
+renew-law s =
+    λ i. record {
+      session = suc (view s .session);
+      phase = Rattle.protocol.specs.Model.up;
+      count = 0;
+      present = view s .present;
+      numbers = view s .numbers;
+      memory = record { last = vectors-none i; pending = vectors-none i; maker = view s .memory .maker; frame = view s .memory .frame };
+      place = view s .place;
+      ended = view s .ended;
+      line = view s .line;
+      rolled = member-set noCards (λ k h. refl) i;
+    }
