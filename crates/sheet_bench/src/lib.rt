@@ -1,0 +1,60 @@
+// What bench/sheet measures, exported to Rust: the readers' verdicts, and the largest sheet, made and written.
+use frame::Verdict;
+use write::Sheet;
+use write::Written;
+
+// 0 where the bytes are accepted, else the number of the refusal.
+fn number_of(v: Verdict) -> u32 {
+    match v {
+        Verdict::Accepted => 0,
+        Verdict::Refused(r) => refusal::number(r),
+    }
+}
+
+#[no_mangle]
+pub extern "C" fn yerwaqis_read_readout(s: &[u8]) -> u32 {
+    let read = readout::read_readout(s);
+    let v = read.verdict;
+    number_of(v)
+}
+
+#[no_mangle]
+pub extern "C" fn yerwaqis_read_sheet(s: &[u8], card: u32) -> u32 {
+    let read = readout::read_sheet(s, card);
+    let v = read.verdict;
+    number_of(v)
+}
+
+// A sheet of 16 cards and 48 frames.
+fn largest(card: u32) -> Sheet {
+    let mut entries = [5u32; 768];
+    let mut changes = [0u32; 48];
+    let own = (card % 16) as usize;
+    let mut k: u32 = 0;
+    while k < 48 {
+        let i = k as usize;
+        changes[i] = (k + 1) * 16 + card % 16;
+        entries[i * 16 + own] = k + 1;
+        k += 1;
+    }
+    Sheet {
+        entries,
+        changes,
+        session: 1,
+        card: card % 16,
+        cards: 16,
+        base: 0,
+        count: 48,
+    }
+}
+
+// The length written, or 0 where the sheet or the buffer is refused.
+#[no_mangle]
+pub extern "C" fn yerwaqis_write_largest(card: u32, b: &mut [u8]) -> usize {
+    let s = largest(card);
+    let w = write::write_sheet(s, b);
+    match w {
+        Written::Length(n) => n,
+        Written::Refused(_) => 0,
+    }
+}
