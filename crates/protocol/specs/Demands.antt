@@ -157,3 +157,11 @@ pub record SheetLimits (L : Limits) : Type 0 where
 -- demands 2 and 3, for every list of calls from a fresh cabinet of any allowed size in which every restart stands in phase rolling
 abbrev pub Demands : Limits → Type 0
 Demands L = (n : ℕ) → 1 ≤ n → n ≤ L .width → (cs : Calls) (m : Model) (r : Run L n cs m) → RestartsRolling r → Throughout r
+
+-- document 01's limits: 16 cards, 48 states in hand, 8 open changes, states to 60,000, sessions and change numbers to 4,294,967,295
+abbrev pub limits : Limits
+limits = record { width = 16; inHand = 48; places = 8; greatestState = 60000; greatestNumber = 4294967295 }
+
+-- demands 2 and 3 of a cabinet of document 01
+abbrev pub Demands23 : Type 0
+Demands23 = Demands limits
