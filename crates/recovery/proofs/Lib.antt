@@ -1,2 +1,4 @@
 pub mod Climb
 pub mod Rolled
+pub mod Next
+pub mod Rise

@@ -20,6 +20,8 @@ use verdicts::is_up;
 use verdicts::replies::is_card;
 use verdicts::replies::next;
 
+pub mod lost;
+
 // "A state is hit when some entry of its vector, for card j, is at or above stored of j": the vector that begins at a place of the ring.
 fn orphan_from(entries: &[u32; 12288], stored: [u32; 16], from: usize) -> bool
     requires { ⌜ from + 16 ≤ 12288 ⌝ }
