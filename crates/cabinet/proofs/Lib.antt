@@ -4,3 +4,4 @@ pub mod Share
 pub mod Laws
 pub mod Grow
 pub mod Roll
+pub mod Bases

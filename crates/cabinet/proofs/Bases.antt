@@ -1,0 +1,111 @@
+-- The laws of a trim and of a roll: what is in hand when bases move. Assumes nothing.
+use Prim.Native.Nat.{ℕ, zero, suc, _+_, _*_, _%_, _≤_, _<_}
+use mathlib.Core.Path.{_≡_, refl, sym, _∙_, ap, ap₂}
+use mathlib.Core.Bool.{Bool, true, false, not, _&&_, _||_, cond}
+use mathlib.Core.List.{List, []}
+use mathlib.Core.Logic.{by-cases}
+use native.Mathlib.Decide.{decLe, ℕ-discrete}
+use native.Mathlib.Omega.{arith}
+use lib.Dec.{eqb, leb, ltb}
+use lib.ListN.{length, getD, set}
+use lib.Seq.{getD-set-same, getD-set-other}
+use borrow.Author.Tests.{eq-eqb, ne-eqb, lt-ltb, le-ltb, lt-leb, ltb-true}
+use Rattle.laws.proofs.Logic.{test, cond-true, cond-false}
+use Rattle.bits.specs.Member.{member}
+use Rattle.bits.proofs.Members.{member-above}
+use Rattle.history.specs.Change.{CardSet, Numbers}
+use Rattle.history.specs.Vector.{noEntries}
+use Rattle.history.specs.Vector as history
+use Rattle.protocol.specs.Model.{Model, withCard}
+use Rattle.protocol.specs.Edit.{put, edited}
+use Rattle.protocol.specs.Edit as edit
+use Rattle.verdicts.specs.Shape.{limits16, at, ringMaker, ringFrame, cut, inHand, makerInHand, frameInHand, listOf}
+use Rattle.verdicts.proofs.Held.{at-list-all, member-set}
+use Rattle.cabinet.specs.declared.Cabinet.{Cabinet}
+use Rattle.cabinet.specs.View.{view}
+use Rattle.cabinet.specs.Apply.{apply}
+use Rattle.cabinet.proofs.Laws.{at-set}
+
+-- ---- every base moves
+module _ {A : Type 0} (y z : A) where
+  -- in hand above the new base: above it, and in hand before
+  still-in-hand : (old new r x : ℕ) → old ≤ new → cond (ltb new x && leb x r) y z ≡ cond (ltb new x) (cond (ltb old x && leb x r) y z) z
+  still-in-hand old new r x h =
+      test (ltb new x) above (λ (f : ltb new x ≡ false). rw f)
+    where
+      above : ltb new x ≡ true → cond (ltb new x && leb x r) y z ≡ cond (ltb new x) (cond (ltb old x && leb x r) y z) z
+      above t =
+          let l : new < x = ltb-true new x t in
+          let o : ltb old x ≡ true = lt-ltb old x (omega arith) in
+          rw (t, o)
+
+pub rebase-law : (s : Cabinet) (bases : Numbers) → ((k : ℕ) → 16 ≤ k → bases k ≡ 0) → ((c : ℕ) → at (s .base) c ≤ bases c)
+    → view (apply (edit.rebase bases) s) ≡ edited limits16 (edit.rebase bases) (view s)
+rebase-law s bases none up =
+    let e : at (listOf bases) ≡ bases = at-list-all bases none in
+    λ i. edit.withNumbers (view s)
+    (record { base = e i; stored = at (s .stored); held = at (s .held); reached = at (s .reached) })
+    (record {
+      last = view s .memory .last;
+      pending = view s .memory .pending;
+      maker = λ c x. (ap (λ (f : Numbers). cond (ltb (f c) x && leb x (at (s .reached) c)) (ringMaker (s .makers) c x) 0) e ∙ still-in-hand (ringMaker (s .makers) c x) 0 (at (s .base) c) (bases c) (at (s .reached) c) x (up c)) i;
+      frame = λ c x. (ap (λ (f : Numbers). cond (ltb (f c) x && leb x (at (s .reached) c)) (cut (ringFrame (s .entries) c x)) noEntries) e ∙ still-in-hand (cut (ringFrame (s .entries) c x)) noEntries (at (s .base) c) (bases c) (at (s .reached) c) x (up c)) i;
+    })
+
+-- ---- one card goes to its line
+module _ {A : Type 0} (base reached : List ℕ) (c l : ℕ) (hb : c < length base) (hr : c < length reached) (f : ℕ → ℕ → A) (z : A) where
+  nothing-there : (x : ℕ) → ltb l x && leb x l ≡ false
+  nothing-there x = by-cases (decLe x l) (λ h. ap (λ (b : Bool). b && leb x l) (le-ltb l x h)) (λ h. ap₂ (λ (a b : Bool). a && b) (lt-ltb l x (omega (arith, h))) (lt-leb x l (omega (arith, h))))
+
+  pub lowered-hand : (λ (d x : ℕ). cond (inHand (set base c l) (set reached c l) d x) (f d x) z)
+      ≡ put {A = ℕ → A} (λ d x. cond (inHand base reached d x) (f d x) z) c (λ x. z)
+  lowered-hand = λ i d x. by-cases (ℕ-discrete d c) (here d x) (other d x) i
+    where
+      here : (d x : ℕ) → d ≡ c → cond (inHand (set base c l) (set reached c l) d x) (f d x) z ≡ cond {A = ℕ → A} (eqb d c) (λ (x : ℕ). z) (λ x. cond (inHand base reached d x) (f d x) z) x
+      here d x q =
+          ap₂ (λ (b r : ℕ). cond (ltb b x && leb x r) (f d x) z) (ap (λ (e : ℕ). at (set base c l) e) q ∙ getD-set-same base c l 0 hb) (ap (λ (e : ℕ). at (set reached c l) e) q ∙ getD-set-same reached c l 0 hr)
+          ∙ ap (λ (b : Bool). cond b (f d x) z) (nothing-there x)
+          ∙ sym (ap (λ (b : Bool). cond {A = ℕ → A} b (λ (x : ℕ). z) (λ x. cond (inHand base reached d x) (f d x) z) x) (eq-eqb d c q))
+
+      other : (d x : ℕ) → ¬ (d ≡ c) → cond (inHand (set base c l) (set reached c l) d x) (f d x) z ≡ cond {A = ℕ → A} (eqb d c) (λ (x : ℕ). z) (λ x. cond (inHand base reached d x) (f d x) z) x
+      other d x q =
+          ap₂ (λ (b r : ℕ). cond (ltb b x && leb x r) (f d x) z) (getD-set-other base c d l 0 q) (getD-set-other reached c d l 0 q)
+          ∙ sym (ap (λ (b : Bool). cond {A = ℕ → A} b (λ (x : ℕ). z) (λ x. cond (inHand base reached d x) (f d x) z) x) (ne-eqb d c q))
+
+-- what the law of a roll asks
+pub record Lowers (s : Cabinet) (c : ℕ) : Type 0 where
+  pub card : c < 16
+  pub base : length (s .base) ≡ 16
+  pub stored : length (s .stored) ≡ 16
+  pub held : length (s .held) ≡ 16
+  pub reached : length (s .reached) ≡ 16
+  pub rolled : s .rolled < 65536
+
+pub lower-law : (s : Cabinet) (c : ℕ) → Lowers s c → view (apply (edit.lower c) s) ≡ edited limits16 (edit.lower c) (view s)
+lower-law s c g =
+    let l : ℕ = at (s .line) c in
+    λ i. record {
+      session = view s .session;
+      phase = view s .phase;
+      count = view s .count;
+      present = view s .present;
+      numbers = record {
+        base = at-set (s .base) c l (omega (arith, g .base, g .card)) i;
+        stored = at-set (s .stored) c l (omega (arith, g .stored, g .card)) i;
+        held = at-set (s .held) c l (omega (arith, g .held, g .card)) i;
+        reached = at-set (s .reached) c l (omega (arith, g .reached, g .card)) i;
+      };
+      memory = record {
+        last = view s .memory .last;
+        pending = view s .memory .pending;
+        maker = lowered-hand (s .base) (s .reached) c l (omega (arith, g .base, g .card)) (omega (arith, g .reached, g .card)) (ringMaker (s .makers)) 0 i;
+        frame = lowered-hand (s .base) (s .reached) c l (omega (arith, g .base, g .card)) (omega (arith, g .reached, g .card)) (λ d x. cut (ringFrame (s .entries) d x)) noEntries i;
+      };
+      place = view s .place;
+      ended = view s .ended;
+      line = view s .line;
+      rolled = member-set (withCard (member (s .rolled)) c) beyond i;
+    }
+  where
+    beyond : (k : ℕ) → 16 ≤ k → withCard (member (s .rolled)) c k ≡ false
+    beyond k h = ap₂ (λ (a b : Bool). a || b) (ne-eqb k c (λ (q : k ≡ c). absurd (omega (arith, g .card)))) (member-above 16 (s .rolled) k (g .rolled) h)
