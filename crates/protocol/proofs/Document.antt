@@ -1,19 +1,16 @@
--- Demands 1 to 3 at document 01's limits, and a list that shows that their premise can be met. Assumes nothing.
-use Prim.Native.Nat.{ℕ, zero, suc, _≤_, _<_}
-use mathlib.Core.Path.{_≡_, refl, ap}
-use mathlib.Core.Bool.{Bool, true, false}
-use mathlib.Core.List.{List, []}
-use native.Mathlib.Nat.{not-suc-le-zero}
-use lib.Dec.{lit≤}
-use Rattle.laws.specs.Below.{one-if, occurs}
-use Rattle.laws.proofs.Logic.{fails}
-use Rattle.history.specs.Change.{historyOf}
+-- Demands 2 and 3 at document 01's limits, and a list that shows that their premise can be met. Assumes nothing.
+use Prim.Native.Nat.{ℕ, zero, suc}
+use mathlib.Core.Path.{_≡_, refl, sym, ap₂}
+use mathlib.Core.Bool.{Bool, true, false, not, _&&_}
+use mathlib.Core.List.{List, [], _∷_}
+use native.Mathlib.Omega.{arith}
+use borrow.Author.Tests.{ne-eqb}
+use Rattle.laws.specs.Below.{one-if, anyBelow, occurs}
 use Rattle.protocol.specs.Model.{Limits, isRolling, Model, noCards}
+use Rattle.protocol.specs.Plan.{CardRow, done, fixed, accepted}
 use Rattle.protocol.specs.Calls.{freshModel, isLost}
-use Rattle.protocol.specs.Journal.{emptyJournal}
-use Rattle.protocol.specs.Run.{Call, loseCall, fixCall, rollCall, restartCall, Choice, afterCall, Calls, none, further, Run, start, next}
-use Rattle.protocol.specs.Demands.{Demand1, Demands23, SheetLimits, RestartsRolling, limits}
-use Rattle.protocol.proofs.Claims.{demand-1}
+use Rattle.protocol.specs.Run.{loseCall, fixCall, restartCall, Choice, afterCall, Calls, none, further, Run, start, next}
+use Rattle.protocol.specs.Demands.{Demands23, SheetLimits, RestartsRolling, limits}
 use Rattle.protocol.proofs.Answers.{demands}
 
 pub limits-fit : SheetLimits limits
@@ -23,7 +20,7 @@ limits-fit = record { width = refl; inHand = refl; greatestState = refl; greates
 pub document-demands : Demands23
 document-demands = demands limits limits-fit
 
--- ---- a list: two fresh cards, a loss, a fix, a restart from the sheets, both rolls
+-- ---- a list that meets their premise: two fresh cards, a loss of no card, a fix, and a restart from the sheets
 abbrev nothing-chosen : Choice
 nothing-chosen = record { named = 0; lost = [] }
 
@@ -33,5 +30,27 @@ lost-model = afterCall limits (freshModel 2) (loseCall noCards) nothing-chosen
 abbrev fixed-model : Model
 fixed-model = afterCall limits lost-model (fixCall 2 0) nothing-chosen
 
+pub nothing-lost : (k : ℕ) → occurs k [] ≡ one-if (isLost limits lost-model k)
+nothing-lost zero = refl
+nothing-lost (suc k) =
+    sym (ap₂ (λ (a b : Bool). one-if (not a && anyBelow (limits .places) (λ p. b))) (ne-eqb (suc k) 0 (λ e. no-suc (sym e))) (ne-eqb 0 (suc k) no-suc))
+  where
+    no-suc : ¬ (0 ≡ suc k)
+    no-suc e = omega arith
+
+-- what the fix answers: each card, stored and in the line at state 0
+abbrev rows : List CardRow
+rows = record { card = 0; stored = 0; line = 0 } ∷ record { card = 1; stored = 0; line = 0 } ∷ []
+
+abbrev fixed-calls : Calls
+fixed-calls = further (further none (loseCall noCards) (accepted done)) (fixCall 2 0) (accepted (fixed rows []))
+
+abbrev pub until-fix : Run limits 2 fixed-calls fixed-model
+until-fix = next (next start (loseCall noCards) nothing-chosen tt) (fixCall 2 0) nothing-chosen nothing-lost
+
+-- its next call, a restart, stands in phase rolling
 rolling-now : isRolling (fixed-model .phase) ≡ true
 rolling-now = refl
+
+pub with-restart : RestartsRolling (next until-fix restartCall nothing-chosen tt)
+with-restart = (((tt, tt), tt), rolling-now)

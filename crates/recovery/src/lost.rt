@@ -12,11 +12,7 @@ fn lesser(a: u32, b: u32) -> u32
     if a == 0 {
         b
     } else {
-        if b == 0 {
-            a
-        } else {
-            if a < b { a } else { b }
-        }
+        if b == 0 { a } else { if a < b { a } else { b } }
     }
 }
 
@@ -69,14 +65,7 @@ fn next_of_card(makers: &[u32; 768], c: usize, line: u32, reached: u32, k: u32) 
 }
 
 // The same of a card that is there; of another, none.
-fn next_if(
-    makers: &[u32; 768],
-    there: bool,
-    c: usize,
-    line: u32,
-    reached: u32,
-    k: u32,
-) -> u32
+fn next_if(makers: &[u32; 768], there: bool, c: usize, line: u32, reached: u32, k: u32) -> u32
     requires { ⌜ c < 16 ⌝ }
     ensures { λ r. ⌜ NextOf (λ j. there && framedBy (now (makers .entry)) c line reached j) k r ⌝ }
 {
