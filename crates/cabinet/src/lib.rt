@@ -405,6 +405,7 @@ impl Cabinet {
         );
         let phase = head.phase;
         let r = changes::open_verdict(sound, head, places, base, reached, reads, writes);
+        let answer = writes::open_answer(r, head.count);
         match r {
             Reply::Done => {
                 let p = verdicts::places::free_at(places);
@@ -418,15 +419,12 @@ impl Cabinet {
                     phase: phase,
                 };
                 self.head = h;
-                OpenAnswer {
-                    cabinet: self,
-                    reply: OpenReply::Opened(k),
-                }
             }
-            Reply::Refused(q) => OpenAnswer {
-                cabinet: self,
-                reply: OpenReply::NotOpened(q),
-            },
+            Reply::Refused(_) => {}
+        }
+        OpenAnswer {
+            cabinet: self,
+            reply: answer,
         }
     }
 

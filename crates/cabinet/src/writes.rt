@@ -1,5 +1,5 @@
 // What the calls write into a cabinet's lists.
-ghost use Prim.Native.Nat.{ℕ, _+_, _≤_};
+ghost use Prim.Native.Nat.{ℕ, _+_, _≤_, _<_};
 ghost use mathlib.Core.Path.{_≡_};
 ghost use mathlib.Core.Bool.{cond};
 ghost use lib.Seq.{sets};
@@ -8,7 +8,10 @@ ghost use Rattle.bits.specs.Member.{member};
 ghost use Rattle.protocol.specs.Edit.{remembered};
 ghost use Rattle.protocol.specs.Model.{freePlace};
 ghost use Rattle.verdicts.specs.Shape.{limits16, at, listOf, openAt, placeFor};
+ghost use Rattle.cabinet.specs.Apply.{openAnswer};
+use verdicts::OpenReply;
 use verdicts::Place;
+use verdicts::Reply;
 
 // The vector of a frame, at its place in the ring.
 pub fn put_frame(entries: &mut [u32; 12288], from: usize, v: [u32; 16])
@@ -64,4 +67,15 @@ pub fn ended_numbers(places: [Place; 8]) -> [u32; 8]
         p += 1;
     }
     out
+}
+
+// What an opening with that verdict answers, after so many changes.
+pub fn open_answer(r: Reply, count: u32) -> OpenReply
+    requires { ⌜ (r ≡ Reply.Done → count < 4294967295) ⌝ }
+    ensures { λ x. ⌜ x ≡ openAnswer r count ⌝ }
+{
+    match r {
+        Reply::Done => OpenReply::Opened(count + 1),
+        Reply::Refused(q) => OpenReply::NotOpened(q),
+    }
 }
