@@ -5,3 +5,4 @@ pub mod Laws
 pub mod Grow
 pub mod Roll
 pub mod Bases
+pub mod Told

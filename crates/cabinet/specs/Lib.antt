@@ -1,3 +1,4 @@
 pub mod View
 pub mod Apply
 pub mod Fresh
+pub mod Fixing

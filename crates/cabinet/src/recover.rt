@@ -1,15 +1,26 @@
 // Calls 6, 9 and 10 as methods: trim, fix, roll.
 ghost use mathlib.Core.Path.{_≡_};
+ghost use lib.ListN.{length};
 ghost use Rattle.protocol.specs.Calls.{trimPlan, rollPlan};
 ghost use Rattle.verdicts.specs.Shape.{limits16};
 ghost use Rattle.verdicts.specs.Answers.{replyOf};
 ghost use Rattle.cabinet.specs.View.{view};
 ghost use Rattle.cabinet.specs.Apply.{Carried};
+ghost use Rattle.cabinet.specs.Fixing.{FixCarried};
 use crate::Answer;
 use crate::Cabinet;
+use recovery::FixReply;
 use verdicts::Head;
 use verdicts::Phase;
 use verdicts::Reply;
+
+// What fix hands back: stored numbers and lines by card, beside the reply and the cabinet.
+pub struct FixAnswer {
+    pub cabinet: Cabinet,
+    pub stored: [u32; 16],
+    pub line: [u32; 16],
+    pub reply: FixReply,
+}
 
 impl Cabinet {
     // 6. trim
@@ -48,6 +59,70 @@ impl Cabinet {
         }
         Answer {
             cabinet: self,
+            reply: r,
+        }
+    }
+
+    // 9. fix: the numbers of the changes lost go into the lent list; `places` is the number of places for card records.
+    pub fn fix<'a>(mut self, places: usize, list: &'a mut [u32]) -> FixAnswer
+        ensures { λ r. ⌜ FixCarried self places (now (list .entry)) (now (list .exit)) (r .stored) (r .line) (r .reply) (r .cabinet) ⌝ }
+    {
+        let last = self.last;
+        let pending = self.pending;
+        let open = self.places;
+        let base = self.base;
+        let stored = self.stored;
+        let held = self.held;
+        let reached = self.reached;
+        let line = self.line;
+        let head = self.head;
+        let ended = self.ended;
+        let sound = soundness::cabinet_sound(
+            &self.entries,
+            &self.makers,
+            last,
+            pending,
+            open,
+            base,
+            stored,
+            held,
+            reached,
+            line,
+            head,
+        );
+        let out = recovery::core::fix(
+            list,
+            &self.entries,
+            &self.makers,
+            sound,
+            head,
+            base,
+            stored,
+            reached,
+            ended,
+            places,
+        );
+        let r = out.reply;
+        let lines = out.line;
+        match r {
+            FixReply::Fixed(_) => {
+                self.line = lines;
+                self.ended = [0u32; 8];
+                self.rolled = 0;
+                let rolling = Head {
+                    session: head.session,
+                    cards: head.cards,
+                    count: head.count,
+                    phase: Phase::Rolling,
+                };
+                self.head = rolling;
+            }
+            FixReply::NotFixed(_) => {}
+        }
+        FixAnswer {
+            cabinet: self,
+            stored: stored,
+            line: lines,
             reply: r,
         }
     }

@@ -20,7 +20,20 @@ use verdicts::is_up;
 use verdicts::replies::is_card;
 use verdicts::replies::next;
 
+pub mod core;
 pub mod lost;
+
+// What fix answers: how many changes are lost, their numbers in the lent list.
+pub enum FixReply {
+    Fixed(usize),
+    NotFixed(Refusal),
+}
+
+// What the core of fix hands back.
+pub struct Outcome {
+    pub line: [u32; 16],
+    pub reply: FixReply,
+}
 
 // "A state is hit when some entry of its vector, for card j, is at or above stored of j": the vector that begins at a place of the ring.
 fn orphan_from(entries: &[u32; 12288], stored: [u32; 16], from: usize) -> bool

@@ -1,0 +1,17 @@
+-- What fix hands back, by its plan: for some list with each lost change once, which the lent list then begins with.
+use Prim.Native.Nat.{ℕ}
+use mathlib.Core.Path.{_≡_}
+use mathlib.Core.List.{List}
+use lib.ListN.{length}
+use Rattle.protocol.specs.Calls.{fixPlan}
+use Rattle.verdicts.specs.Shape.{limits16}
+use Rattle.recovery.specs.declared.FixReply.{FixReply}
+use Rattle.recovery.specs.Fix.{FixTold}
+use Rattle.cabinet.specs.declared.Cabinet.{Cabinet}
+use Rattle.cabinet.specs.View.{view}
+use Rattle.cabinet.specs.Apply.{applyAll}
+
+pub record FixCarried (s : Cabinet) (places : ℕ) (before after stored line : List ℕ) (reply : FixReply) (next : Cabinet) : Type 0 where
+  pub told : FixTold (view s) (fixPlan limits16 (view s) places (length before)) (s .head .cards) stored line before after reply
+  pub kept : stored ≡ s .stored
+  pub cabinet : next ≡ applyAll (fixPlan limits16 (view s) places (length before) (told .lost) .edits) s

@@ -1,0 +1,90 @@
+use lib.ListN.{replicate}
+use Rattle.verdicts.proofs.Held.{zero-listed}
+use Rattle.recovery.proofs.Told.{early-told, short-told, fixed-told, foundLine}
+use Rattle.verdicts.specs.declared.Reply.the-variants.{Done, Refused}
+use Prim.Native.Nat.{ℕ, zero, suc, _+_, _*_, _-_, _/_, _%_, _^_, _≤_, _<_, max}
+use mathlib.Core.Path.{_≡_, refl, sym, _∙_, ap, ap₂}
+use mathlib.Core.Bool.{Bool, true, false, not, _&&_, _||_, cond}
+use mathlib.Core.List.{List, [], _∷_, _++_}
+use mathlib.Core.Logic.{⊎-elim, by-cases, inl, inr}
+use native.Mathlib.Numerals.{add-one}
+use native.Mathlib.Omega.{arith}
+use lib.ListN.{length, getD, set, List·getD-eq-default}
+use lib.Dec.{leb, ltb, eqb}
+use borrow.Author.Tests.{eq-eqb, ne-eqb, lt-ltb, le-ltb, le-leb, lt-leb, ltb-true, leb-true}
+use Rattle.laws.specs.Below.{allBelow, anyBelow, tabulate}
+use Rattle.laws.proofs.Logic.{test, clash, cond-true, cond-false, and-intro, and-left, and-right}
+use Rattle.laws.proofs.Fill.{AnySoFar, any-none, any-more, any-done, any-same, all-same, FilledSoFar, filled-none, filled-more, filled-done}
+use Rattle.history.specs.Line.{orphan, climb, lineFrom}
+use Rattle.verdicts.specs.Shape.{limits16, at, listOf, setOf, ringFrame, ringPlace, headModel, modelOf}
+use Rattle.verdicts.proofs.Limits.{width16, places8, greatestNumber32}
+use borrow.Author.Needs.{needs}
+use Rattle.recovery.proofs.core.fix.Statement.{statement}
+use Rattle.recovery.proofs.core.fix.Tie as tie
+use Rattle.recovery.proofs.core.fix.Reads as reads
+use Rattle.recovery.proofs.core.fix.Lts as lts
+use Rattle.recovery.proofs.core.fix_reply.Reads as fix-reply-reads
+use Rattle.recovery.proofs.core.is_short.Reads as is-short-reads
+use Rattle.recovery.proofs.lines.Reads as lines-reads
+use Rattle.recovery.proofs.lost.count_lost.Reads as count-lost-reads
+use Rattle.recovery.proofs.lost.write_lost.Reads as write-lost-reads
+
+-- src/core.rt:58:9
+fix-reply-requires : tie.Need-fix-reply-requires
+fix-reply-requires c κs = search needs
+
+-- src/core.rt:61:17
+enum-told : tie.Need-enum-told
+enum-told c = search needs
+
+-- src/core.rt:61:17
+lines-requires : tie.Need-lines-requires
+lines-requires c κs = search needs
+
+-- src/core.rt:62:17
+count-lost-requires : tie.Need-count-lost-requires
+count-lost-requires c κs = search needs
+
+-- src/core.rt:63:17
+is-short-requires : tie.Need-is-short-requires
+is-short-requires c κs = search needs
+
+-- src/core.rt:70:17
+write-lost-requires : tie.Need-write-lost-requires
+write-lost-requires c κs = search needs
+
+-- src/core.rt:77:24
+enum-known-first : tie.Need-enum-known-first
+enum-known-first c = search needs
+
+-- src/core.rt:44:1
+returns : tie.Need-returns
+returns c = let a : _ = c .before .before .before .before .before .before .before .before .args in short-told (a .entries .now) (a .makers .now) (a .base) (a .stored) (a .reached) (a .ended) (a .head) (a .sound) (a .places) (a .list .now) (c .before .before .before .lines .result) (c .before .before .before .lines .ensures) (replicate 16 0) zero-listed (c .before .before .count-lost .result) (c .before .before .count-lost .ensures) (sym (c .before .before .before .before .before .before .fix-reply .ensures) ∙ c .before .before .before .before .enum-told .given .1) (sym (c .before .is-short .ensures) ∙ c .if1 .taken)
+
+-- src/core.rt:44:1
+same-length : tie.Need-same-length
+same-length c = search needs
+
+-- src/core.rt:44:1
+returns-2 : tie.Need-returns-2
+returns-2 c = let a : _ = c .before .before .before .before .before .before .before .before .before .before .before .before .args in fixed-told (a .entries .now) (a .makers .now) (a .base) (a .stored) (a .reached) (a .ended) (a .head) (a .sound) (a .places) (a .list .now) (c .before .before .before .before .before .before .before .lines .result) (c .before .before .before .before .before .before .before .lines .ensures) (replicate 16 0) zero-listed (c .before .before .before .before .before .before .count-lost .result) _ (c .before .before .before .before .before .before .count-lost .ensures) (c .before .before .write-lost .ensures) (sym (c .before .before .before .before .before .before .before .before .before .before .fix-reply .ensures) ∙ c .before .before .before .before .before .before .before .before .enum-told .given .1) (sym (c .before .before .before .before .before .is-short .ensures) ∙ c .before .before .before .before .if1 .left)
+
+-- src/core.rt:44:1
+returns-3 : tie.Need-returns-3
+returns-3 c = let a : _ = c .before .before .before .before .before .args in early-told (a .entries .now) (a .makers .now) (a .base) (a .stored) (a .reached) (a .ended) (a .head) (a .sound) (a .places) (a .list .now) (foundLine (a .entries .now) (a .makers .now) (a .base) (a .stored) (a .reached) (a .ended) (a .head)) (refl) (replicate 16 0) zero-listed _ (sym (c .before .before .before .fix-reply .ensures) ∙ c .before .first .given .1)
+
+pub fix-spec : {M : Type 1} → statement M
+fix-spec =
+    tie.close
+    (tie.spec
+    fix-reply-requires
+    enum-told
+    lines-requires
+    count-lost-requires
+    is-short-requires
+    write-lost-requires
+    enum-known-first
+    returns
+    same-length
+    returns-2
+    returns-3)

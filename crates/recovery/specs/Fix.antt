@@ -1,0 +1,60 @@
+-- What fix answers: the reply, the lines by card, and the numbers of the changes lost in the lent list.
+use Prim.Native.Nat.{ℕ}
+use mathlib.Core.Path.{_≡_}
+use mathlib.Core.Bool.{Bool, not}
+use mathlib.Core.List.{List, [], _∷_}
+use lib.ListN.{length, take}
+use lib.Seq.{sets}
+use Rattle.laws.specs.Below.{selected, occurs, one-if}
+use Rattle.protocol.specs.Model.{Model}
+use Rattle.protocol.specs.Edit.{fix}
+use Rattle.protocol.specs.Plan.{CardRow, Answer, done, opened, safe, unsafe, fixed, written, Check, Plan, checked, accepted, refused}
+use Rattle.protocol.specs.Plan as plan
+use Rattle.protocol.specs.Calls.{lines, isLost, cardRows, fixChecks}
+use Rattle.verdicts.specs.Shape.{limits16, at, listOf, presentOf}
+use Rattle.verdicts.specs.Answers.{after28}
+use Rattle.recovery.specs.declared.FixReply.{FixReply}
+use Rattle.recovery.specs.declared.FixReply.the-variants.{Fixed, NotFixed}
+
+-- the card records, in card order, from the arrays answered
+abbrev pub rowsOf : ℕ → (stored line : List ℕ) → List CardRow
+rowsOf n stored line = selected (limits16 .width) (presentOf n) (λ c. record { card = c; stored = at stored c; line = at line c })
+
+-- the reply in document 01's values: so many of the lent list's first places hold the numbers of the changes lost
+abbrev pub fixReplyOf : ℕ → (stored line list : List ℕ) → FixReply → plan.Reply
+fixReplyOf n stored line list (Fixed k) = accepted (fixed (rowsOf n stored line) (take k list))
+fixReplyOf n stored line list (NotFixed r) = refused r
+
+-- the lent list after the call
+abbrev pub listAfter : plan.Reply → List ℕ → List ℕ
+listAfter (accepted (fixed rows lost)) l = sets l 0 lost
+listAfter (accepted done) l = l
+listAfter (accepted (opened k)) l = l
+listAfter (accepted safe) l = l
+listAfter (accepted unsafe) l = l
+listAfter (accepted (written b)) l = l
+listAfter (refused r) l = l
+
+-- the lines answered: all 0 where the call is refused
+abbrev pub linesAfter : plan.Reply → Model → List ℕ
+linesAfter (accepted a) m = listOf (lines limits16 m)
+linesAfter (refused r) m = listOf (λ c. 0)
+
+-- all checks but the last: "4 comes last of all"
+abbrev pub butLast : List Check → List Check
+butLast [] = []
+butLast (c ∷ []) = []
+butLast (c ∷ d ∷ cs) = c ∷ butLast (d ∷ cs)
+
+-- for some list with each lost change once, the answer is that of the plan
+pub record FixTold (m : Model) (p : List ℕ → Plan) (n : ℕ) (stored line before after : List ℕ) (reply : FixReply) : Type 0 where
+  pub lost : List ℕ
+  pub once : (k : ℕ) → occurs k lost ≡ one-if (isLost limits16 m k)
+  pub answer : fixReplyOf n stored line after reply ≡ p lost .reply
+  pub list : after ≡ listAfter (p lost .reply) before
+  pub arrays : line ≡ linesAfter (p lost .reply) m
+
+-- the plan of fix for a cabinet that was found to pass 28 or not
+abbrev pub fixPlanFor : Bool → Model → (cardPlaces lostPlaces : ℕ) → List ℕ → Plan
+fixPlanFor whole m cardPlaces lostPlaces lost =
+    checked (after28 (not whole) (fixChecks limits16 m cardPlaces lostPlaces lost)) (fixed (cardRows limits16 m) lost) (fix (lines limits16 m) ∷ [])
