@@ -1,4 +1,4 @@
--- What accepted calls of a list answer: fixes, rolls, losses and safe questions; and with it demands 2 and 3. Assumes nothing.
+-- What accepted calls of a list answer and do: takes, fixes, rolls, losses and safe questions; and with it demands 2 and 3. Assumes nothing.
 use Prim.Native.Nat.{ℕ, zero, suc, _+_, _-_, _≤_, _<_}
 use mathlib.Core.Path.{_≡_, refl, sym, _∙_, ap, ap₂, subst, subst₂}
 use mathlib.Core.Bool.{Bool, true, false, not, _&&_, _||_, cond}
@@ -24,14 +24,14 @@ use Rattle.history.proofs.Entries.{state-vector-is}
 use Rattle.history.proofs.Lines.{line-cut, cut-below}
 use Rattle.history.proofs.Theorems.{line-whole}
 use Rattle.protocol.specs.Model.{Limits, Phase, up, down, rolling, isUp, isDown, isRolling, OpenChange, Model, isCard, isOpen, decided, toWrite, awaitsWrite, placeOf, isKnown, withCard}
-use Rattle.protocol.specs.Edit.{put, Edit, fall, halt, lower, renew, editedAll}
+use Rattle.protocol.specs.Edit.{put, Edit, place, grow, raise, fall, halt, lower, renew, editedAll}
 use Rattle.protocol.specs.Plan.{CardRow, Answer, done, safe, unsafe, fixed, Reply, accepted, refused, Check, Plan, checked, afterPlan}
-use Rattle.protocol.specs.Calls.{lineOf, cardRows, someFrameAbove, hasFrame, writesLeft, isSafe, isLost, safeChecks, loseChecks, fixChecks, rollChecks, allRolled}
+use Rattle.protocol.specs.Calls.{lineOf, cardRows, someFrameAbove, hasFrame, writesLeft, isSafe, isLost, tookShare, takeChecks, safeChecks, loseChecks, fixChecks, rollChecks, allRolled}
 use Rattle.protocol.specs.Sheets.{sheetOf, pageStored, restarted}
 use Rattle.protocol.specs.Journal.{Journal, Fixing, fixing}
 use Rattle.protocol.specs.Run.{Call, openCall, voteCall, takeCall, withdrawCall, storeCall, trimCall, safeCall, loseCall, fixCall, rollCall, sheetCall, restartCall, Choice, Proper, planOf, afterCall, Calls, none, further, Run, start, next, journal, lineNoted, lastKept}
-use Rattle.protocol.specs.Demands.{H, decisions, VectorsRight, FixRight, RollRight, SafeRight, CallRight, RestartsTo, CabinetRight, Throughout, RestartsRolling, SheetLimits, Demands}
-use Rattle.protocol.proofs.Taking.{put-same}
+use Rattle.protocol.specs.Demands.{H, decisions, VectorsRight, FixRight, RollRight, TakeRight, SafeRight, CallRight, RestartsTo, CabinetRight, Throughout, RestartsRolling, SheetLimits, Demands}
+use Rattle.protocol.proofs.Taking.{put-same, reached-next}
 use Rattle.protocol.proofs.Intact.{lineAt, line-same}
 use Rattle.protocol.proofs.Places.{Stood}
 use Rattle.protocol.proofs.Running.{About, StandsFor, Running}
@@ -140,6 +140,43 @@ module _ (L : Limits) (n : ℕ) (few : n ≤ L .width) (m : Model) (j : Journal)
             reached = put-same (m .numbers .reached) c (m .line c) ∙ noted-line;
           }
 
+  -- ---- take
+  module _ (r : Running L m j) (k c : ℕ) (is-place : placeOf L m k < L .places) (is-card : c < L .width) (is-open : isOpen (m .place (placeOf L m k)) ≡ true)
+      (is-number : m .place (placeOf L m k) .change .number ≡ k) (is-decided : decided L (m .place (placeOf L m k)) ≡ true) (is-untaken : m .place (placeOf L m k) .taken c ≡ false) where
+    abbrev p : ℕ
+    p = placeOf L m k
+
+    abbrev o : OpenChange
+    o = m .place p
+
+    t : About L m (j .start) (decisions j) (r .took) (r .at) (H j)
+    t = r .about (H j) (λ i h. refl)
+
+    st : Stood (L .width) (H j) (j .start) (decisions j) (r .took) o (r .at p)
+    st = t .standing .stood p is-place is-open is-decided
+
+    -- the cabinet after the share, written or only read
+    abbrev shared : Bool → Model
+    shared b = editedAll L (cond b (grow c (o .change .number) (o .vector)) (raise c (o .vector)) ∷ place p (tookShare L o c) ∷ []) m
+
+    written-as : H j (r .at p) .writes c ≡ o .change .writes c
+    written-as = ap (λ (x : Change). x .writes c) (st .change-is)
+
+    next-made : H j (r .at p) .writes c ≡ true → suc (m .numbers .reached c) ≡ made (H j) (j .start) (r .at p) c
+    next-made e =
+        reached-next (L .width) (H j) (j .start) (decisions j) (r .took) (t .orderly) (r .at p) c (st .in-history) is-card (st .taken-is c is-card ∙ is-untaken) e (t .levels)
+
+    take-right : TakeRight j k c m (shared (o .change .writes c))
+    take-right =
+        record {
+          i = r .at p;
+          decided = st .in-history;
+          number = ap (λ (x : Change). x .number) (st .change-is) ∙ is-number;
+          reached-made = λ e. ap (λ (b : Bool). shared b .numbers .reached c) (sym written-as ∙ e) ∙ put-same (m .numbers .reached) c (suc (m .numbers .reached c)) ∙ next-made e;
+          held-made = λ e. ap (λ (b : Bool). shared b .numbers .held c) (sym written-as ∙ e) ∙ put-same (m .numbers .held) c (suc (m .numbers .reached c)) ∙ next-made e;
+          read-stays = λ e. ap (λ (b : Bool). shared b .numbers .reached c) (sym written-as ∙ e);
+        }
+
   -- ---- safe
   module _ (r : Running L m j) (is-up : isUp (m .phase) ≡ true) (k : ℕ) where
     b : About L m (j .start) (decisions j) (r .took) (r .at) (H j)
@@ -232,7 +269,16 @@ call-right : (L : Limits) → SheetLimits L → (n : ℕ) → 1 ≤ n → n ≤ 
     → (a : Answer) → planOf L m call x .reply ≡ accepted a → CallRight L n cs call a m (afterCall L m call x)
 call-right L lim n low high r w (openCall reads writes) x p a e = tt
 call-right L lim n low high r w (voteCall k c agrees) x p a e = tt
-call-right L lim n low high r w (takeCall k c) x p a e = tt
+call-right L lim n low high {cs} {m} r w (takeCall k c) x p a e =
+    answered (λ (b : Answer) (q : Plan). TakeRight (journal L n cs) k c m (afterPlan L q m)) (takeChecks L m k c) _ _
+    (λ ps.
+    let kp : (placeOf L m k < L .places) × (isOpen (m .place (placeOf L m k)) ≡ true) × (m .place (placeOf L m k) .change .number ≡ k) = known-place L m k (not-not (isKnown L m k) (ps .1 .1 .1 .0)) in
+    let aw : touches (m .place (placeOf L m k) .change) c && not (m .place (placeOf L m k) .taken c) ≡ true = not-not (touches (m .place (placeOf L m k) .change) c && not (m .place (placeOf L m k) .taken c)) (ps .1 .1 .1 .1 .1 .0) in
+    take-right L n high m (journal L n cs) v (runs L n high m (journal L n cs) v (up-only (m .phase) (not-not (isUp (m .phase)) (ps .1 .1 .0)))) k c (kp .0) (card-below L m c (not-not (isCard L m c) (ps .1 .0))) (kp .1) (kp .2)
+    (not-not (decided L (m .place (placeOf L m k))) (ps .1 .1 .1 .1 .0)) (not-true (m .place (placeOf L m k) .taken c) (and-right (touches (m .place (placeOf L m k) .change) c) (not (m .place (placeOf L m k) .taken c)) aw))) a e
+  where
+    v : Invariant L n m (journal L n cs)
+    v = run-invariant lim low high r w
 call-right L lim n low high r w (withdrawCall k) x p a e = tt
 call-right L lim n low high r w (storeCall c s) x p a e = tt
 call-right L lim n low high r w trimCall x p a e = tt

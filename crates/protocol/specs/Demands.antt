@@ -1,4 +1,4 @@
--- Demands 1 to 3 over whole lists of calls, and what belongs to them. Statements alone: the proofs are in proofs/Claims.antt.
+-- Demands 1 to 3 over whole lists of calls, and what belongs to them. Statements alone: the proofs are in proofs/Claims.antt (demand 1) and proofs/Answers.antt.
 use Prim.Native.Nat.{ℕ, zero, suc, _+_, _≤_, _<_}
 use mathlib.Core.Path.{_≡_}
 use mathlib.Core.Bool.{Bool, true, false, not, _&&_, _||_}
@@ -77,6 +77,15 @@ pub record RollRight (j : Journal) (c : ℕ) (m : Model) : Type 0 where
   pub held : m .numbers .held c ≡ lineNoted (j .fix) c
   pub reached : m .numbers .reached c ≡ lineNoted (j .fix) c
 
+-- Call 3: the change of number k is in the history; a card that it wrote is brought to the state that it made there, and a card only read stays at its state
+pub record TakeRight (j : Journal) (k c : ℕ) (m m' : Model) : Type 0 where
+  pub i : ℕ
+  pub decided : i < decisions j
+  pub number : H j i .number ≡ k
+  pub reached-made : H j i .writes c ≡ true → m' .numbers .reached c ≡ made (H j) (j .start) i c
+  pub held-made : H j i .writes c ≡ true → m' .numbers .held c ≡ made (H j) (j .start) i c
+  pub read-stays : H j i .writes c ≡ false → m' .numbers .reached c ≡ m .numbers .reached c
+
 -- Call 7: the change of number k is in the history, and it is answered safe exactly where the journal has all its states stored
 pub record SafeRight (L : Limits) (j : Journal) (k : ℕ) (answer : Answer) : Type 0 where
   pub i : ℕ
@@ -88,7 +97,7 @@ pub record SafeRight (L : Limits) (j : Journal) (k : ℕ) (answer : Answer) : Ty
 abbrev pub CallRight : Limits → (n : ℕ) → Calls → Call → Answer → (m m' : Model) → Type 0
 CallRight L n cs (openCall reads writes) a m m' = Unit {0}
 CallRight L n cs (voteCall k c agrees) a m m' = Unit {0}
-CallRight L n cs (takeCall k c) a m m' = Unit {0}
+CallRight L n cs (takeCall k c) a m m' = TakeRight (journal L n cs) k c m m'
 CallRight L n cs (withdrawCall k) a m m' = Unit {0}
 CallRight L n cs (storeCall c s) a m m' = Unit {0}
 CallRight L n cs trimCall a m m' = Unit {0}
