@@ -1,4 +1,4 @@
--- Demand 1 for any cabinet, and demands 2 and 3 for every list of calls. Assumes nothing.
+-- Demand 1, for any limits, any cabinet and any arguments. Assumes nothing.
 use Prim.Native.Nat.{ℕ, zero, suc, _+_, _-_, _≤_, _<_, zero-le}
 use mathlib.Core.Path.{_≡_, refl, sym, _∙_, ap, ap₂, subst}
 use mathlib.Core.Bool.{Bool, true, false, not, _&&_, _||_, cond}
