@@ -1,0 +1,7 @@
+pub mod Lengths
+pub mod Narrow
+pub mod Laws
+pub mod Plans
+pub mod Fresh
+pub mod Whole
+pub mod Refusing

@@ -1,0 +1,39 @@
+-- Demands 1, 2 and 3 of the 16-card cabinet. Statements alone: the proofs are in proofs/Whole.antt.
+use Prim.Native.Nat.{ℕ}
+use mathlib.Core.Path.{_≡_}
+use mathlib.Core.List.{List}
+use Rattle.refusal.specs.declared.Refusal.{Refusal}
+use Rattle.refusal.specs.Number.{numberOf}
+use Rattle.protocol.specs.Plan.{Answer, Reply, accepted, refused}
+use Rattle.protocol.specs.Run.{Calls, none, further}
+use Rattle.protocol.specs.Demands.{Listed, CallRight, CabinetRight, WhileRolling}
+use Rattle.verdicts.specs.Shape.{limits16}
+use Rattle.cabinet.specs.declared.Cabinet.{Cabinet}
+use Rattle.cabinet.specs.View.{view}
+use Rattle.demands.specs.Lists.{Asked, callOf, lent, Answered, List16, start, next}
+
+-- ---- Demand 1, for any cabinet, a forged one too, and any arguments: "gets an answer or a refusal from document 01. A refusal changes neither the cabinet nor any lent list or buffer."
+pub record Refuses16 (s : Cabinet) (asked : Asked) (t : Cabinet) (after : List ℕ) (r : Refusal) : Type 0 where
+  pub listed : Listed (numberOf r)
+  pub cabinet : t ≡ s
+  pub lists : after ≡ lent asked
+
+abbrev pub Demand1 : Type 0
+Demand1 = (s : Cabinet) (asked : Asked) (t : Cabinet) (after : List ℕ) (r : Refusal) → Answered s asked (refused r) t after → Refuses16 s asked t after r
+
+-- ---- Demands 2 and 3
+-- every restart of a list stands in phase rolling
+abbrev pub RestartsRolling : {n : ℕ} {cs : Calls} {s : Cabinet} → List16 n cs s → Type 0
+RestartsRolling (start s f) = Unit {0}
+RestartsRolling (next {cs} {s} l asked z reply t after w) = RestartsRolling l × WhileRolling (callOf asked) (view s)
+
+-- throughout a list: of each accepted call, and of the cabinet after each call
+abbrev pub Throughout : {n : ℕ} {cs : Calls} {s : Cabinet} → List16 n cs s → Type 0
+Throughout {n} (start s f) = CabinetRight limits16 n none (view s)
+Throughout {n} (next {cs} {s} l asked z reply t after w) =
+    Throughout l
+    × ((a : Answer) → reply ≡ accepted a → CallRight limits16 n cs (callOf asked) a (view s) (view t))
+    × CabinetRight limits16 n (further cs (callOf asked) reply) (view t)
+
+abbrev pub Demands23 : Type 0
+Demands23 = (n : ℕ) (cs : Calls) (s : Cabinet) (l : List16 n cs s) → RestartsRolling l → Throughout l

@@ -1,0 +1,155 @@
+-- Lists of calls of the 16-card cabinet: "Each call gets the cabinet that the last one returned", and answers what its contract says.
+use Prim.Native.Nat.{ℕ, _<_}
+use mathlib.Core.Path.{_≡_}
+use mathlib.Core.Bool.{Bool}
+use mathlib.Core.List.{List, []}
+use lib.ListN.{length}
+use lib.Seq.{sets}
+use Rattle.bits.specs.Member.{member}
+use Rattle.frame.specs.declared.Verdict.the-variants.{Accepted, Refused}
+use Rattle.frame.specs.declared.Verdict.{Verdict}
+use Rattle.frame.specs.Format.{format}
+use Rattle.protocol.specs.Plan.{Reply, accepted, refused, done, opened, unsafe, fixed, written}
+use Rattle.protocol.specs.Plan as plan
+use Rattle.protocol.specs.Calls.{votePlan, takePlan, withdrawPlan, storePlan, trimPlan, safePlan, losePlan, rollPlan}
+use Rattle.protocol.specs.Sheets.{sheetPlan, joinedSheets, restartReply, restartedFrom}
+use Rattle.protocol.specs.Run as run
+use Rattle.protocol.specs.Run.{Call, Calls, none, further, verdictReply}
+use Rattle.verdicts.specs.Shape.{limits16}
+use Rattle.recovery.specs.declared.FixReply.{FixReply}
+use Rattle.recovery.specs.Fix.{fixReplyOf, listAfter}
+use Rattle.cabinet.specs.declared.Cabinet.{Cabinet}
+use Rattle.cabinet.specs.View.{view}
+use Rattle.cabinet.specs.Apply.{Carried, OpenCarried}
+use Rattle.cabinet.specs.Fixing.{FixCarried}
+use Rattle.cabinet.specs.Fresh.{Freshly}
+
+-- a call with its arguments as the code takes them: a set is a number of 16 bits, and a lent list comes with what stands in it
+pub data Asked : Type 0 where
+  opening : (reads writes : ℕ) → Asked
+  vote : (change card : ℕ) (agrees : Bool) → Asked
+  take : (change card : ℕ) → Asked
+  withdraw : (change : ℕ) → Asked
+  store : (card state : ℕ) → Asked
+  trim : Asked
+  safe : (change : ℕ) → Asked
+  lose : (cards : ℕ) → Asked
+  fix : (places : ℕ) (list : List ℕ) → Asked
+  roll : (card : ℕ) → Asked
+  sheet : (card : ℕ) (buffer : List ℕ) → Asked
+  -- restart from the sheets of all cards as this cabinet writes them, joined
+  restart : Asked
+
+-- the call of the model
+abbrev pub callOf : Asked → Call
+callOf (opening reads writes) = run.openCall (member reads) (member writes)
+callOf (vote k c agrees) = run.voteCall k c agrees
+callOf (take k c) = run.takeCall k c
+callOf (withdraw k) = run.withdrawCall k
+callOf (store c s) = run.storeCall c s
+callOf trim = run.trimCall
+callOf (safe k) = run.safeCall k
+callOf (lose cards) = run.loseCall (member cards)
+callOf (fix places list) = run.fixCall places (length list)
+callOf (roll c) = run.rollCall c
+callOf (sheet c buffer) = run.sheetCall c (length buffer)
+callOf restart = run.restartCall
+
+-- what the types of the arguments say: a set has 16 bits
+abbrev pub Typed : Asked → Type 0
+Typed (opening reads writes) = (reads < 65536) × (writes < 65536)
+Typed (vote k c agrees) = Unit {0}
+Typed (take k c) = Unit {0}
+Typed (withdraw k) = Unit {0}
+Typed (store c s) = Unit {0}
+Typed trim = Unit {0}
+Typed (safe k) = Unit {0}
+Typed (lose cards) = cards < 65536
+Typed (fix places list) = Unit {0}
+Typed (roll c) = Unit {0}
+Typed (sheet c buffer) = Unit {0}
+Typed restart = Unit {0}
+
+-- the list or buffer that a call lends, as it stands before the call; none is lent by the others
+abbrev pub lent : Asked → List ℕ
+lent (opening reads writes) = []
+lent (vote k c agrees) = []
+lent (take k c) = []
+lent (withdraw k) = []
+lent (store c s) = []
+lent trim = []
+lent (safe k) = []
+lent (lose cards) = []
+lent (fix places list) = list
+lent (roll c) = []
+lent (sheet c buffer) = buffer
+lent restart = []
+
+-- what the type of the cabinet says: each list has its length, and a set has 16 bits
+pub record Sized (s : Cabinet) : Type 0 where
+  pub entries : length (s .entries) ≡ 12288
+  pub makers : length (s .makers) ≡ 768
+  pub last : length (s .last) ≡ 16
+  pub pending : length (s .pending) ≡ 16
+  pub places : length (s .places) ≡ 8
+  pub base : length (s .base) ≡ 16
+  pub stored : length (s .stored) ≡ 16
+  pub held : length (s .held) ≡ 16
+  pub reached : length (s .reached) ≡ 16
+  pub line : length (s .line) ≡ 16
+  pub ended : length (s .ended) ≡ 8
+  pub rolled : s .rolled < 65536
+
+-- fix: what its contract says, and its reply in document 01's values
+pub record FixAnswered (s : Cabinet) (places : ℕ) (before : List ℕ) (reply : Reply) (next : Cabinet) (after : List ℕ) : Type 0 where
+  pub stored : List ℕ
+  pub line : List ℕ
+  pub told : FixReply
+  pub carried : FixCarried s places before after stored line told next
+  pub answer : reply ≡ fixReplyOf (s .head .cards) stored line after told
+
+-- the buffer after a sheet was written to its first places
+abbrev pub bufferAfter : Reply → List ℕ → List ℕ
+bufferAfter (accepted (written bytes)) l = sets l 0 bytes
+bufferAfter (accepted done) l = l
+bufferAfter (accepted (opened k)) l = l
+bufferAfter (accepted plan.safe) l = l
+bufferAfter (accepted unsafe) l = l
+bufferAfter (accepted (fixed rows lost)) l = l
+bufferAfter (refused r) l = l
+
+-- a card's sheet into a lent buffer
+pub record SheetAnswered (s : Cabinet) (card : ℕ) (before : List ℕ) (reply : Reply) (next : Cabinet) (after : List ℕ) : Type 0 where
+  pub answer : reply ≡ sheetPlan format limits16 (view s) card (length before) .reply
+  pub cabinet : next ≡ s
+  pub buffer : after ≡ bufferAfter reply before
+
+-- restart from a read-out: a cabinet that shows what the sheets give, or a refusal, and the caller goes on with the cabinet it has
+abbrev pub RestartedTo : Verdict → List ℕ → (s next : Cabinet) → Type 0
+RestartedTo Accepted bytes s next = Sized next × (view next ≡ restartedFrom limits16 bytes)
+RestartedTo (Refused r) bytes s next = next ≡ s
+
+pub record RestartAnswered (s : Cabinet) (reply : Reply) (next : Cabinet) : Type 0 where
+  pub answer : reply ≡ verdictReply (restartReply (joinedSheets format limits16 (view s)))
+  pub cabinet : RestartedTo (restartReply (joinedSheets format limits16 (view s))) (joinedSheets format limits16 (view s)) s next
+
+-- what a call answers, the cabinet that it hands back, and the list or buffer lent after it: the contract of each method
+abbrev pub Answered : Cabinet → Asked → Reply → Cabinet → List ℕ → Type 0
+Answered s (opening reads writes) reply next after = OpenCarried s reads writes reply next × (after ≡ [])
+Answered s (vote k c agrees) reply next after = Carried s (votePlan limits16 (view s) k c agrees) reply next × (after ≡ [])
+Answered s (take k c) reply next after = Carried s (takePlan limits16 (view s) k c) reply next × (after ≡ [])
+Answered s (withdraw k) reply next after = Carried s (withdrawPlan limits16 (view s) k) reply next × (after ≡ [])
+Answered s (store c x) reply next after = Carried s (storePlan limits16 (view s) c x) reply next × (after ≡ [])
+Answered s trim reply next after = Carried s (trimPlan limits16 (view s)) reply next × (after ≡ [])
+Answered s (safe k) reply next after = Carried s (safePlan limits16 (view s) k) reply next × (after ≡ [])
+Answered s (lose cards) reply next after = Carried s (losePlan limits16 (view s) (member cards)) reply next × (after ≡ [])
+Answered s (fix places list) reply next after = FixAnswered s places list reply next after
+Answered s (roll c) reply next after = Carried s (rollPlan limits16 (view s) c) reply next × (after ≡ [])
+Answered s (sheet c buffer) reply next after = SheetAnswered s c buffer reply next after
+Answered s restart reply next after = RestartAnswered s reply next × (after ≡ [])
+
+-- the calls made from a fresh cabinet of n cards, and the cabinet that they lead to
+pub data List16 (n : ℕ) : Calls → Cabinet → Type 0 where
+  start : (s : Cabinet) → Freshly n (accepted done) s → List16 n none s
+  next : {cs : Calls} {s : Cabinet} → List16 n cs s → (asked : Asked) → Typed asked → (reply : Reply) (t : Cabinet) (after : List ℕ) → Answered s asked reply t after
+      → List16 n (further cs (callOf asked) reply) t
