@@ -34,7 +34,9 @@ use Rattle.protocol.specs.Run.{Call, Choice, Proper, planOf, afterCall, Calls, 
 use Rattle.protocol.specs.Run as run
 use Rattle.protocol.specs.Demands as model
 use Rattle.protocol.specs.Demands.{SheetLimits, CallRight, CabinetRight, WhileRolling, Listed}
+use Rattle.protocol.specs.Anywhere as anywhere
 use Rattle.protocol.proofs.Answers.{demands}
+use Rattle.protocol.proofs.Anywhere.{sooner}
 use Rattle.verdicts.specs.Shape.{limits16, at}
 use Rattle.verdicts.proofs.Limits.{width16, inHand48, places8, greatest60000, greatestNumber32}
 use Rattle.cabinet.specs.declared.Cabinet.{Cabinet}
@@ -43,7 +45,7 @@ use Rattle.cabinet.specs.Apply.{Carried, OpenCarried, applyAll}
 use Rattle.cabinet.specs.Fixing.{FixCarried}
 use Rattle.cabinet.specs.Fresh.{Freshly, zeroCabinet, freshHead, voidHead}
 use Rattle.demands.specs.Lists.{Asked, opening, vote, take, withdraw, store, trim, safe, lose, fix, roll, sheet, restart, callOf, Typed, lent, Sized, FixAnswered, SheetAnswered, RestartedTo, RestartAnswered, Answered, List16, start, next}
-use Rattle.demands.specs.Claims.{RestartsRolling, Throughout, Demands23}
+use Rattle.demands.specs.Claims.{RestartsRolling, Throughout, Demands23, RestartsLeft, Anywhere}
 use Rattle.cabinet.proofs.Laws.{free-fits}
 use Rattle.demands.proofs.Narrow.{Narrow}
 use Rattle.demands.proofs.Laws.{EditsFit, Shows, edits-show}
@@ -155,15 +157,18 @@ step s z w restart y reply t after d =
     }
 
 -- ---- whole lists
--- the model's run of a list, whose restarts all stand in phase rolling
-pub record Joined (n : ℕ) (cs : Calls) (s : Cabinet) : Type 0 where
+-- the model's run of a list, and that its restarts stand where those of the list do
+abbrev Run16 : {n : ℕ} {cs : Calls} {s : Cabinet} → List16 n cs s → Calls → Model → Type 0
+Run16 {n} l cs m = (r : Run limits16 n cs m) × (RestartsRolling l → model.RestartsRolling r) × (RestartsLeft l → anywhere.RestartsLeft r)
+
+pub record Joined {n : ℕ} {cs : Calls} {s : Cabinet} (l : List16 n cs s) : Type 0 where
   pub few : n ≤ limits16 .width
   pub some : 1 ≤ n
-  pub made : (r : Run limits16 n cs (view s)) × model.RestartsRolling r
+  pub made : Run16 l cs (view s)
   pub sized : Sized s
   pub narrow : Narrow (view s)
 
-fresh-joined : (n : ℕ) (s : Cabinet) → Freshly n (accepted done) s → Joined n none s
+fresh-joined : (n : ℕ) (s : Cabinet) (f : Freshly n (accepted done) s) → Joined (start s f)
 fresh-joined n s f =
     test (freshRefused limits16 n) (λ e. not-both done CardCount (f .answer ∙ ap (λ (b : Bool). cond b (refused CardCount) (accepted done)) e))
     (λ e.
@@ -173,31 +178,33 @@ fresh-joined n s f =
     record {
       few = leb-true n (limits16 .width) (and-right (leb 1 n) (leb n (limits16 .width)) y);
       some = leb-true 1 n (and-left (leb 1 n) (leb n (limits16 .width)) y);
-      made = subst (λ (m : Model). (r : Run limits16 n none m) × model.RestartsRolling r) (sym (h .same)) (run.start, tt);
+      made = subst (Run16 (start s f) none) (sym (h .same)) (run.start, λ w. tt, λ w. tt);
       sized = h .sized;
       narrow = subst Narrow (sym (h .same)) (h .narrow);
     })
 
 -- the model's run with one call more, before its cabinet is said to be what the struct shows
-abbrev longer : (n : ℕ) (cs : Calls) (s : Cabinet) (j : Joined n cs s) (call : Call) (x : Choice) → Proper limits16 (view s) call x → WhileRolling call (view s)
-    → (r : Run limits16 n (further cs call (planOf limits16 (view s) call x .reply)) (afterCall limits16 (view s) call x)) × model.RestartsRolling r
-longer n cs s j call x p w = (run.next (j .made .0) call x p, (j .made .1, w))
+abbrev longer : {n : ℕ} {cs : Calls} {s : Cabinet} (l : List16 n cs s) → Joined l → (asked : Asked) (y : Typed asked) (reply : Reply) (t : Cabinet) (after : List ℕ) (d : Answered s asked reply t after)
+    → (x : Choice) → Proper limits16 (view s) (callOf asked) x
+    → Run16 (next l asked y reply t after d) (further cs (callOf asked) (planOf limits16 (view s) (callOf asked) x .reply)) (afterCall limits16 (view s) (callOf asked) x)
+longer l j asked y reply t after d x p = (run.next (j .made .0) (callOf asked) x p, λ w. (j .made .1 (w .0), w .1), λ w. (j .made .2 (w .0), w .1))
 
-further-joined : (n : ℕ) (cs : Calls) (s : Cabinet) → Joined n cs s → (call : Call) (reply : Reply) (t : Cabinet) → Step s call reply t → WhileRolling call (view s) → Joined n (further cs call reply) t
-further-joined n cs s j call reply t d w =
+further-joined : {n : ℕ} {cs : Calls} {s : Cabinet} (l : List16 n cs s) → Joined l → (asked : Asked) (y : Typed asked) (reply : Reply) (t : Cabinet) (after : List ℕ) (d : Answered s asked reply t after)
+    → Step s (callOf asked) reply t → Joined (next l asked y reply t after d)
+further-joined {n} {cs} {s} l j asked y reply t after d e =
     record {
       few = j .few;
       some = j .some;
-      made = subst₂ (λ (y : Reply) (m : Model). (r : Run limits16 n (further cs call y) m) × model.RestartsRolling r) (sym (d .replied)) (sym (d .after .same)) (longer n cs s j call (d .choice) (d .proper) w);
-      sized = d .after .sized;
-      narrow = subst Narrow (sym (d .after .same)) (d .after .narrow);
+      made = subst₂ (λ (z : Reply) (m : Model). Run16 (next l asked y reply t after d) (further cs (callOf asked) z) m) (sym (e .replied)) (sym (e .after .same)) (longer l j asked y reply t after d (e .choice) (e .proper));
+      sized = e .after .sized;
+      narrow = subst Narrow (sym (e .after .same)) (e .after .narrow);
     }
 
-pub joined : {n : ℕ} {cs : Calls} {s : Cabinet} (l : List16 n cs s) → RestartsRolling l → Joined n cs s
-joined {n} (start s f) w = fresh-joined n s f
-joined {n} (next {cs} {s} l asked y reply t after d) w =
-    let j : Joined n cs s = joined l (w .0) in
-    further-joined n cs s j (callOf asked) reply t (step s (j .sized) (j .narrow) asked y reply t after d) (w .1)
+pub joined : {n : ℕ} {cs : Calls} {s : Cabinet} (l : List16 n cs s) → Joined l
+joined {n} (start s f) = fresh-joined n s f
+joined {n} (next {cs} {s} l asked y reply t after d) =
+    let j : Joined l = joined l in
+    further-joined l j asked y reply t after d (step s (j .sized) (j .narrow) asked y reply t after d)
 
 -- what holds of the cabinet that a list leads to
 last-right : {n : ℕ} {cs : Calls} {m : Model} (r : Run limits16 n cs m) → model.Throughout r → CabinetRight limits16 n cs m
@@ -210,15 +217,22 @@ demands-2-3 n cs s l w = whole l w
   where
     whole : {n : ℕ} {cs : Calls} {s : Cabinet} (l : List16 n cs s) → RestartsRolling l → Throughout l
     whole {n} (start s f) w =
-        let j : Joined n none s = fresh-joined n s f in
-        last-right (j .made .0) (demands limits16 limits-fit n (j .some) (j .few) none (view s) (j .made .0) (j .made .1))
+        let j : Joined (start s f) = fresh-joined n s f in
+        last-right (j .made .0) (demands limits16 limits-fit n (j .some) (j .few) none (view s) (j .made .0) (j .made .1 tt))
     whole {n} (next {cs} {s} l asked y reply t after d) w =
-        let j : Joined n cs s = joined l (w .0) in
+        let j : Joined l = joined l in
         let e : Step s (callOf asked) reply t = step s (j .sized) (j .narrow) asked y reply t after d in
-        let more : (r : Run limits16 n (further cs (callOf asked) (planOf limits16 (view s) (callOf asked) (e .choice) .reply)) (afterCall limits16 (view s) (callOf asked) (e .choice))) × model.RestartsRolling r =
-        longer n cs s j (callOf asked) (e .choice) (e .proper) (w .1) in
-        let right : model.Throughout (more .0) = demands limits16 limits-fit n (j .some) (j .few) _ _ (more .0) (more .1) in (
+        let more : Run16 (next l asked y reply t after d) (further cs (callOf asked) (planOf limits16 (view s) (callOf asked) (e .choice) .reply)) (afterCall limits16 (view s) (callOf asked) (e .choice)) =
+        longer l j asked y reply t after d (e .choice) (e .proper) in
+        let right : model.Throughout (more .0) = demands limits16 limits-fit n (j .some) (j .few) _ _ (more .0) (more .1 w) in (
           whole l (w .0),
           λ a q. subst (λ (m : Model). CallRight limits16 n cs (callOf asked) a (view s) m) (sym (e .after .same)) (right .1 a (sym (e .replied) ∙ q)),
           subst₂ (λ (z : Reply) (m : Model). CabinetRight limits16 n (further cs (callOf asked) z) m) (sym (e .replied)) (sym (e .after .same)) (right .2),
         )
+
+-- restarts in any phase
+pub anywhere-16 : Anywhere
+anywhere-16 n cs s l w =
+    let j : Joined l = joined l in
+    let d : anywhere.Sooner limits16 n cs (view s) = sooner limits16 limits-fit n (j .some) (j .few) cs (view s) (j .made .0) (j .made .2 w) in
+    record { calls = d .calls; but-for = d .but-for; right = d .right }

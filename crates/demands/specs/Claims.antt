@@ -7,6 +7,7 @@ use Rattle.refusal.specs.Number.{numberOf}
 use Rattle.protocol.specs.Plan.{Answer, Reply, accepted, refused}
 use Rattle.protocol.specs.Run.{Calls, none, further}
 use Rattle.protocol.specs.Demands.{Listed, CallRight, CabinetRight, WhileRolling}
+use Rattle.protocol.specs.Anywhere.{PutIn, SessionLeft}
 use Rattle.verdicts.specs.Shape.{limits16}
 use Rattle.cabinet.specs.declared.Cabinet.{Cabinet}
 use Rattle.cabinet.specs.View.{view}
@@ -37,3 +38,18 @@ Throughout {n} (next {cs} {s} l asked z reply t after w) =
 
 abbrev pub Demands23 : Type 0
 Demands23 = (n : ℕ) (cs : Calls) (s : Cabinet) (l : List16 n cs s) → RestartsRolling l → Throughout l
+
+-- ---- restarts in any phase
+-- every restart of a list stands in phase rolling, or in a session that another can follow
+abbrev pub RestartsLeft : {n : ℕ} {cs : Calls} {s : Cabinet} → List16 n cs s → Type 0
+RestartsLeft (start s f) = Unit {0}
+RestartsLeft (next {cs} {s} l asked z reply t after w) = RestartsLeft l × SessionLeft limits16 (callOf asked) (view s)
+
+-- what holds of the cabinet then: demand 2 by the journal of the calls with a loss of no card and a fix put in before each restart that stands in phase up or down, and never 28
+pub record Right (n : ℕ) (cs : Calls) (s : Cabinet) : Type 0 where
+  pub calls : Calls
+  pub but-for : PutIn cs calls
+  pub right : CabinetRight limits16 n calls (view s)
+
+abbrev pub Anywhere : Type 0
+Anywhere = (n : ℕ) (cs : Calls) (s : Cabinet) (l : List16 n cs s) → RestartsLeft l → Right n cs s

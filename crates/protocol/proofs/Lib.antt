@@ -19,3 +19,5 @@ pub mod Lists
 pub mod Kept
 pub mod Answers
 pub mod Document
+pub mod Choices
+pub mod Anywhere

@@ -7,3 +7,4 @@ pub mod Journal
 pub mod Sheets
 pub mod Run
 pub mod Demands
+pub mod Anywhere

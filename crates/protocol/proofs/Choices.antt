@@ -1,0 +1,85 @@
+-- What is left to the program can be chosen, whatever the cabinet. Assumes nothing.
+use Prim.Native.Nat.{ℕ, zero, suc, _+_, _-_, _≤_, _<_, max}
+use mathlib.Core.Path.{_≡_, refl, sym, _∙_, ap, ap₂}
+use mathlib.Core.Bool.{Bool, true, false, not, _&&_, _||_, cond}
+use mathlib.Core.List.{List, []}
+use mathlib.Core.Logic.{_⊎_, inl, inr, by-cases, ⊎-elim}
+use native.Mathlib.Nat.{zero-add}
+use native.Mathlib.Decide.{decLt, ℕ-discrete}
+use native.Mathlib.Omega.{arith}
+use lib.Dec.{eqb}
+use borrow.Author.Tests.{eq-eqb, ne-eqb, eqb-true}
+use Rattle.laws.specs.Below.{one-if, anyBelow, countBelow, greatest, firstBelow, selected, occurs}
+use Rattle.laws.proofs.Logic.{test, clash, fails, and-left, and-right, or-elim}
+use Rattle.laws.proofs.Below.{Found, any-elim, first-below, first-passes, greatest-above, count-rest, count-once, occurs-selected}
+use Rattle.history.specs.Change.{CardSet, Numbers}
+use Rattle.protocol.specs.Model.{Limits, Model}
+use Rattle.protocol.specs.Calls.{barred, frameAbove, someFrameAbove, lineOf, isLost}
+use Rattle.protocol.specs.Run.{Call, openCall, voteCall, takeCall, withdrawCall, storeCall, trimCall, safeCall, loseCall, fixCall, rollCall, sheetCall, restartCall, Choice, Proper}
+use Rattle.protocol.specs.Anywhere.{Choosable}
+
+-- ---- each number below a bound that passes a test, once
+count-none : (n : ℕ) (q : ℕ → Bool) → ((i : ℕ) → i < n → q i ≡ false) → countBelow n q ≡ 0
+count-none n q h = let l : countBelow n q ≤ countBelow 0 q = count-rest 0 n q (λ i a b. h i b) in omega arith
+
+once-below : (n : ℕ) (p : ℕ → Bool) (k : ℕ) → (p k ≡ true → k < n) → countBelow n (λ i. p i && eqb i k) ≡ one-if (p k)
+once-below n p k h =
+    by-cases (decLt k n)
+    (λ l. count-once n k (λ i. false) (λ i. p i && eqb i k) l refl (λ i a b. sym (apart i b))
+    ∙ ap₂ (λ (x y : ℕ). x + y) (count-none n (λ i. false) (λ i a. refl)) (ap one-if (here (p k))) ∙ zero-add (one-if (p k)))
+    (λ l. count-none n (λ i. p i && eqb i k) (λ i a. apart i (λ (q : i ≡ k). absurd (omega (arith, l, a, q)))) ∙ sym (ap one-if (fails (p k) (λ e. absurd (omega (arith, l, h e))))))
+  where
+    apart : (i : ℕ) → ¬ (i ≡ k) → p i && eqb i k ≡ false
+    apart i b = fails (p i && eqb i k) (λ e. b (eqb-true i k (and-right (p i) (eqb i k) e)))
+
+    here : (b : Bool) → b && eqb k k ≡ b
+    here true = eq-eqb k k refl
+    here false = refl
+
+-- ---- the changes lost are below a bound
+module _ (L : Limits) (m : Model) where
+  -- the greatest change number of the frames above the line
+  abbrev top : ℕ
+  top = max (greatest (L .width) (λ c. greatest (m .numbers .reached c - lineOf L m c) (λ s. m .memory .maker c (suc (lineOf L m c + s))))) (greatest (L .places) (m .ended))
+
+  lost-below : (k : ℕ) → isLost L m k ≡ true → k < suc top
+  lost-below k e = ⊎-elim of-frame of-ended (or-elim (someFrameAbove L m k (lineOf L m)) (anyBelow (L .places) (λ p. eqb (m .ended p) k)) (and-right (not (eqb k 0)) (someFrameAbove L m k (lineOf L m) || anyBelow (L .places) (λ p. eqb (m .ended p) k)) e))
+    where
+      frames : ℕ → ℕ
+      frames c = greatest (m .numbers .reached c - lineOf L m c) (λ s. m .memory .maker c (suc (lineOf L m c + s)))
+
+      of-frame : someFrameAbove L m k (lineOf L m) ≡ true → k < suc top
+      of-frame y =
+          let f : Found (L .width) (λ c. m .present c && frameAbove m k c (lineOf L m c)) = any-elim (L .width) (λ c. m .present c && frameAbove m k c (lineOf L m c)) y in
+          let g : Found (m .numbers .reached (f .0) - lineOf L m (f .0)) (λ s. eqb (m .memory .maker (f .0) (suc (lineOf L m (f .0) + s))) k) =
+          any-elim (m .numbers .reached (f .0) - lineOf L m (f .0)) (λ s. eqb (m .memory .maker (f .0) (suc (lineOf L m (f .0) + s))) k) (and-right (m .present (f .0)) (frameAbove m k (f .0) (lineOf L m (f .0))) (f .2)) in
+          let a : m .memory .maker (f .0) (suc (lineOf L m (f .0) + g .0)) ≡ k = eqb-true (m .memory .maker (f .0) (suc (lineOf L m (f .0) + g .0))) k (g .2) in
+          let b : m .memory .maker (f .0) (suc (lineOf L m (f .0) + g .0)) ≤ frames (f .0) = greatest-above (m .numbers .reached (f .0) - lineOf L m (f .0)) (λ s. m .memory .maker (f .0) (suc (lineOf L m (f .0) + s))) (g .0) (g .1) in
+          let c : frames (f .0) ≤ greatest (L .width) frames = greatest-above (L .width) frames (f .0) (f .1) in
+          let d : greatest (L .width) frames ≤ max (greatest (L .width) frames) (greatest (L .places) (m .ended)) = omega arith in
+          omega (arith, a, b, c, d)
+
+      of-ended : anyBelow (L .places) (λ p. eqb (m .ended p) k) ≡ true → k < suc top
+      of-ended y =
+          let f : Found (L .places) (λ p. eqb (m .ended p) k) = any-elim (L .places) (λ p. eqb (m .ended p) k) y in
+          let a : m .ended (f .0) ≡ k = eqb-true (m .ended (f .0)) k (f .2) in
+          let b : m .ended (f .0) ≤ greatest (L .places) (m .ended) = greatest-above (L .places) (m .ended) (f .0) (f .1) in
+          let d : greatest (L .places) (m .ended) ≤ max (greatest (L .width) frames) (greatest (L .places) (m .ended)) = omega arith in
+          omega (arith, a, b, d)
+
+pub choosable : Choosable
+choosable L m (openCall reads writes) = (record { named = firstBelow (L .width) (barred L m reads writes); lost = [] }, λ e. (first-below (L .width) (barred L m reads writes) e, first-passes (L .width) (barred L m reads writes) (first-below (L .width) (barred L m reads writes) e)))
+choosable L m (voteCall k c agrees) = (record { named = 0; lost = [] }, tt)
+choosable L m (takeCall k c) = (record { named = 0; lost = [] }, tt)
+choosable L m (withdrawCall k) = (record { named = 0; lost = [] }, tt)
+choosable L m (storeCall c s) = (record { named = 0; lost = [] }, tt)
+choosable L m trimCall = (record { named = 0; lost = [] }, tt)
+choosable L m (safeCall k) = (record { named = 0; lost = [] }, tt)
+choosable L m (loseCall cards) = (record { named = 0; lost = [] }, tt)
+choosable L m (fixCall a b) = (record { named = 0; lost = selected (suc (top L m)) (isLost L m) (λ k. k) }, once)
+  where
+    once : (k : ℕ) → occurs k (selected (suc (top L m)) (isLost L m) (λ k. k)) ≡ one-if (isLost L m k)
+    once k = occurs-selected (suc (top L m)) (isLost L m) (λ i. i) k ∙ once-below (suc (top L m)) (isLost L m) k (lost-below L m k)
+choosable L m (rollCall c) = (record { named = 0; lost = [] }, tt)
+choosable L m (sheetCall c places) = (record { named = 0; lost = [] }, tt)
+choosable L m restartCall = (record { named = 0; lost = [] }, tt)

@@ -1,0 +1,51 @@
+-- Every call of a list can be made; and lists with restarts in any phase. Statements alone: the proofs are in proofs/Choices.antt and proofs/Anywhere.antt.
+use Prim.Native.Nat.{ℕ, _≤_, _<_}
+use mathlib.Core.Path.{_≡_}
+use mathlib.Core.Bool.{true}
+use mathlib.Core.Logic.{_⊎_}
+use mathlib.Core.List.{List}
+use Rattle.protocol.specs.Model.{Limits, isRolling, Model, noCards}
+use Rattle.protocol.specs.Plan.{CardRow, done, fixed, Reply, accepted}
+use Rattle.protocol.specs.Run.{Call, openCall, voteCall, takeCall, withdrawCall, storeCall, trimCall, safeCall, loseCall, fixCall, rollCall, sheetCall, restartCall, Choice, Proper, Calls, none, further, Run, start, next}
+use Rattle.protocol.specs.Demands.{CabinetRight, RestartsRolling, limits}
+
+-- what document 01 leaves to the program can be chosen, whatever the cabinet and the call
+abbrev pub Choosable : Type 0
+Choosable = (L : Limits) (m : Model) (call : Call) → (x : Choice) × Proper L m call x
+
+-- the calls cs, but for a loss of no card and a fix put in before some restarts
+pub data PutIn : Calls → Calls → Type 0 where
+  nothing : PutIn none none
+  same : {cs ds : Calls} → PutIn cs ds → (call : Call) (reply : Reply) → PutIn (further cs call reply) (further ds call reply)
+  put-in : {cs ds : Calls} → PutIn cs ds → (a b : ℕ) (rows : List CardRow) (lost : List ℕ) (reply : Reply)
+      → PutIn (further cs restartCall reply) (further (further (further ds (loseCall noCards) (accepted done)) (fixCall a b) (accepted (fixed rows lost))) restartCall reply)
+
+-- a restart stands in phase rolling, or in a session that another can follow
+abbrev pub SessionLeft : Limits → Call → Model → Type 0
+SessionLeft L (openCall reads writes) m = Unit {0}
+SessionLeft L (voteCall k c agrees) m = Unit {0}
+SessionLeft L (takeCall k c) m = Unit {0}
+SessionLeft L (withdrawCall k) m = Unit {0}
+SessionLeft L (storeCall c s) m = Unit {0}
+SessionLeft L trimCall m = Unit {0}
+SessionLeft L (safeCall k) m = Unit {0}
+SessionLeft L (loseCall cards) m = Unit {0}
+SessionLeft L (fixCall a b) m = Unit {0}
+SessionLeft L (rollCall c) m = Unit {0}
+SessionLeft L (sheetCall c places) m = Unit {0}
+SessionLeft L restartCall m = (isRolling (m .phase) ≡ true) ⊎ (m .session < L .greatestNumber)
+
+abbrev pub RestartsLeft : {L : Limits} {n : ℕ} {cs : Calls} {m : Model} → Run L n cs m → Type 0
+RestartsLeft start = Unit {0}
+RestartsLeft {L} (next {cs} {m} r call x p) = RestartsLeft r × SessionLeft L call m
+
+-- a restart in phase up or down is as if no card was lost and the line was fixed before it: another list, whose restarts all stand in phase rolling, leads to the same cabinet, and so demand 2 holds of it
+pub record Sooner (L : Limits) (n : ℕ) (cs : Calls) (m : Model) : Type 0 where
+  pub calls : Calls
+  pub but-for : PutIn cs calls
+  pub run : Run L n calls m
+  pub rolling : RestartsRolling run
+  pub right : CabinetRight L n calls m
+
+abbrev pub Anywhere : Limits → Type 0
+Anywhere L = (n : ℕ) → 1 ≤ n → n ≤ L .width → (cs : Calls) (m : Model) (r : Run L n cs m) → RestartsLeft r → Sooner L n cs m
