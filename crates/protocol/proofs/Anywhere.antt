@@ -28,7 +28,7 @@ use Rattle.protocol.specs.Sheets.{cardCount, sheetOf, sheetFrame, joined
 use Rattle.protocol.specs.Journal.{Journal}
 use Rattle.protocol.specs.Run.{Call, openCall, voteCall, takeCall, withdrawCall, storeCall, trimCall, safeCall, loseCall, fixCall, rollCall, sheetCall, restartCall, Choice, Proper, planOf, afterCall, verdictReply, verdictCabinet, Calls, none, further, Run, start, next, journal}
 use Rattle.protocol.specs.Demands.{CabinetRight, Throughout, RestartsRolling, WhileRolling, SheetLimits}
-use Rattle.protocol.specs.Anywhere.{PutIn, nothing, same, put-in, SessionLeft, RestartsLeft, Sooner, Anywhere}
+use Rattle.protocol.specs.Anywhere.{chosen, PutIn, nothing, same, put-in, SessionLeft, RestartsLeft, Sooner, Anywhere}
 use Rattle.protocol.proofs.Steps.{Passed}
 use Rattle.protocol.proofs.Running.{Running}
 use Rattle.protocol.proofs.Invariant.{RollingBack, Invariant, invariant-sound}
@@ -146,7 +146,7 @@ module _ (L : Limits) (lim : SheetLimits L) (n : ℕ) (low : 1 ≤ n) (high : n 
     fine′ = invariant-sound L n (fallen L m fine still) (journal L n lostCalls) (run-invariant lim low high (lost-good .0) (lost-good .1))
 
     abbrev lost : List ℕ
-    lost = choosable L (fallen L m fine still) (fixCall 0 0) .0 .lost
+    lost = chosen L (fallen L m fine still) (fixCall 0 0) .lost
 
     abbrev fixRows : List CardRow
     fixRows = cardRows L (fallen L m fine still)
@@ -157,7 +157,7 @@ module _ (L : Limits) (lim : SheetLimits L) (n : ℕ) (low : 1 ≤ n) (high : n 
     fixed-good : Good fixedCalls (fixedModel L m fine still)
     fixed-good =
         subst (λ (p : Plan). Good (further lostCalls (fixCall (length fixRows) (length lost)) (p .reply)) (afterPlan L p (fallen L m fine still))) (fixed-plan L m fine still fine′ left lost)
-        (next (lost-good .0) (fixCall (length fixRows) (length lost)) (record { named = 0; lost = lost }) (choosable L (fallen L m fine still) (fixCall 0 0) .1), (lost-good .1, tt))
+        (next (lost-good .0) (fixCall (length fixRows) (length lost)) (record { named = 0; lost = lost }) (choosable L (fallen L m fine still) (fixCall 0 0)), (lost-good .1, tt))
 
     abbrev bytes : Model → List ℕ
     bytes x = joinedSheets format L x

@@ -15,8 +15,8 @@ use Rattle.laws.proofs.Below.{Found, any-elim, first-below, first-passes, great
 use Rattle.history.specs.Change.{CardSet, Numbers}
 use Rattle.protocol.specs.Model.{Limits, Model}
 use Rattle.protocol.specs.Calls.{barred, frameAbove, someFrameAbove, lineOf, isLost}
-use Rattle.protocol.specs.Run.{Call, openCall, voteCall, takeCall, withdrawCall, storeCall, trimCall, safeCall, loseCall, fixCall, rollCall, sheetCall, restartCall, Choice, Proper}
-use Rattle.protocol.specs.Anywhere.{Choosable}
+use Rattle.protocol.specs.Run.{Call, openCall, voteCall, takeCall, withdrawCall, storeCall, trimCall, safeCall, loseCall, fixCall, rollCall, sheetCall, restartCall}
+use Rattle.protocol.specs.Anywhere.{greatestLost, Choosable}
 
 -- ---- each number below a bound that passes a test, once
 count-none : (n : ℕ) (q : ℕ → Bool) → ((i : ℕ) → i < n → q i ≡ false) → countBelow n q ≡ 0
@@ -38,17 +38,13 @@ once-below n p k h =
 
 -- ---- the changes lost are below a bound
 module _ (L : Limits) (m : Model) where
-  -- the greatest change number of the frames above the line
-  abbrev top : ℕ
-  top = max (greatest (L .width) (λ c. greatest (m .numbers .reached c - lineOf L m c) (λ s. m .memory .maker c (suc (lineOf L m c + s))))) (greatest (L .places) (m .ended))
-
-  lost-below : (k : ℕ) → isLost L m k ≡ true → k < suc top
+  lost-below : (k : ℕ) → isLost L m k ≡ true → k < suc (greatestLost L m)
   lost-below k e = ⊎-elim of-frame of-ended (or-elim (someFrameAbove L m k (lineOf L m)) (anyBelow (L .places) (λ p. eqb (m .ended p) k)) (and-right (not (eqb k 0)) (someFrameAbove L m k (lineOf L m) || anyBelow (L .places) (λ p. eqb (m .ended p) k)) e))
     where
       frames : ℕ → ℕ
       frames c = greatest (m .numbers .reached c - lineOf L m c) (λ s. m .memory .maker c (suc (lineOf L m c + s)))
 
-      of-frame : someFrameAbove L m k (lineOf L m) ≡ true → k < suc top
+      of-frame : someFrameAbove L m k (lineOf L m) ≡ true → k < suc (greatestLost L m)
       of-frame y =
           let f : Found (L .width) (λ c. m .present c && frameAbove m k c (lineOf L m c)) = any-elim (L .width) (λ c. m .present c && frameAbove m k c (lineOf L m c)) y in
           let g : Found (m .numbers .reached (f .0) - lineOf L m (f .0)) (λ s. eqb (m .memory .maker (f .0) (suc (lineOf L m (f .0) + s))) k) =
@@ -59,7 +55,7 @@ module _ (L : Limits) (m : Model) where
           let d : greatest (L .width) frames ≤ max (greatest (L .width) frames) (greatest (L .places) (m .ended)) = omega arith in
           omega (arith, a, b, c, d)
 
-      of-ended : anyBelow (L .places) (λ p. eqb (m .ended p) k) ≡ true → k < suc top
+      of-ended : anyBelow (L .places) (λ p. eqb (m .ended p) k) ≡ true → k < suc (greatestLost L m)
       of-ended y =
           let f : Found (L .places) (λ p. eqb (m .ended p) k) = any-elim (L .places) (λ p. eqb (m .ended p) k) y in
           let a : m .ended (f .0) ≡ k = eqb-true (m .ended (f .0)) k (f .2) in
@@ -68,18 +64,15 @@ module _ (L : Limits) (m : Model) where
           omega (arith, a, b, d)
 
 pub choosable : Choosable
-choosable L m (openCall reads writes) = (record { named = firstBelow (L .width) (barred L m reads writes); lost = [] }, λ e. (first-below (L .width) (barred L m reads writes) e, first-passes (L .width) (barred L m reads writes) (first-below (L .width) (barred L m reads writes) e)))
-choosable L m (voteCall k c agrees) = (record { named = 0; lost = [] }, tt)
-choosable L m (takeCall k c) = (record { named = 0; lost = [] }, tt)
-choosable L m (withdrawCall k) = (record { named = 0; lost = [] }, tt)
-choosable L m (storeCall c s) = (record { named = 0; lost = [] }, tt)
-choosable L m trimCall = (record { named = 0; lost = [] }, tt)
-choosable L m (safeCall k) = (record { named = 0; lost = [] }, tt)
-choosable L m (loseCall cards) = (record { named = 0; lost = [] }, tt)
-choosable L m (fixCall a b) = (record { named = 0; lost = selected (suc (top L m)) (isLost L m) (λ k. k) }, once)
-  where
-    once : (k : ℕ) → occurs k (selected (suc (top L m)) (isLost L m) (λ k. k)) ≡ one-if (isLost L m k)
-    once k = occurs-selected (suc (top L m)) (isLost L m) (λ i. i) k ∙ once-below (suc (top L m)) (isLost L m) k (lost-below L m k)
-choosable L m (rollCall c) = (record { named = 0; lost = [] }, tt)
-choosable L m (sheetCall c places) = (record { named = 0; lost = [] }, tt)
-choosable L m restartCall = (record { named = 0; lost = [] }, tt)
+choosable L m (openCall reads writes) = λ e. (first-below (L .width) (barred L m reads writes) e, first-passes (L .width) (barred L m reads writes) (first-below (L .width) (barred L m reads writes) e))
+choosable L m (voteCall k c agrees) = tt
+choosable L m (takeCall k c) = tt
+choosable L m (withdrawCall k) = tt
+choosable L m (storeCall c s) = tt
+choosable L m trimCall = tt
+choosable L m (safeCall k) = tt
+choosable L m (loseCall cards) = tt
+choosable L m (fixCall a b) = λ k. occurs-selected (suc (greatestLost L m)) (isLost L m) (λ i. i) k ∙ once-below (suc (greatestLost L m)) (isLost L m) k (lost-below L m k)
+choosable L m (rollCall c) = tt
+choosable L m (sheetCall c places) = tt
+choosable L m restartCall = tt

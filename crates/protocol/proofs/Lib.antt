@@ -21,3 +21,4 @@ pub mod Answers
 pub mod Document
 pub mod Choices
 pub mod Anywhere
+pub mod Worked

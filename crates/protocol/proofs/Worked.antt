@@ -1,0 +1,44 @@
+-- The samples and the worked read-out, as lists of calls, come out as document 01 says: computed. Assumes nothing.
+use Prim.Native.Nat.{ℕ, zero, suc, _+_, _-_}
+use mathlib.Core.Path.{_≡_, refl}
+use mathlib.Core.List.{List, [], _∷_, map}
+use Rattle.frame.specs.declared.Verdict.the-variants.{Accepted}
+use Rattle.frame.specs.Format.{format}
+use Rattle.laws.specs.Below.{tabulate}
+use Rattle.line.specs.Digits.{isNumeral, isLetter, isDigit, digit, digitValue}
+use Rattle.line.specs.Line.{checkOf, lineOf, shaped, checked, shapeOf}
+use Rattle.frame.specs.Format.{dependency, entryOf}
+use Rattle.frame.specs.Lines.{headerLine, headerIn, headerAllowed, headerVerdict, frameLine, stateIn, entriesIn, frameIn, entriesAllowed, frameAllowed, frameVerdict, padded}
+use Rattle.sheet.specs.Pages.{readSheets}
+use Rattle.sheet.specs.Walk.{readingOf}
+use Rattle.readout.specs.Joint.{apart, twoVectors, jointVerdict, readoutOf}
+use Rattle.protocol.specs.Calls.{freshModel}
+use Rattle.protocol.specs.Sheets.{joinedSheets, restartReply, restartedFrom}
+use Rattle.protocol.specs.Demands.{limits}
+use Rattle.protocol.specs.Worked.{followed, fixReply, saidReply, recoveries, workedCalls, workedBytes}
+
+-- each fix of the samples answers what document 01 says
+pub recovered : map fixReply recoveries ≡ map saidReply recoveries
+recovered = refl
+
+-- the sheets that the calls lead to are the worked read-out, byte for byte
+pub worked-written : joinedSheets format limits (followed (freshModel 2) workedCalls) ≡ workedBytes
+unfolding isNumeral isLetter isDigit digit digitValue checkOf lineOf dependency entryOf headerLine frameLine
+worked-written = refl
+
+-- it restarts: "0 2 1", "1 0 0", and the session after recovery is 2
+pub worked-accepted : restartReply workedBytes ≡ Accepted
+unfolding isNumeral isLetter isDigit digit digitValue checkOf lineOf shaped checked shapeOf dependency entryOf headerLine headerIn headerAllowed headerVerdict frameLine stateIn entriesIn frameIn entriesAllowed frameAllowed frameVerdict padded readSheets readingOf apart twoVectors jointVerdict readoutOf
+worked-accepted = refl
+
+pub worked-stored : tabulate 2 (restartedFrom limits workedBytes .numbers .stored) ≡ 2 ∷ 0 ∷ []
+unfolding isNumeral isLetter isDigit digit digitValue checkOf lineOf shaped checked shapeOf dependency entryOf headerLine headerIn headerAllowed headerVerdict frameLine stateIn entriesIn frameIn entriesAllowed frameAllowed frameVerdict padded readSheets readingOf apart twoVectors jointVerdict readoutOf
+worked-stored = refl
+
+pub worked-line : tabulate 2 (restartedFrom limits workedBytes .line) ≡ 1 ∷ 0 ∷ []
+unfolding isNumeral isLetter isDigit digit digitValue checkOf lineOf shaped checked shapeOf dependency entryOf headerLine headerIn headerAllowed headerVerdict frameLine stateIn entriesIn frameIn entriesAllowed frameAllowed frameVerdict padded readSheets readingOf apart twoVectors jointVerdict readoutOf
+worked-line = refl
+
+pub worked-session : suc (restartedFrom limits workedBytes .session) ≡ 2
+unfolding isNumeral isLetter isDigit digit digitValue checkOf lineOf shaped checked shapeOf dependency entryOf headerLine headerIn headerAllowed headerVerdict frameLine stateIn entriesIn frameIn entriesAllowed frameAllowed frameVerdict padded readSheets readingOf apart twoVectors jointVerdict readoutOf
+worked-session = refl
