@@ -11,7 +11,6 @@ pub mod Rolling
 pub mod Lost
 pub mod Steps
 pub mod Invariant
-pub mod Lay
 pub mod Restart
 pub mod Reading
 pub mod Claims

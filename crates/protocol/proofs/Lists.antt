@@ -36,7 +36,7 @@ use Rattle.protocol.specs.Sheets.{sheetChecks, sheetOf, pageStored, join
 use Rattle.protocol.specs.Journal.{Journal, Fixing, unfixed, fixing, emptyJournal, noteOpen, noteVote, noteStruck, noteStore, noteLose, noteFix, noteRoll}
 use Rattle.protocol.specs.Run.{Call, openCall, voteCall, takeCall, withdrawCall, storeCall, trimCall, safeCall, loseCall, fixCall, rollCall, sheetCall, restartCall, Choice, planOf, afterCall, verdictReply, verdictCabinet, Calls, none, further, Run, start, next, note, journal}
 use Rattle.protocol.specs.Demands.{VectorsRight, WhileRolling, RestartsRolling, SheetLimits}
-use Rattle.protocol.proofs.Lay.{Holds}
+use Rattle.sheet.proofs.Lay.{Holds}
 use Rattle.protocol.proofs.Restart.{sheets-are, line-again, restart-rolls, restart-notes}
 use Rattle.protocol.proofs.Reading.{held, cards-are, lowest-is, read-back}
 use Rattle.protocol.proofs.Taking.{Framed, ByTakenWriters}

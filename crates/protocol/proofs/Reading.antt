@@ -43,7 +43,7 @@ use Rattle.protocol.specs.Journal.{Journal}
 use Rattle.protocol.specs.Sheets.{cardCount, sheetSession, sheetFrame, sheetOf, sheets}
 use Rattle.protocol.proofs.Soundness.{one-frame, two-frames}
 use Rattle.protocol.proofs.Rolling.{AboutLine, Rolling}
-use Rattle.protocol.proofs.Lay.{zeros, Holds, laid-holds}
+use Rattle.sheet.proofs.Lay.{zeros, Holds, laid-holds}
 use Rattle.protocol.proofs.Restart.{count-is, entry-written, length-entries}
 
 -- ---- lists that begin with their first value

@@ -27,7 +27,7 @@ use Rattle.protocol.specs.Model.{Limits, isRolling, Model, within}
 use Rattle.protocol.specs.Sound.{entriesSound}
 use Rattle.protocol.specs.Journal.{Journal}
 use Rattle.protocol.specs.Sheets.{cardCount, sheetSession, sheetFrame, sheetOf, sheets, storedIn, isIn, restarted}
-use Rattle.protocol.proofs.Lay.{Holds}
+use Rattle.sheet.proofs.Lay.{Holds}
 use Rattle.sheet.specs.declared.Readout.{Readout}
 use Rattle.sheet.specs.Walk.{placeOf}
 use Rattle.readout.specs.Joint.{lowestOf}

@@ -14,7 +14,7 @@ use Rattle.frame.specs.declared.Verdict.the-variants.{Accepted, Refused}
 use Rattle.sheet.specs.declared.Readout.{Readout}
 use Rattle.sheet.specs.declared.Reading.{Reading}
 use Rattle.sheet.specs.Walk.{noReadout, readingOf}
-use Rattle.readout.specs.Joint.{lowestTo, apart, twoVectors, jointVerdict, joined, lined, readoutOf, sheetReadOf}
+use Rattle.readout.specs.Joint.{lowestTo, apart, twoVectors, jointVerdict, joined, lined, readoutOf}
 
 pub any-step : (n : ℕ) (p : ℕ → Bool) {t : Bool} → anyBelow n p ≡ false → t ≡ p n → t ≡ false → anyBelow (n + 1) p ≡ false
 any-step n p x y z = let k : n + 1 ≡ suc n = omega arith in rw (k, x, ← y, z)
@@ -55,11 +55,3 @@ long-read input h = rw (lt-ltb 65536 (length input) h)
 pub lines-read : (input : List ℕ) {g : Reading} → length input ≤ 65536 → g ≡ readingOf true 0 input → lined (g .verdict) (g .readout) ≡ readoutOf input
 unfolding readoutOf
 lines-read input h e = rw (le-ltb 65536 (length input) h, e)
-
-pub long-sheet : (card : ℕ) (input : List ℕ) → 65536 < length input → _≡_ {A = Reading} (joined (Refused TooLong) noReadout) (sheetReadOf card input)
-unfolding sheetReadOf
-long-sheet card input h = rw (lt-ltb 65536 (length input) h)
-
-pub sheet-read : (card : ℕ) (input : List ℕ) {g : Reading} → length input ≤ 65536 → g ≡ readingOf false card input → joined (g .verdict) (g .readout) ≡ sheetReadOf card input
-unfolding sheetReadOf
-sheet-read card input h e = rw (le-ltb 65536 (length input) h, e)

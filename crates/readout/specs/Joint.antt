@@ -71,8 +71,3 @@ lined (Refused x) r = record { readout = noReadout; verdict = Refused x }
 unfoldable pub readoutOf : List ℕ → Reading
 readoutOf input =
     cond (ltb 65536 (length input)) (record { readout = noReadout; verdict = Refused TooLong }) (lined (readingOf true 0 input .verdict) (readingOf true 0 input .readout))
-
--- what the reader of one sheet, told its card, answers to any bytes: the sheet as the one card of a read-out
-unfoldable pub sheetReadOf : ℕ → List ℕ → Reading
-sheetReadOf card input =
-    cond (ltb 65536 (length input)) (record { readout = noReadout; verdict = Refused TooLong }) (joined (readingOf false card input .verdict) (readingOf false card input .readout))

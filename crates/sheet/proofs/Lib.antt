@@ -1,3 +1,5 @@
 pub mod Steps
 pub mod Walk
 pub mod Round
+pub mod Lay
+pub mod Read

@@ -105,11 +105,11 @@ written-reads-back f s all due p ps a more e =
 
 -- ---- read, then written
 
-with-accepted : (v : Verdict) (fr : Frame) (input : List ℕ) (next : Frames) → withFrame v fr input next .verdict ≡ Accepted → (v ≡ Accepted) × (next .verdict ≡ Accepted)
+pub with-accepted : (v : Verdict) (fr : Frame) (input : List ℕ) (next : Frames) → withFrame v fr input next .verdict ≡ Accepted → (v ≡ Accepted) × (next .verdict ≡ Accepted)
 with-accepted Accepted fr input next e = (refl, e)
 with-accepted (Refused r) fr input next e = let z : _≡_ {A = ℕ} 0 1 = cc in absurd (omega arith)
 
-with-both : (v w : Verdict) (h : Header) (fs : Frames) (input : List ℕ) (next : Sheets) → withSheet v w h fs input next .verdict ≡ Accepted → (v ≡ Accepted) × (w ≡ Accepted) × (next .verdict ≡ Accepted)
+pub with-both : (v w : Verdict) (h : Header) (fs : Frames) (input : List ℕ) (next : Sheets) → withSheet v w h fs input next .verdict ≡ Accepted → (v ≡ Accepted) × (w ≡ Accepted) × (next .verdict ≡ Accepted)
 with-both (Refused r) w h fs input next e = let z : _≡_ {A = ℕ} 0 1 = cc in absurd (omega arith)
 with-both Accepted (Refused r) h fs input next e = let z : _≡_ {A = ℕ} 0 1 = cc in absurd (omega arith)
 with-both Accepted Accepted h fs input next e = (refl, refl, e)

@@ -1,3 +1,4 @@
 pub mod Pages
 pub mod Walk
 pub mod Allowed
+pub mod Flat

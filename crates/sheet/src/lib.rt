@@ -25,6 +25,18 @@ pub struct Readout {
     pub cards: u32,
 }
 
+// A card's sheet by value: 16 entries for each frame. The writer does not look at places beyond the count and the
+// number of cards; from the reader they are 0.
+pub struct Sheet {
+    pub entries: [u32; 768],
+    pub changes: [u32; 48],
+    pub session: u32,
+    pub card: u32,
+    pub cards: u32,
+    pub base: u32,
+    pub count: u32,
+}
+
 // What was read up to the first line at fault, and the verdict. The counts say how far it came.
 pub struct Reading {
     pub readout: Readout,

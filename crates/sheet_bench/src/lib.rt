@@ -1,6 +1,6 @@
 // What bench/sheet measures, exported to Rust: the readers' verdicts, and the largest sheet, made and written.
 use frame::Verdict;
-use write::Sheet;
+use sheet::Sheet;
 use write::Written;
 
 // 0 where the bytes are accepted, else the number of the refusal.

@@ -18,9 +18,10 @@ use Rattle.frame.specs.Lines.{startOf, frameLine, headerLine, headerAllowed, fr
 use Rattle.frame.proofs.Puts.{frame-line-length, header-line-length}
 use Rattle.sheet.specs.Pages.{framesBytes, pageBytes}
 use Rattle.sheet.specs.Allowed.{framesAllowed}
-use Rattle.write.specs.declared.Sheet.{Sheet}
+use Rattle.sheet.specs.declared.Sheet.{Sheet}
 use Rattle.write.specs.declared.Written.the-variants.{Length, Refused as written-refused}
-use Rattle.write.specs.Write.{headerOf, rowOf, rowsOf, pageOf, sheetVerdict, wroteBytes, wrote}
+use Rattle.sheet.specs.Flat.{headerOf, rowOf, rowsOf, pageOf}
+use Rattle.write.specs.Write.{sheetVerdict, wroteBytes, wrote}
 
 pub row-step :
     (es row : List ℕ) (at j : ℕ) → j < 16 → at + 16 ≤ length es → sets (set row j (getD es (at + j) 0)) (j + 1) (left es at 16 (j + 1)) ≡ sets row j (left es at 16 j)

@@ -8,21 +8,12 @@ ghost use Rattle.frame.specs.Format.{format};
 ghost use Rattle.frame.specs.Lines.{headerAllowed, noFrame};
 ghost use Rattle.sheet.specs.Pages.{pageBytes};
 ghost use Rattle.sheet.specs.Allowed.{framesAllowed};
-ghost use Rattle.write.specs.Write.{headerOf, rowOf, rowsOf, pageOf, wrote};
+ghost use Rattle.sheet.specs.Flat.{headerOf, rowOf, rowsOf, pageOf};
+ghost use Rattle.write.specs.Write.{wrote};
 use frame::Frame;
 use frame::Header;
 use refusal::Refusal;
-
-// Places beyond the count and the number of cards are not looked at.
-pub struct Sheet {
-    pub entries: [u32; 768],
-    pub changes: [u32; 48],
-    pub session: u32,
-    pub card: u32,
-    pub cards: u32,
-    pub base: u32,
-    pub count: u32,
-}
+use sheet::Sheet;
 
 pub enum Written {
     Length(usize),

@@ -1,54 +1,109 @@
 -- `readout::read_sheet` reads the sheet of a card. Assumes nothing.
-use Rattle.frame.specs.declared.Verdict.{Verdict}
+use Prim.Native.Nat.{ℕ, _+_, _*_, _≤_, _<_}
 use mathlib.Core.Path.{_≡_, refl, sym, _∙_, ap}
 use borrow.Author.Needs.{needs}
 use native.Mathlib.Omega.{arith}
-use Rattle.readout.specs.Joint.{joined}
-use Rattle.readout.proofs.Turns.{long-sheet, sheet-read}
+use lib.ListN.{length, getD}
+use Rattle.frame.specs.declared.Verdict.the-variants.{Accepted}
+use Rattle.readout.proofs.Single.{long-sheet, refused-sheet, card-small, count-small, sheet-taken}
 use Rattle.readout.proofs.read_sheet.Statement.{statement}
 use Rattle.readout.proofs.read_sheet.Tie as tie
 use Rattle.readout.proofs.read_sheet.Reads as reads
 use Rattle.readout.proofs.read_sheet.Lts as lts
-use Rattle.readout.proofs.no_readout.Reads as no-readout-reads
+use Rattle.readout.proofs.changes_of.Reads as changes-of-reads
+use Rattle.readout.proofs.entries_of.Reads as entries-of-reads
+use Rattle.readout.proofs.no_sheet.Reads as no-sheet-reads
 use Rattle.sheet.proofs.read_sheets.Reads as read-sheets-reads
 
-no-readout-requires : tie.Need-no-readout-requires
-no-readout-requires c κs = search needs
+-- where the sheet was accepted, its card and its count are within the limits
+small-card : (c : tie.After-enum-told) → c .before .before .before .before .before .args .card < 16
+small-card c = card-small (c .before .before .before .before .before .args .card) (c .before .before .before .before .before .args .s .now) (c .before .before .read-sheets .ensures) (c .enum-told .given .1)
+
+small-count : (c : tie.After-enum-told) → getD (c .before .before .read-sheets .result .readout .counts) (c .before .before .before .before .before .args .card) 0 ≤ 48
+small-count c = count-small (c .before .before .before .before .before .args .card) (c .before .before .before .before .before .args .s .now) (c .before .before .read-sheets .ensures) (c .enum-told .given .1)
+
+no-sheet-requires : tie.Need-no-sheet-requires
+no-sheet-requires c κs = search needs
 
 returns : tie.Need-returns
-returns c = c .no-readout .ensures ∙ long-sheet (c .before .before .before .args .card) (c .before .before .before .args .s .now) (c .before .if1 .taken)
+returns c = c .no-sheet .ensures ∙ long-sheet (c .before .before .before .args .card) (c .before .before .before .args .s .now) (c .before .if1 .taken)
 
 read-sheets-requires : tie.Need-read-sheets-requires
 read-sheets-requires c κs = search needs
 
-enum-told : tie.Need-enum-told
-enum-told c = search needs
-
 enum-known-v : tie.Need-enum-known-v
 enum-known-v c = search needs
 
-no-readout-requires-2 : tie.Need-no-readout-requires-2
-no-readout-requires-2 c κs = search needs
+no-sheet-requires-2 : tie.Need-no-sheet-requires-2
+no-sheet-requires-2 c κs = search needs
+
+enum-told : tie.Need-enum-told
+enum-told c = search needs
+
+mul-session : tie.Need-mul-session
+mul-session c = search needs
+
+element-copy-out-session : tie.Need-element-copy-out-session
+element-copy-out-session c = small-card (c .before)
+
+mul-base : tie.Need-mul-base
+mul-base c = search needs
+
+element-copy-out-base : tie.Need-element-copy-out-base
+element-copy-out-base c = small-card (c .before .before)
+
+mul-count : tie.Need-mul-count
+mul-count c = search needs
+
+element-copy-out-count : tie.Need-element-copy-out-count
+element-copy-out-count c = small-card (c .before .before .before)
+
+entries-of-requires : tie.Need-entries-of-requires
+entries-of-requires c κs = (search needs, small-card (c .before .before .before .before .before .before .before), small-count (c .before .before .before .before .before .before .before))
+
+changes-of-requires : tie.Need-changes-of-requires
+changes-of-requires c κs = (search needs, small-card (c .before .before .before .before .before .before .before .before .before .before .before), small-count (c .before .before .before .before .before .before .before .before .before .before .before))
 
 returns-2 : tie.Need-returns-2
-returns-2 c =
-    let g = c .before .before .before .read-sheets .result in
-    ap (λ (v : Verdict). joined v (g .readout)) (sym (c .before .enum-told .given .1)) ∙ sheet-read (c .before .before .before .before .before .before .args .card) (c .before .before .before .before .before .before .args .s .now) (c .before .before .before .before .if1 .left) (c .before .before .before .read-sheets .ensures)
+returns-2 c = c .no-sheet2 .ensures ∙ refused-sheet (c .before .before .before .before .before .before .before .args .card) (c .before .before .before .before .before .before .before .args .s .now) (c .before .before .before .before .before .if1 .left) (c .before .before .before .before .read-sheets .ensures) (c .before .before .v .given .1)
 
 returns-3 : tie.Need-returns-3
 returns-3 c =
-    let g = c .before .before .before .before .read-sheets .result in
-    c .no-readout2 .ensures ∙ ap (λ (v : Verdict). joined v (g .readout)) (sym (c .before .before .v .given .1)) ∙ sheet-read (c .before .before .before .before .before .before .before .args .card) (c .before .before .before .before .before .before .before .args .s .now) (c .before .before .before .before .before .if1 .left) (c .before .before .before .before .read-sheets .ensures)
+    let a = c .before .before .before .before .before .before .before .before .before .before .before .before .before .before .before .before .before .args in
+    let g = c .before .before .before .before .before .before .before .before .before .before .before .before .before .before .read-sheets .result in
+    (λ i.
+    record {
+      sheet =
+          record {
+            entries = c .before .before .before .before .entries-of .ensures i;
+            changes = c .changes-of .ensures i;
+            session = getD (g .readout .sessions) (a .card) 0;
+            card = a .card;
+            cards = g .readout .cards;
+            base = getD (g .readout .bases) (a .card) 0;
+            count = getD (g .readout .counts) (a .card) 0;
+          };
+      verdict = Accepted;
+    })
+    ∙ sheet-taken (a .card) (a .s .now) (c .before .before .before .before .before .before .before .before .before .before .before .before .before .before .read-sheets .ensures) (c .before .before .before .before .before .before .before .before .before .before .before .before .enum-told .given .1) (c .before .before .before .before .before .before .before .before .before .before .before .before .before .before .before .if1 .left)
 
 pub read-sheet-spec : {M : Type 1} → statement M
 read-sheet-spec =
     tie.close
     (tie.spec
-    no-readout-requires
+    no-sheet-requires
     returns
     read-sheets-requires
-    enum-told
     enum-known-v
-    no-readout-requires-2
+    no-sheet-requires-2
+    enum-told
+    mul-session
+    element-copy-out-session
+    mul-base
+    element-copy-out-base
+    mul-count
+    element-copy-out-count
+    entries-of-requires
+    changes-of-requires
     returns-2
     returns-3)

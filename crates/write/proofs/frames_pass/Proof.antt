@@ -12,7 +12,7 @@ use Rattle.frame.specs.Lines.{noFrame}
 use Rattle.frame.proofs.Passed.{header-limits}
 use Rattle.sheet.specs.Pages.{pageBytes}
 use Rattle.sheet.specs.Allowed.{framesAllowed}
-use Rattle.write.specs.Write.{headerOf, rowOf, rowsOf, pageOf}
+use Rattle.sheet.specs.Flat.{headerOf, rowOf, rowsOf, pageOf}
 use Rattle.write.proofs.Rows.{judging, judging-start, judging-stop, judging-again, judging-none}
 use Rattle.write.proofs.frames_pass.Statement.{statement}
 use Rattle.write.proofs.frames_pass.Tie as tie

@@ -8,7 +8,7 @@ use lib.Seq.{sets}
 use Rattle.frame.specs.declared.Frame.{Frame}
 use Rattle.frame.specs.Format.{format}
 use Rattle.frame.proofs.Passed.{header-limits}
-use Rattle.write.specs.Write.{headerOf, rowOf, rowsOf, pageOf}
+use Rattle.sheet.specs.Flat.{headerOf, rowOf, rowsOf, pageOf}
 use Rattle.write.proofs.Rows.{writing, writing-start, writing-again, writing-none, lines-fit, next-line}
 use Rattle.write.proofs.put_sheet.Statement.{statement}
 use Rattle.write.proofs.put_sheet.Tie as tie

@@ -9,7 +9,8 @@ use lib.Seq.{sets}
 use Rattle.frame.specs.Format.{format}
 use Rattle.frame.proofs.Passed.{header-limits}
 use Rattle.sheet.specs.Pages.{pageBytes}
-use Rattle.write.specs.Write.{Wrote, pageOf}
+use Rattle.sheet.specs.Flat.{pageOf}
+use Rattle.write.specs.Write.{Wrote}
 use Rattle.write.proofs.Rows.{wrote-tests, wrote-short, wrote-whole, sheet-length, lines-bound}
 use Rattle.write.proofs.write_sheet.Statement.{statement}
 use Rattle.write.proofs.write_sheet.Tie as tie

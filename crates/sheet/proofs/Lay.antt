@@ -58,7 +58,7 @@ pub record Sized (r : Readout) : Type 0 where
   pub bases : length (r .bases) ≡ 16
   pub counts : length (r .counts) ≡ 16
 
-none-sized : Sized noReadout
+pub none-sized : Sized noReadout
 none-sized =
     record {
       changes = length-replicate {A = ℕ} 768 0;
@@ -68,7 +68,7 @@ none-sized =
       counts = length-replicate {A = ℕ} 16 0;
     }
 
-header-sized : (h : Header) (r : Readout) → Sized r → Sized (layHeader h r)
+pub header-sized : (h : Header) (r : Readout) → Sized r → Sized (layHeader h r)
 header-sized h r s =
     record {
       changes = s .changes;
@@ -88,18 +88,18 @@ frame-sized card state k fr r s =
       counts = length-set (r .counts) card (k + 1) ∙ s .counts;
     }
 
-frames-sized : (card state k : ℕ) (frs : List Frame) (r : Readout) → Sized r → Sized (layFrames card state k frs r)
+pub frames-sized : (card state k : ℕ) (frs : List Frame) (r : Readout) → Sized r → Sized (layFrames card state k frs r)
 frames-sized card state k [] r s = s
 frames-sized card state k (fr ∷ frs) r s = frames-sized card (state + 1) (k + 1) frs (layFrame card state k fr r) (frame-sized card state k fr r s)
 
 -- ---- the frames of one card
-length-padded : (es : List ℕ) → length (padded es) ≡ 16
+pub length-padded : (es : List ℕ) → length (padded es) ≡ 16
 unfolding padded
 length-padded es = length-sets (replicate 16 0) 0 es ∙ length-replicate {A = ℕ} 16 0
 
 module _ (card : ℕ) (is-card : card < 16) where
   -- what is laid elsewhere stays
-  frames-heads : (state k : ℕ) (frs : List Frame) (r : Readout)
+  pub frames-heads : (state k : ℕ) (frs : List Frame) (r : Readout)
       → (layFrames card state k frs r .sessions ≡ r .sessions) × (layFrames card state k frs r .bases ≡ r .bases) × (layFrames card state k frs r .cards ≡ r .cards)
   frames-heads state k [] r = (refl, refl, refl)
   frames-heads state k (fr ∷ frs) r = frames-heads (state + 1) (k + 1) frs (layFrame card state k fr r)
@@ -108,7 +108,7 @@ module _ (card : ℕ) (is-card : card < 16) where
   counts-other state k [] r c q = refl
   counts-other state k (fr ∷ frs) r c q = counts-other (state + 1) (k + 1) frs (layFrame card state k fr r) c q ∙ getD-set-other (r .counts) card c (k + 1) 0 q
 
-  counts-own : (state k : ℕ) (frs : List Frame) (r : Readout) → Sized r → getD (r .counts) card 0 ≡ k → getD (layFrames card state k frs r .counts) card 0 ≡ k + length frs
+  pub counts-own : (state k : ℕ) (frs : List Frame) (r : Readout) → Sized r → getD (r .counts) card 0 ≡ k → getD (layFrames card state k frs r .counts) card 0 ≡ k + length frs
   counts-own state k [] r s e = omega (arith, e)
   counts-own state k (fr ∷ frs) r s e =
       counts-own (state + 1) (k + 1) frs (layFrame card state k fr r) (frame-sized card state k fr r s) (getD-set-same (r .counts) card (k + 1) 0 (omega (arith, s .counts)))
@@ -135,7 +135,7 @@ module _ (card : ℕ) (is-card : card < 16) where
       now : state ≡ state + 0
       now = omega arith
 
-  changes-own : (state k : ℕ) (frs : List Frame) (r : Readout) → Sized r → length frs ≤ 48 → (i : ℕ) (fr₀ : Frame) → i < length frs → getD (layFrames card state k frs r .changes) (placeOf card (state + i)) 0 ≡ getD frs i fr₀ .change
+  pub changes-own : (state k : ℕ) (frs : List Frame) (r : Readout) → Sized r → length frs ≤ 48 → (i : ℕ) (fr₀ : Frame) → i < length frs → getD (layFrames card state k frs r .changes) (placeOf card (state + i)) 0 ≡ getD frs i fr₀ .change
   changes-own state k [] r s few i fr₀ h = absurd (not-suc-le-zero h)
   changes-own state k (fr ∷ frs) r s few zero fr₀ h =
       let now : state + 0 ≡ state = omega arith in
@@ -179,7 +179,7 @@ module _ (card : ℕ) (is-card : card < 16) where
           above : ¬ (q < placeOf card state) → placeOf card state * 16 + length (padded (fr .entries)) ≤ q * 16 + j
           above h = let ne = differs in omega (arith, h, ne, length-padded (fr .entries))
 
-  entries-own : (state k : ℕ) (frs : List Frame) (r : Readout) → Sized r → length frs ≤ 48 → (i j : ℕ) (fr₀ : Frame) → i < length frs → j < 16
+  pub entries-own : (state k : ℕ) (frs : List Frame) (r : Readout) → Sized r → length frs ≤ 48 → (i j : ℕ) (fr₀ : Frame) → i < length frs → j < 16
       → getD (layFrames card state k frs r .entries) (placeOf card (state + i) * 16 + j) 0 ≡ getD (padded (getD frs i fr₀ .entries)) j 0
   entries-own state k [] r s few i j fr₀ h lj = absurd (not-suc-le-zero h)
   entries-own state k (fr ∷ frs) r s few zero j fr₀ h lj =
