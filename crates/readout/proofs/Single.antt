@@ -1,17 +1,15 @@
 -- A card's frames taken from a read-out are the frames of the sheet that was read. Assumes nothing.
-use Prim.Native.Nat.{ℕ, zero, suc, _+_, _*_, _-_, _≤_, _<_, zero-le}
+use Prim.Native.Nat.{ℕ, zero, suc, _+_, _*_, _≤_, _<_, zero-le}
 use mathlib.Core.Path.{_≡_, refl, sym, _∙_, ap, ap₂}
-use mathlib.Core.List.{List, [], _∷_, _++_, append-assoc, map}
-use native.Mathlib.Nat.{suc-mul, zero-mul}
+use mathlib.Core.List.{List, [], _∷_, _++_, append-assoc}
 use native.Mathlib.Numerals.{add-one}
 use native.Mathlib.Omega.{arith}
-use mathlib.Core.Bool.{false, cond}
+use mathlib.Core.Bool.{false}
 use lib.ListN.{length, getD, replicate, length-append, length-map}
 use lib.Seq.{sets, getD-set-same}
 use borrow.Author.Tests.{lt-ltb, le-ltb}
-use Rattle.laws.specs.Below.{tabulate}
 use Rattle.laws.proofs.Seq.{sets-append}
-use Rattle.laws.proofs.Fill.{length-tabulate, tabulate-ext, tabulate-same}
+use Rattle.laws.proofs.Fill.{length-tabulate, tabulate-ext}
 use Rattle.refusal.specs.declared.Refusal.{Refusal}
 use Rattle.refusal.specs.declared.Refusal.the-variants.{TooLong}
 use Rattle.frame.specs.declared.Verdict.the-variants.{Accepted, Refused}
@@ -25,13 +23,13 @@ use Rattle.sheet.specs.declared.Reading.{Reading}
 use Rattle.sheet.specs.declared.Sheet.{Sheet}
 use Rattle.sheet.specs.Pages.{Page, readSheets}
 use Rattle.sheet.specs.Allowed.{Allowed}
-use Rattle.sheet.specs.Walk.{placeOf, noReadout, layHeader, layFrames, layPage, layPages, readingOf}
+use Rattle.sheet.specs.Walk.{noReadout, layHeader, layPage, layPages, readingOf}
 use Rattle.sheet.specs.Flat.{placed, changesOf, entriesOf, sheetOf, noSheet}
 use Rattle.sheet.proofs.Lay.{zeros, Sized, none-sized, header-sized, length-padded, frames-heads, counts-own, changes-own, entries-own}
 use Rattle.sheet.proofs.Read.{Sheet-read, sheet-read}
 use Rattle.readout.specs.declared.SheetRead.{SheetRead}
 use Rattle.readout.specs.Joint.{frameAt}
-use Rattle.readout.specs.Single.{joinBelow, changesIn, rowIn, entriesIn, firstOf, answered, sheetReadOf}
+use Rattle.readout.specs.Single.{joinBelow, changesIn, rowIn, entriesIn, answered, sheetReadOf}
 
 -- ---- rows joined so far
 
@@ -71,10 +69,10 @@ row-length entries p = length-tabulate 16 (λ j. getD entries (p * 16 + j) 0)
 
 -- ---- the frames of the page that was laid into the read-out
 
-getD-changes : (frs : List Frame) (k : ℕ) → k < length frs → getD (changesOf frs) k 0 ≡ getD frs k noFrame .change
-getD-changes [] k h = omega arith
-getD-changes (fr ∷ frs) zero h = refl
-getD-changes (fr ∷ frs) (suc k) h = getD-changes frs k (omega arith)
+pub getD-changes : (frs : List Frame) (k : ℕ) → getD (changesOf frs) k 0 ≡ getD frs k noFrame .change
+getD-changes [] k = refl
+getD-changes (fr ∷ frs) zero = refl
+getD-changes (fr ∷ frs) (suc k) = getD-changes frs k
 
 join-same : (n : ℕ) (f g : ℕ → List ℕ) → ((k : ℕ) → k < n → f k ≡ g k) → joinBelow n f ≡ joinBelow n g
 join-same zero f g e = refl
@@ -148,7 +146,7 @@ module _ (due : ℕ) (p : Page) (a : Allowed format due 0 p) where
       (ap (placed 48)
       (sym
       (tabulate-ext 0 (length (p .frames)) (λ k. getD (laid-page .changes) (frameAt (h .card) (h .base) k) 0) (changesOf (p .frames)) (length-map (p .frames) (λ (fr : Frame). fr .change))
-      (λ k l. getD-changes (p .frames) k l ∙ sym (changes-own (h .card) is-card (h .base + 1) 0 (p .frames) (layHeader h noReadout) headed few k noFrame l)))))
+      (λ k l. getD-changes (p .frames) k ∙ sym (changes-own (h .card) is-card (h .base + 1) 0 (p .frames) (layHeader h noReadout) headed few k noFrame l)))))
 
   row-is : (k : ℕ) → k < length (p .frames) → rowIn (laid-page .entries) (frameAt (h .card) (h .base) k) ≡ padded (getD (p .frames) k noFrame .entries)
   row-is k l =

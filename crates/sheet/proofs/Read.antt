@@ -1,20 +1,18 @@
 -- What was read of an accepted sheet is within the limits, for any format. Assumes nothing.
 use Prim.Native.Nat.{ℕ, zero, suc, _+_}
-use mathlib.Core.Path.{_≡_, refl, sym, _∙_, ap}
-use mathlib.Core.Bool.{Bool, true, false}
+use mathlib.Core.Path.{_≡_, refl, sym, ap}
+use mathlib.Core.Bool.{true, false}
 use mathlib.Core.List.{List, [], _∷_}
 use lib.ListN.{length, drop}
 use Rattle.laws.proofs.Logic.{and-intro}
 use Rattle.line.specs.declared.Sums.{Sums}
-use Rattle.frame.specs.declared.Verdict.{Verdict}
-use Rattle.frame.specs.declared.Verdict.the-variants.{Accepted, Refused}
-use Rattle.frame.specs.declared.Header.{Header}
+use Rattle.frame.specs.declared.Verdict.the-variants.{Accepted}
 use Rattle.frame.specs.declared.Frame.{Frame}
 use Rattle.frame.specs.Format.{Format}
 use Rattle.frame.specs.Lines.{startOf, headerDigits, headerIn, headerVerdict, frameDigits, frameIn, frameVerdict, noFrame}
-use Rattle.frame.proofs.Passed.{header-passed, header-limits}
+use Rattle.frame.proofs.Passed.{header-passed}
 use Rattle.frame.proofs.Round.{entries-all, change-fits, session-fits, state-is}
-use Rattle.sheet.specs.Pages.{Page, readFrames, framesOf, readSheet, ended, readSheets}
+use Rattle.sheet.specs.Pages.{Page, readFrames, framesOf, ended, readSheets}
 use Rattle.sheet.specs.Allowed.{framesAllowed, Formed, Allowed}
 use Rattle.sheet.proofs.Round.{with-accepted, with-both}
 

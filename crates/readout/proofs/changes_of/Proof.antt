@@ -1,9 +1,9 @@
 -- `readout::changes_of` takes a card's change numbers from a read-out. The invariant: those passed are stored. Assumes nothing.
-use Prim.Native.Nat.{ℕ, _+_, _*_, _-_, _≤_, _<_}
-use mathlib.Core.Path.{_≡_, refl, sym, _∙_, ap}
+use Prim.Native.Nat.{ℕ, _+_, _-_}
+use mathlib.Core.Path.{_≡_, refl, ap}
 use borrow.Author.Needs.{needs}
 use native.Mathlib.Omega.{arith}
-use lib.ListN.{length, getD, replicate}
+use lib.ListN.{getD, replicate}
 use Rattle.laws.proofs.Fill.{StoredSoFar, stored-none, stored-more, stored-done}
 use Rattle.readout.specs.Joint.{frameAt}
 use Rattle.readout.proofs.changes_of.Statement.{statement}

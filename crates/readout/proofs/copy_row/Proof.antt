@@ -1,11 +1,9 @@
 -- `readout::copy_row` copies a row. The invariant: the entries passed are stored. Assumes nothing.
-use Prim.Native.Nat.{ℕ, _+_, _*_, _-_, _≤_, _<_}
-use mathlib.Core.Path.{_≡_, refl, sym, _∙_, ap}
+use Prim.Native.Nat.{_+_, _*_, _-_}
+use mathlib.Core.Path.{refl}
 use borrow.Author.Needs.{needs}
-use native.Mathlib.Omega.{arith}
-use lib.ListN.{length, getD, replicate}
+use lib.ListN.{getD}
 use Rattle.laws.proofs.Fill.{StoredSoFar, stored-none, stored-more, stored-done}
-use Rattle.readout.specs.Joint.{frameAt}
 use Rattle.readout.proofs.copy_row.Statement.{statement}
 use Rattle.readout.proofs.copy_row.Tie as tie
 use Rattle.readout.proofs.copy_row.Reads as reads

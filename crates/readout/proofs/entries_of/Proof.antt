@@ -1,9 +1,7 @@
 -- `readout::entries_of` takes a card's entries from a read-out. The invariant: the rows passed are stored. Assumes nothing.
-use Prim.Native.Nat.{ℕ, _+_, _*_, _-_, _≤_, _<_}
-use mathlib.Core.Path.{_≡_, refl, sym, _∙_, ap}
+use Prim.Native.Nat.{ℕ, _*_, _-_}
+use mathlib.Core.Path.{_∙_, ap}
 use borrow.Author.Needs.{needs}
-use native.Mathlib.Omega.{arith}
-use lib.ListN.{length, getD, replicate}
 use lib.Seq.{sets}
 use Rattle.readout.specs.Joint.{frameAt}
 use Rattle.readout.specs.Single.{rowIn}

@@ -1,9 +1,8 @@
 -- `readout::read_sheet` reads the sheet of a card. Assumes nothing.
-use Prim.Native.Nat.{ℕ, _+_, _*_, _≤_, _<_}
-use mathlib.Core.Path.{_≡_, refl, sym, _∙_, ap}
+use Prim.Native.Nat.{_≤_, _<_}
+use mathlib.Core.Path.{_∙_}
 use borrow.Author.Needs.{needs}
-use native.Mathlib.Omega.{arith}
-use lib.ListN.{length, getD}
+use lib.ListN.{getD}
 use Rattle.frame.specs.declared.Verdict.the-variants.{Accepted}
 use Rattle.readout.proofs.Single.{long-sheet, refused-sheet, card-small, count-small, sheet-taken}
 use Rattle.readout.proofs.read_sheet.Statement.{statement}

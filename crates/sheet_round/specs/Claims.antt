@@ -1,0 +1,53 @@
+-- What is written of a sheet by value reads back the same, and what is read is written again. Statements alone: the proofs are in proofs/Sheets.antt.
+use Prim.Native.Nat.{ℕ, _/_, _%_, _^_, _≤_, _<_}
+use mathlib.Core.Path.{_≡_}
+use mathlib.Core.Bool.{_&&_, cond}
+use mathlib.Core.List.{List}
+use lib.Dec.{ltb}
+use lib.ListN.{length, take, getD}
+use lib.Seq.{sets}
+use Rattle.laws.specs.Below.{tabulate}
+use Rattle.frame.specs.declared.Verdict.the-variants.{Accepted}
+use Rattle.sheet.specs.declared.Sheet.{Sheet}
+use Rattle.write.specs.declared.Written.the-variants.{Length}
+use Rattle.write.specs.Write.{wrote}
+use Rattle.readout.specs.Single.{sheetReadOf}
+
+-- a sheet as the code holds one: arrays of 48 and of 768, numbers of 32 bits
+pub record Held (s : Sheet) : Type 0 where
+  pub changes : length (s .changes) ≡ 48
+  pub entries : length (s .entries) ≡ 768
+  pub session : s .session < 16 ^ 8
+  pub numbers : (i : ℕ) → getD (s .changes) i 0 < 16 ^ 8
+
+-- places beyond the count and the number of cards made 0; the rest as it was
+abbrev pub cleaned : Sheet → Sheet
+cleaned s =
+    record {
+      entries = tabulate 768 (λ i. cond (ltb (i / 16) (s .count) && ltb (i % 16) (s .cards)) (getD (s .entries) i 0) 0);
+      changes = tabulate 48 (λ i. cond (ltb i (s .count)) (getD (s .changes) i 0) 0);
+      session = s .session;
+      card = s .card;
+      cards = s .cards;
+      base = s .base;
+      count = s .count;
+    }
+
+-- What the writer wrote of a sheet reads back, told its card, as that sheet, places that were not looked at as 0.
+abbrev pub WrittenReadsBack : Type 0
+WrittenReadsBack =
+    (s : Sheet) → Held s → (buffer : List ℕ) (n : ℕ) → wrote s buffer .answer ≡ Length n → sheetReadOf (s .card) (take n (wrote s buffer .buffer)) ≡ record { sheet = cleaned s; verdict = Accepted }
+
+-- The very same sheet, where those places are 0.
+abbrev pub SameReadsBack : Type 0
+SameReadsBack =
+    (s : Sheet) → Held s → cleaned s ≡ s → (buffer : List ℕ) (n : ℕ) → wrote s buffer .answer ≡ Length n → sheetReadOf (s .card) (take n (wrote s buffer .buffer)) ≡ record { sheet = s; verdict = Accepted }
+
+-- Bytes that the reader accepts are the very bytes that the writer makes of the sheet answered.
+abbrev pub ReadWritesAgain : Type 0
+ReadWritesAgain =
+    (card : ℕ) (input : List ℕ) → sheetReadOf card input .verdict ≡ Accepted → (buffer : List ℕ) → length input ≤ length buffer → wrote (sheetReadOf card input .sheet) buffer ≡ record { answer = Length (length input); buffer = sets buffer 0 input }
+
+-- The sheet answered is as the code holds one, and places beyond its count and number of cards are 0.
+abbrev pub ReadIsClean : Type 0
+ReadIsClean = (card : ℕ) (input : List ℕ) → sheetReadOf card input .verdict ≡ Accepted → Held (sheetReadOf card input .sheet) × (cleaned (sheetReadOf card input .sheet) ≡ sheetReadOf card input .sheet)
