@@ -1,0 +1,57 @@
+-- `sheet_calls::entries_in` takes entries from a record: it is safe and ends. Assumes nothing.
+use Prim.Native.Nat.{_-_, _≤_}
+use borrow.Author.Needs.{needs}
+use Rattle.sheet_calls.proofs.entries_in.Statement.{statement}
+use Rattle.sheet_calls.proofs.entries_in.Tie as tie
+use Rattle.sheet_calls.proofs.entries_in.Reads as reads
+use Rattle.sheet_calls.proofs.entries_in.Lts as lts
+use Rattle.sheet_calls.proofs.in_row.Reads as in-row-reads
+
+abbrev Inv-loop : tie.InvT-loop
+Inv-loop body rows to₀ i₀ to i = i ≤ 768
+
+abbrev μ-loop : tie.MeasureT-loop
+μ-loop body rows to₀ i₀ to i = 768 - i
+
+loop-holds : tie.Need-loop-holds Inv-loop μ-loop
+loop-holds c = search needs
+
+add-in-row : tie.Need-add-in-row Inv-loop μ-loop
+add-in-row c = search needs
+
+in-row-requires : tie.Need-in-row-requires Inv-loop μ-loop
+in-row-requires c κs = search needs
+
+mul-to : tie.Need-mul-to Inv-loop μ-loop
+mul-to c = search needs
+
+array-write-to : tie.Need-array-write-to Inv-loop μ-loop
+array-write-to c = search needs
+
+add-i : tie.Need-add-i Inv-loop μ-loop
+add-i c = search needs
+
+loop-less : tie.Need-loop-less Inv-loop μ-loop
+loop-less c = search needs
+
+loop-again : tie.Need-loop-again Inv-loop μ-loop
+loop-again c = search needs
+
+returns : tie.Need-returns Inv-loop μ-loop
+returns c = search needs
+
+pub entries-in-spec : {M : Type 1} → statement M
+entries-in-spec =
+    tie.close
+    (tie.spec
+    Inv-loop
+    μ-loop
+    loop-holds
+    add-in-row
+    in-row-requires
+    mul-to
+    array-write-to
+    add-i
+    loop-less
+    loop-again
+    returns)
