@@ -9,7 +9,8 @@ ghost use Rattle.frame.specs.Lines.{headerAllowed, noFrame};
 ghost use Rattle.sheet.specs.Pages.{pageBytes};
 ghost use Rattle.sheet.specs.Allowed.{framesAllowed};
 ghost use Rattle.sheet.specs.Flat.{headerOf, rowOf, rowsOf, pageOf};
-ghost use Rattle.write.specs.Write.{wrote};
+ghost use Rattle.frame.specs.declared.Verdict.the-variants.{Accepted};
+ghost use Rattle.write.specs.Write.{wroteBytes, wrote};
 use frame::Frame;
 use frame::Header;
 use refusal::Refusal;
@@ -99,19 +100,32 @@ fn put_sheet(s: Sheet, b: &mut [u8])
     }
 }
 
+// Writes a sheet whose header refusal 7 lets pass, where the buffer is long enough for the whole, and answers its length.
+pub fn write_whole(s: Sheet, b: &mut [u8]) -> Written
+    requires { ⌜ headerAllowed format (s .card) 0 (headerOf s) ≡ true ⌝ }
+    ensures { λ r. ⌜ (r ≡ wroteBytes Accepted (pageBytes format (pageOf s)) (now (b .entry)) .answer) × (now (b .exit) ≡ wroteBytes Accepted (pageBytes format (pageOf s)) (now (b .entry)) .buffer) ⌝ }
+{
+    let cards = s.cards;
+    let count = s.count;
+    let length = 25 + count as usize * (17 + cards as usize * 4);
+    if b.len() < length {
+        return Written::Refused(Refusal::TooShort);
+    }
+    put_sheet(s, b);
+    Written::Length(length)
+}
+
 // Writes a sheet, and answers its length; a refusal changes no byte.
 pub fn write_sheet(s: Sheet, b: &mut [u8]) -> Written
     ensures { λ r. ⌜ (r ≡ wrote s (now (b .entry)) .answer) × (now (b .exit) ≡ wrote s (now (b .entry)) .buffer) ⌝ }
 {
     let card = s.card;
-    let cards = s.cards;
-    let count = s.count;
     let h = Header {
         session: s.session,
         card,
-        cards,
+        cards: s.cards,
         base: s.base,
-        count,
+        count: s.count,
     };
     if !frame::header_allowed(h, card, 0) {
         return Written::Refused(Refusal::BadHeader);
@@ -119,10 +133,5 @@ pub fn write_sheet(s: Sheet, b: &mut [u8]) -> Written
     if !frames_pass(s) {
         return Written::Refused(Refusal::BadFrame);
     }
-    let length = 25 + count as usize * (17 + cards as usize * 4);
-    if b.len() < length {
-        return Written::Refused(Refusal::TooShort);
-    }
-    put_sheet(s, b);
-    Written::Length(length)
+    write_whole(s, b)
 }
