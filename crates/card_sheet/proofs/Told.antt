@@ -1,0 +1,124 @@
+-- What the writer of a card's sheet answers is what its plan says. Assumes nothing.
+use Prim.Native.Nat.{ℕ, _≤_, _<_, zero-le}
+use mathlib.Core.Path.{_≡_, refl, sym, _∙_, ap, ap₂, subst}
+use mathlib.Core.Bool.{Bool, true, false, not, cond}
+use mathlib.Core.List.{List, [], _∷_}
+use native.Mathlib.Nat.{le-refl}
+use native.Mathlib.Omega.{arith}
+use lib.Dec.{leb, ltb}
+use lib.ListN.{length, take, drop}
+use lib.Seq.{sets, length-sets}
+use borrow.Author.Tests.{le-ltb, lt-ltb, leb-true, leb-false, ltb-true}
+use Rattle.laws.proofs.Logic.{test, not-intro, and-right}
+use Rattle.laws.proofs.Seq.{sets-part}
+use Rattle.refusal.specs.declared.Refusal.{Refusal}
+use Rattle.refusal.specs.declared.Refusal.the-variants.{NoSuchCard, TooShort, BadCabinet}
+use Rattle.frame.specs.declared.Verdict.the-variants.{Accepted}
+use Rattle.write.specs.declared.Written.{Written}
+use Rattle.write.specs.declared.Written.the-variants.{Length, Refused}
+use Rattle.write.specs.Write.{Wrote, headerOf, pageOf, wroteBytes}
+use Rattle.write.proofs.Rows.{wrote-short, wrote-whole}
+use Rattle.protocol.specs.Plan.{Answer, written, Check, _⇒_, Plan, checked, accepted, refused}
+use Rattle.protocol.specs.Model.{Model, isCard}
+use Rattle.protocol.specs.Sheets.{sheetOf}
+use Rattle.verdicts.specs.declared.Head.{Head}
+use Rattle.verdicts.specs.Shape.{limits16, at, headModel}
+use Rattle.frame.specs.Format.{format}
+use Rattle.frame.specs.Lines.{headerAllowed}
+use Rattle.sheet.specs.Pages.{pageBytes}
+use Rattle.write.specs.declared.Sheet.{Sheet}
+use Rattle.card_sheet.specs.Card.{cardSheet, Within, sheetModel, sheetPlanFor, sheetReplyOf, lengthTold, SheetTold}
+use Rattle.card_sheet.proofs.Bytes.{sheet-bytes, header-passes}
+
+-- a plan that refuses, and a writer that answers that refusal and changes no byte
+told-refused : (p : Plan) (before : List ℕ) (r : Refusal) → p ≡ record { reply = refused r; edits = [] } → SheetTold p before before (Refused r)
+told-refused p before r e = subst (λ (q : Plan). SheetTold q before before (Refused r)) (sym e) (record { answer = refl; inside = zero-le; buffer = refl })
+
+-- a plan that accepts, and a writer that answers the length of the bytes and leaves them at the front of the buffer
+told-written : (p : Plan) (bytes before : List ℕ) → length bytes ≤ length before → p ≡ record { reply = accepted (written bytes); edits = [] } → SheetTold p before (sets before 0 bytes) (Length (length bytes))
+told-written p bytes before h e =
+    subst (λ (q : Plan). SheetTold q before (sets before 0 bytes) (Length (length bytes))) (sym e)
+    (record {
+      answer = ap (λ (l : List ℕ). accepted (written l)) (sets-part bytes before 0 (omega arith));
+      inside = let l = length-sets before 0 bytes in omega arith;
+      buffer = refl;
+    })
+
+-- the last check: "lent list or buffer too short for the whole answer"
+told-last : (bytes before after : List ℕ) (reply : Written) (p : Plan)
+    → p ≡ checked (ltb (length before) (length bytes) ⇒ TooShort ∷ []) (written bytes) []
+    → reply ≡ wroteBytes Accepted bytes before .answer → after ≡ wroteBytes Accepted bytes before .buffer → SheetTold p before after reply
+told-last bytes before after reply p e r a =
+    test (leb (length bytes) (length before)) (λ t. fits (leb-true (length bytes) (length before) t)) (λ t. short (leb-false (length bytes) (length before) t))
+  where
+    turned : (w : Wrote) → wroteBytes Accepted bytes before ≡ w → SheetTold p before (w .buffer) (w .answer) → SheetTold p before after reply
+    turned w q t =
+        subst (λ (x : Written). SheetTold p before after x) (sym (r ∙ ap (λ (y : Wrote). y .answer) q))
+        (subst (λ (x : List ℕ). SheetTold p before x (w .answer)) (sym (a ∙ ap (λ (y : Wrote). y .buffer) q)) t)
+
+    fits : length bytes ≤ length before → SheetTold p before after reply
+    fits h =
+        turned (record { answer = Length (length bytes); buffer = sets before 0 bytes }) (wrote-whole bytes before (length bytes) refl h)
+        (told-written p bytes before h (e ∙ ap (λ (b : Bool). checked (b ⇒ TooShort ∷ []) (written bytes) []) (le-ltb (length before) (length bytes) h)))
+
+    short : length before < length bytes → SheetTold p before after reply
+    short h =
+        turned (record { answer = Refused TooShort; buffer = before }) (wrote-short bytes before (length bytes) refl h)
+        (told-refused p before TooShort (e ∙ ap (λ (b : Bool). checked (b ⇒ TooShort ∷ []) (written bytes) []) (lt-ltb (length before) (length bytes) h)))
+
+-- the checks before the last
+first-fails : (b : Bool) (r : Refusal) (cs : List Check) (a : Answer) → b ≡ true → checked (b ⇒ r ∷ cs) a [] ≡ record { reply = refused r; edits = [] }
+first-fails b r cs a e = rw e
+
+first-passes : (b : Bool) (r : Refusal) (cs : List Check) (a : Answer) → b ≡ false → checked (b ⇒ r ∷ cs) a [] ≡ checked cs a []
+first-passes b r cs a e = rw e
+
+-- a card of the cabinet is below its number of cards
+pub card-there : (h : Head) (c : ℕ) → isCard limits16 (headModel h) c ≡ true → c < h .cards
+card-there h c e = ltb-true c (h .cards) (and-right (ltb c (limits16 .width)) (ltb c (h .cards)) e)
+
+-- ---- the writer's three ends
+module _ (whole : Bool) (entries makers : List ℕ) (h : Head) (rolled : ℕ) (base stored : List ℕ) (c : ℕ) (before : List ℕ) where
+  abbrev m : Model
+  m = sheetModel entries makers h rolled base stored
+
+  abbrev bytes : List ℕ
+  bytes = pageBytes format (sheetOf limits16 m c)
+
+  abbrev last : List Check
+  last = ltb (length before) (length bytes) ⇒ TooShort ∷ []
+
+  pub told-unsound : whole ≡ false → SheetTold (sheetPlanFor whole m c (length before)) before before (Refused BadCabinet)
+  told-unsound e =
+      told-refused (sheetPlanFor whole m c (length before)) before BadCabinet
+      (first-fails (not whole) BadCabinet (not (isCard limits16 m c) ⇒ NoSuchCard ∷ last) (written bytes) (not-intro e))
+
+  pub told-absent : whole ≡ true → isCard limits16 m c ≡ false → SheetTold (sheetPlanFor whole m c (length before)) before before (Refused NoSuchCard)
+  told-absent e n =
+      told-refused (sheetPlanFor whole m c (length before)) before NoSuchCard
+      (first-passes (not whole) BadCabinet (not (isCard limits16 m c) ⇒ NoSuchCard ∷ last) (written bytes) (ap not e)
+      ∙ first-fails (not (isCard limits16 m c)) NoSuchCard last (written bytes) (not-intro n))
+
+  -- the card's sheet by value, with the numbers found
+  abbrev pub found : (low high : ℕ) → Sheet
+  found low high = cardSheet entries makers h rolled low high c
+
+  module _ (s : Sheet) (low high : ℕ) (is : s ≡ found low high) (is-low : low ≡ at base c) (is-high : high ≡ at stored c) (w : Within h base stored c) (n : isCard limits16 m c ≡ true) where
+    is-sheet : s ≡ found (at base c) (at stored c)
+    is-sheet = is ∙ ap₂ found is-low is-high
+
+    there : c < h .cards
+    there = card-there h c n
+
+    pub passes-7 : headerAllowed format (s .card) 0 (headerOf s) ≡ true
+    passes-7 = ap (λ (x : Sheet). headerAllowed format (x .card) 0 (headerOf x)) is-sheet ∙ header-passes entries makers h rolled base stored c w there
+
+    pub told-whole : whole ≡ true → (after : List ℕ) (reply : Written) → reply ≡ wroteBytes Accepted (pageBytes format (pageOf s)) before .answer → after ≡ wroteBytes Accepted (pageBytes format (pageOf s)) before .buffer
+        → SheetTold (sheetPlanFor whole m c (length before)) before after reply
+    told-whole e after reply r a =
+        let q : pageBytes format (pageOf s) ≡ bytes = ap (λ (x : Sheet). pageBytes format (pageOf x)) is-sheet ∙ sheet-bytes entries makers h rolled base stored c w there in
+        told-last bytes before after reply (sheetPlanFor whole m c (length before))
+        (first-passes (not whole) BadCabinet (not (isCard limits16 m c) ⇒ NoSuchCard ∷ last) (written bytes) (ap not e)
+        ∙ first-passes (not (isCard limits16 m c)) NoSuchCard last (written bytes) (ap not n))
+        (r ∙ ap (λ (l : List ℕ). wroteBytes Accepted l before .answer) q)
+        (a ∙ ap (λ (l : List ℕ). wroteBytes Accepted l before .buffer) q)
