@@ -6,3 +6,4 @@ pub mod Grow
 pub mod Roll
 pub mod Bases
 pub mod Told
+pub mod Pages

@@ -23,7 +23,7 @@ pub record Rolls (m : Model) (c : ℕ) : Type 0 where
   pub room : m .session ≡ 4294967295 → ⊥
 
 -- the session of a cabinet that is sound while rolling is not the greatest
-session-room : (m : Model) → sound limits16 m ≡ true → isRolling (m .phase) ≡ true → m .session ≡ 4294967295 → ⊥
+pub session-room : (m : Model) → sound limits16 m ≡ true → isRolling (m .phase) ≡ true → m .session ≡ 4294967295 → ⊥
 session-room m e r q =
     let cs : Bool = allBelow (limits16 .width) (cardSound limits16 m) in
     let ps : Bool = allBelow (limits16 .places) (λ p. placeSound limits16 m (m .place p)) in

@@ -2,3 +2,4 @@ pub mod View
 pub mod Apply
 pub mod Fresh
 pub mod Fixing
+pub mod Writing

@@ -17,6 +17,7 @@ use verdicts::SafeReply;
 use verdicts::Vector;
 
 pub mod recover;
+pub mod sheets;
 pub mod writes;
 
 // A cabinet by value. Frames stand in a ring: state x of card c has the place c * 48 + x % 48.

@@ -40,7 +40,7 @@ cardSheet entries makers h rolled base stored c =
 -- what a cabinet that passes 28 shows of its head, and of the numbers of card c where it is there
 pub record Within (h : Head) (base stored : List ℕ) (c : ℕ) : Type 0 where
   pub session : h .session ≡ 0 → ⊥
-  pub next : isRolling (phaseOf (h .phase)) ≡ true → h .session < 4294967295
+  pub next : isRolling (phaseOf (h .phase)) ≡ true → h .session ≡ 4294967295 → ⊥
   pub cards : h .cards ≤ 16
   pub low : c < h .cards → at base c ≤ at stored c
   pub high : c < h .cards → at stored c ≤ at base c + 48

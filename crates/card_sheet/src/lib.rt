@@ -46,7 +46,7 @@ fn changes(makers: &[u32; 768], card: usize, base: usize) -> [u32; 48]
 
 // "A card already rolled writes the next session's number."
 fn session_for(head: Head, rolled: u16, card: u32) -> u32
-    requires { ⌜ (isRolling (phaseOf (head .phase)) ≡ true → head .session < 4294967295) ⌝ }
+    requires { ⌜ (isRolling (phaseOf (head .phase)) ≡ true → head .session ≡ 4294967295 → ⊥) ⌝ }
     ensures { λ r. ⌜ r ≡ sessionFor head rolled card ⌝ }
 {
     let phase = head.phase;
@@ -69,7 +69,7 @@ fn sheet_of<'a>(
     stored: u32,
     card: u32,
 ) -> Sheet
-    requires { ⌜ (card < 16) × (base ≤ stored) × (stored ≤ 60000) × (isRolling (phaseOf (head .phase)) ≡ true → head .session < 4294967295) ⌝ }
+    requires { ⌜ (card < 16) × (base ≤ stored) × (stored ≤ 60000) × (isRolling (phaseOf (head .phase)) ≡ true → head .session ≡ 4294967295 → ⊥) ⌝ }
     ensures { λ r. ⌜ r ≡ cardSheet (now (entries .entry)) (now (makers .entry)) head rolled base stored card ⌝ }
 {
     let session = session_for(head, rolled, card);

@@ -1,0 +1,30 @@
+-- `Cabinet::sheet` writes a card's sheet by its plan. Assumes nothing.
+use mathlib.Core.Path.{_≡_, sym, _∙_}
+use Rattle.cabinet.proofs.Pages.{within, sheet-carried}
+use borrow.Author.Needs.{needs}
+use Rattle.cabinet.proofs.Cabinet.sheet.Statement.{statement}
+use Rattle.cabinet.proofs.Cabinet.sheet.Tie as tie
+use Rattle.cabinet.proofs.Cabinet.sheet.Reads as reads
+use Rattle.cabinet.proofs.Cabinet.sheet.Lts as lts
+use Rattle.card_sheet.proofs.write_card.Reads as write-card-reads
+use Rattle.soundness.proofs.cabinet_sound.Reads as cabinet-sound-reads
+
+cabinet-sound-requires : tie.Need-cabinet-sound-requires
+cabinet-sound-requires c κs = search needs
+
+write-card-requires : tie.Need-write-card-requires
+write-card-requires c κs =
+    λ t.
+    let a = c .before .before .before .before .before .before .before .before .before .before .before .before .before .before .before .before .before .before .args in
+    within (a .t1) (a .card) (sym (c .before .before .before .before .cabinet-sound .ensures) ∙ t)
+
+same-length : tie.Need-same-length
+same-length c = search needs
+
+returns : tie.Need-returns
+returns c =
+    let a = c .before .before .before .before .before .before .before .before .before .before .before .before .before .before .before .before .before .before .before .before .before .args in
+    sheet-carried (a .t1) (a .card) (a .buffer .now) (c .before .before .write-card .last .0) (c .before .before .before .before .before .before .before .cabinet-sound .result) (c .before .before .write-card .result) (c .before .before .before .before .before .before .before .cabinet-sound .ensures) (c .before .before .write-card .ensures)
+
+pub sheet-spec : {M : Type 1} → statement M
+sheet-spec = tie.close (tie.spec cabinet-sound-requires write-card-requires same-length returns)
