@@ -1,0 +1,4 @@
+pub mod Read
+pub mod Shown
+pub mod Again
+pub mod Whole
