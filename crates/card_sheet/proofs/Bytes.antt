@@ -19,8 +19,8 @@ use Rattle.frame.specs.declared.Header.{Header}
 use Rattle.frame.specs.Format.{format, entryOf}
 use Rattle.frame.specs.Lines.{headerAllowed, headerLine, frameWidths, frameNumbers, frameLine}
 use Rattle.sheet.specs.Pages.{framesBytes, pageBytes}
-use Rattle.write.specs.declared.Sheet.{Sheet}
-use Rattle.write.specs.Write.{headerOf, rowOf, rowsOf, pageOf}
+use Rattle.sheet.specs.declared.Sheet.{Sheet}
+use Rattle.sheet.specs.Flat.{headerOf, rowOf, rowsOf, pageOf}
 use Rattle.protocol.specs.Model.{Model, isRolling}
 use Rattle.protocol.specs.Sheets.{cardCount, sheetFrame, sheetOf}
 use Rattle.protocol.proofs.Restart.{count-is}

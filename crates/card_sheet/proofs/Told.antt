@@ -16,7 +16,8 @@ use Rattle.refusal.specs.declared.Refusal.the-variants.{NoSuchCard, TooShort, B
 use Rattle.frame.specs.declared.Verdict.the-variants.{Accepted}
 use Rattle.write.specs.declared.Written.{Written}
 use Rattle.write.specs.declared.Written.the-variants.{Length, Refused}
-use Rattle.write.specs.Write.{Wrote, headerOf, pageOf, wroteBytes}
+use Rattle.sheet.specs.Flat.{headerOf, pageOf}
+use Rattle.write.specs.Write.{Wrote, wroteBytes}
 use Rattle.write.proofs.Rows.{wrote-short, wrote-whole}
 use Rattle.protocol.specs.Plan.{Answer, written, Check, _⇒_, Plan, checked, accepted, refused}
 use Rattle.protocol.specs.Model.{Model, isCard}
@@ -26,7 +27,7 @@ use Rattle.verdicts.specs.Shape.{limits16, at, headModel}
 use Rattle.frame.specs.Format.{format}
 use Rattle.frame.specs.Lines.{headerAllowed}
 use Rattle.sheet.specs.Pages.{pageBytes}
-use Rattle.write.specs.declared.Sheet.{Sheet}
+use Rattle.sheet.specs.declared.Sheet.{Sheet}
 use Rattle.card_sheet.specs.Card.{cardSheet, Within, sheetModel, sheetPlanFor, sheetReplyOf, lengthTold, SheetTold}
 use Rattle.card_sheet.proofs.Bytes.{sheet-bytes, header-passes}
 

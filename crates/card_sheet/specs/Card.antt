@@ -16,7 +16,7 @@ use Rattle.protocol.specs.Sheets.{sheetOf, sheetChecks}
 use Rattle.verdicts.specs.declared.Head.{Head}
 use Rattle.verdicts.specs.Shape.{limits16, phaseOf, at, ringMaker, ringFrame, modelOf}
 use Rattle.verdicts.specs.Answers.{after28}
-use Rattle.write.specs.declared.Sheet.{Sheet}
+use Rattle.sheet.specs.declared.Sheet.{Sheet}
 use Rattle.write.specs.declared.Written.{Written}
 use Rattle.write.specs.declared.Written.the-variants.{Length, Refused}
 

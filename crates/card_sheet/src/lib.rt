@@ -11,7 +11,7 @@ use refusal::Refusal;
 use verdicts::Head;
 use verdicts::is_rolling;
 use verdicts::replies::is_card;
-use write::Sheet;
+use sheet::Sheet;
 use write::Written;
 
 // The vectors of 48 states of a card, from base + 1 on.

@@ -27,7 +27,7 @@ use Rattle.sheet.specs.Walk.{placeOf, noReadout, layPages, readingOf}
 use Rattle.sheet.proofs.Round.{read-writes-again}
 use Rattle.readout.specs.Joint.{lowestTo, lowestOf, apart, twoVectors, jointVerdict, cardsOf, joined, lined, readoutOf}
 use Rattle.protocol.specs.Sheets.{storedIn, isIn, makerIn, vectorIn, restartReply}
-use Rattle.protocol.proofs.Lay.{Holds, laid-holds}
+use Rattle.sheet.proofs.Lay.{Holds, laid-holds}
 use Rattle.verdicts.specs.Shape.{limits16}
 use Rattle.verdicts.proofs.Limits.{width16}
 use Rattle.readback.proofs.Read.{noPage, SheetIn, ReadIn, read-in, before, frames-at, formed-at}
