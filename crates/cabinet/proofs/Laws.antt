@@ -118,11 +118,11 @@ fall-law s cards es eh =
 pub free-fits : Fits freePlace
 free-fits = record { reads = λ k h. refl; writes = λ k h. refl; yes = λ k h. refl; taken = λ k h. refl; vector = λ k h. refl }
 
-no-place : openOf (record { vector = []; number = 0; reads = 0; writes = 0; yes = 0; taken = 0 }) ≡ freePlace
+pub no-place : openOf (record { vector = []; number = 0; reads = 0; writes = 0; yes = 0; taken = 0 }) ≡ freePlace
 no-place = sym free-open ∙ open-back freePlace free-fits
 
 -- a list of eight places, one by one, and what stands beyond them
-places-by : {A B : Type 0} (d : A) (f : A → B) (g : ℕ → A) (h : ℕ → B) → ((p : ℕ) → p < 8 → f (g p) ≡ h p) → ((p : ℕ) → 8 ≤ p → f d ≡ h p)
+pub places-by : {A B : Type 0} (d : A) (f : A → B) (g : ℕ → A) (h : ℕ → B) → ((p : ℕ) → p < 8 → f (g p) ≡ h p) → ((p : ℕ) → 8 ≤ p → f d ≡ h p)
     → (λ (p : ℕ). f (getD (tabulate (limits16 .places) g) p d)) ≡ h
 places-by d f g h below beyond′ = λ i p. by-cases (decLt p 8) (here p) (there p) i
   where

@@ -61,7 +61,7 @@ pub struct Answer {
 }
 
 // All state numbers 0, all entries none, every place free.
-fn zeros(head: Head) -> Cabinet
+pub fn zeros(head: Head) -> Cabinet
     ensures { λ r. ⌜ r ≡ zeroCabinet head ⌝ }
 {
     let none = [0u32; 16];

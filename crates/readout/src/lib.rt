@@ -23,7 +23,7 @@ pub struct SheetRead {
 }
 
 // The lowest of the sessions from the first to number `last`.
-fn lowest(sessions: [u32; 16], last: u32) -> u32
+pub fn lowest(sessions: [u32; 16], last: u32) -> u32
     requires { ⌜ last < 16 ⌝ }
     ensures { λ r. ⌜ r ≡ lowestTo (λ i. getD sessions i 0) last ⌝ }
 {
