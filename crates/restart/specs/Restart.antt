@@ -1,0 +1,69 @@
+-- The cabinet that a restart hands back, list by list.
+use Prim.Native.Nat.{ℕ, _+_, _≤_, _<_}
+use mathlib.Core.Path.{_≡_}
+use mathlib.Core.List.{List}
+use Rattle.laws.specs.Below.{tabulate}
+use Rattle.frame.specs.declared.Verdict.{Verdict}
+use Rattle.frame.specs.declared.Verdict.the-variants.{Accepted, Refused}
+use Rattle.sheet.specs.declared.Readout.{Readout}
+use Rattle.readout.specs.Joint.{readoutOf}
+use Rattle.protocol.specs.Model.{Model}
+use Rattle.protocol.specs.Model as model
+use Rattle.protocol.specs.Plan.{Reply}
+use Rattle.protocol.specs.Run.{verdictReply}
+use Rattle.protocol.specs.Sheets.{restarted, restartReply, restartedFrom}
+use Rattle.verdicts.specs.declared.Phase.{Phase}
+use Rattle.verdicts.specs.declared.Phase.the-variants.{Up, Down, Rolling}
+use Rattle.verdicts.specs.Shape.{limits16, at, listOf, setOf, vectorFor, placeFor}
+use Rattle.cabinet.specs.declared.Cabinet.{Cabinet}
+use Rattle.cabinet.specs.View.{view}
+use Rattle.cabinet.specs.Fresh.{zeroCabinet, voidHead}
+
+abbrev pub phaseFor : model.Phase → Phase
+phaseFor model.up = Up
+phaseFor model.down = Down
+phaseFor model.rolling = Rolling
+
+-- the cabinet of n cards whose lists show a model; `entries` and `makers` are its ring of frames
+abbrev pub cabinetOf : (entries makers : List ℕ) (n : ℕ) → Model → Cabinet
+cabinetOf entries makers n m =
+    record {
+      entries = entries;
+      makers = makers;
+      last = tabulate (limits16 .width) (λ c. vectorFor (m .memory .last c));
+      pending = tabulate (limits16 .width) (λ c. vectorFor (m .memory .pending c));
+      places = tabulate (limits16 .places) (λ p. placeFor (m .place p));
+      base = listOf (m .numbers .base);
+      stored = listOf (m .numbers .stored);
+      held = listOf (m .numbers .held);
+      reached = listOf (m .numbers .reached);
+      line = listOf (m .line);
+      ended = tabulate (limits16 .places) (m .ended);
+      rolled = setOf (m .rolled);
+      head = record { session = m .session; cards = n; count = m .count; phase = phaseFor (m .phase) };
+    }
+
+-- the cabinet that restarts from a read-out, whose frames stand as they were read
+abbrev pub restartedCabinet : Readout → Cabinet
+restartedCabinet r = cabinetOf (r .entries) (r .changes) (r .cards) (restarted limits16 r)
+
+-- the void cabinet where the read-out is refused
+abbrev pub cabinetFor : Verdict → Readout → Cabinet
+cabinetFor Accepted r = restartedCabinet r
+cabinetFor (Refused x) r = zeroCabinet voidHead
+
+-- what a restart answers and hands back
+pub record Restarted (bytes : List ℕ) (reply : Reply) (next : Cabinet) : Type 0 where
+  pub answer : reply ≡ verdictReply (restartReply bytes)
+  pub cabinet : next ≡ cabinetFor (restartReply bytes) (readoutOf bytes .readout)
+
+-- what an accepted read-out shows of its numbers
+pub record Within (r : Readout) : Type 0 where
+  pub some : 1 ≤ r .cards
+  pub few : r .cards ≤ 16
+  pub states : (c : ℕ) → c < 16 → at (r .bases) c + at (r .counts) c ≤ 60000
+  pub absent : (c : ℕ) → r .cards ≤ c → at (r .counts) c ≡ 0
+
+-- the restarted cabinet shows the model that the demands speak of
+abbrev pub ShowsRestart : Type 0
+ShowsRestart = (bytes : List ℕ) → restartReply bytes ≡ Accepted → view (restartedCabinet (readoutOf bytes .readout)) ≡ restartedFrom limits16 bytes
