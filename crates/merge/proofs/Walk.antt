@@ -1,0 +1,169 @@
+-- What a merge over rising numbers meets: the least number at the heads is the least of all ahead, and once the cards are
+-- brought past it, exactly the numbers above it are ahead. So it meets each number once, rising. Assumes nothing.
+use Prim.Native.Nat.{ℕ, zero, suc, _+_, _-_, _≤_, _<_}
+use mathlib.Core.Path.{_≡_, refl, sym, _∙_, ap, subst}
+use mathlib.Core.Bool.{Bool, true, false, cond}
+use mathlib.Core.Logic.{by-cases, ⊎-elim}
+use mathlib.Core.List.{List}
+use native.Mathlib.Nat.{not-suc-le-zero}
+use native.Mathlib.Decide.{decLt, ℕ-discrete}
+use native.Mathlib.Omega.{arith}
+use lib.Dec.{eqb, ltb}
+use borrow.Author.Tests.{lt-ltb, le-ltb, eq-eqb, ne-eqb, eqb-true}
+use Rattle.laws.specs.Below.{anyBelow}
+use Rattle.laws.proofs.Logic.{fails}
+use Rattle.laws.proofs.Below.{Found, any-intro, any-elim}
+use Rattle.laws.proofs.Fill.{getD-tabulate}
+use Rattle.merge.specs.Merge.{at, maker, headNumber, leastHead, isHead, cardPast, allPast, CardRises, Rises, cardAhead, ahead, NextOf, CardPassed, Passed}
+use Rattle.merge.proofs.Next.{next-least}
+use Rattle.merge.proofs.Heads.{past-head, past-other, past-end}
+
+-- ---- one card
+module _ {f : ℕ → ℕ} {from end : ℕ} (r : CardRises f from end) where
+  -- a later state has a greater number
+  pub greater : (x d : ℕ) → from < x → suc (x + d) ≤ end → f x < f (suc (x + d))
+  greater x zero h l =
+      let e : x + 0 ≡ x = omega arith in
+      rw e (r .next x h (omega arith))
+  greater x (suc d) h l =
+      let e : x + suc d ≡ suc (x + d) = omega arith in
+      let a : f x < f (suc (x + d)) = greater x d h (omega arith) in
+      let b : f (suc (x + d)) < f (suc (suc (x + d))) = r .next (suc (x + d)) (omega arith) (omega arith) in
+      rw e (omega arith)
+
+  pub rising : (x y : ℕ) → from < x → x < y → y ≤ end → f x < f y
+  rising x y h l u =
+      let e : y ≡ suc (x + (y - suc x)) = omega arith in
+      rw e (greater x (y - suc x) h (omega arith))
+
+  -- none is passed yet
+  pub card-start : CardPassed f from end from 0
+  card-start = record { begun = omega arith; behind = λ x h l. absurd (omega arith); before = r .some }
+
+  module _ {passed k : ℕ} (w : CardPassed f from end passed k) where
+    -- no state ahead has a lesser number than the head
+    head-least : (x : ℕ) → passed < x → x ≤ end → f (suc passed) ≤ f x
+    head-least x h l =
+        by-cases (ℕ-discrete x (suc passed)) (λ (e : x ≡ suc passed). let q : f x ≡ f (suc passed) = ap f e in omega arith)
+        (λ (n : ¬ (x ≡ suc passed)).
+        let b : from ≤ passed = w .begun in
+        let g : f (suc passed) < f x = rising (suc passed) x (omega arith) (omega (arith, n)) l in
+        omega arith)
+
+    -- the state that has a number which no head is below is the head
+    pub head-is : (x n : ℕ) → from < x → x ≤ end → f x ≡ n → k < n → (passed < end → n ≤ f (suc passed)) → x ≡ suc passed
+    head-is x n h l e g low =
+        by-cases (decLt passed x)
+        (λ (p : passed < x).
+        by-cases (ℕ-discrete x (suc passed)) (λ (q : x ≡ suc passed). q)
+        (λ (q : ¬ (x ≡ suc passed)).
+        let b : from ≤ passed = w .begun in
+        let a : n ≤ f (suc passed) = low (omega arith) in
+        let z : f (suc passed) < f x = rising (suc passed) x (omega arith) (omega (arith, q)) l in
+        absurd (omega arith)))
+        (λ (p : ¬ (passed < x)). let a : f x ≤ k = w .behind x h (omega (arith, p)) in absurd (omega arith))
+
+    card-next : NextOf (cardAhead f from end) k (headNumber f passed end)
+    card-next = by-cases (decLt passed end) there none-left
+      where
+        there : passed < end → NextOf (cardAhead f from end) k (headNumber f passed end)
+        there h =
+            let b : from ≤ passed = w .begun in
+            let g : k < f (suc passed) = w .before (suc passed) (omega arith) (omega arith) in
+            let e : headNumber f passed end ≡ f (suc passed) = ap (λ (t : Bool). cond t (f (suc passed)) 0) (lt-ltb passed end h) in
+            let s : suc (from + (passed - from)) ≡ suc passed = omega arith in
+            subst (λ (v : ℕ). NextOf (cardAhead f from end) k v) (sym e)
+            (record {
+              none = λ (z : f (suc passed) ≡ 0) j l. absurd (omega arith);
+              above = λ z. g;
+              passes = λ z. any-intro (end - from) (λ s. eqb (f (suc (from + s))) (f (suc passed))) (passed - from) (omega arith) (eq-eqb (f (suc (from + (passed - from)))) (f (suc passed)) (ap f s));
+              least = λ j l u. fails (cardAhead f from end j) (λ (t : cardAhead f from end j ≡ true). lower j l u (any-elim (end - from) (λ s. eqb (f (suc (from + s))) j) t));
+            })
+          where
+            lower : (j : ℕ) → k < j → j < f (suc passed) → Found (end - from) (λ s. eqb (f (suc (from + s))) j) → ⊥
+            lower j l u q =
+                let x : ℕ = suc (from + q .0) in
+                let i : q .0 < end - from = q .1 in
+                let e : f (suc (from + q .0)) ≡ j = eqb-true (f (suc (from + q .0))) j (q .2) in
+                by-cases (decLt passed (suc (from + q .0)))
+                (λ (p : passed < suc (from + q .0)). let a : f (suc passed) ≤ f (suc (from + q .0)) = head-least (suc (from + q .0)) p (omega arith) in omega arith)
+                (λ (p : ¬ (passed < suc (from + q .0))). let a : f (suc (from + q .0)) ≤ k = w .behind (suc (from + q .0)) (omega arith) (omega (arith, p)) in omega arith)
+
+        none-left : ¬ (passed < end) → NextOf (cardAhead f from end) k (headNumber f passed end)
+        none-left h =
+            let e : headNumber f passed end ≡ 0 = ap (λ (t : Bool). cond t (f (suc passed)) 0) (le-ltb passed end (omega (arith, h))) in
+            subst (λ (v : ℕ). NextOf (cardAhead f from end) k v) (sym e)
+            (record {
+              none = λ z j l. fails (cardAhead f from end j) (λ (t : cardAhead f from end j ≡ true). all-behind j l (any-elim (end - from) (λ s. eqb (f (suc (from + s))) j) t));
+              above = λ z. absurd (z refl);
+              passes = λ z. absurd (z refl);
+              least = λ j l u. absurd (omega arith);
+            })
+          where
+            all-behind : (j : ℕ) → k < j → Found (end - from) (λ s. eqb (f (suc (from + s))) j) → ⊥
+            all-behind j l q =
+                let i : q .0 < end - from = q .1 in
+                let e : f (suc (from + q .0)) ≡ j = eqb-true (f (suc (from + q .0))) j (q .2) in
+                let a : f (suc (from + q .0)) ≤ k = w .behind (suc (from + q .0)) (omega arith) (omega (arith, h)) in
+                omega arith
+
+    -- a number above k that no head is below is passed
+    card-past : (n : ℕ) → k < n → (passed < end → n ≤ f (suc passed)) → CardPassed f from end (cardPast f passed end n) n
+    card-past n g low = by-cases (decLt passed end) (λ (h : passed < end). by-cases (ℕ-discrete (f (suc passed)) n) (moved h) (stays h)) ended
+      where
+        P : ℕ → Type 0
+        P x = CardPassed f from end x n
+
+        one : passed + 1 ≡ suc passed
+        one = omega arith
+
+        moved : passed < end → f (suc passed) ≡ n → P (cardPast f passed end n)
+        moved h e =
+            subst P (sym one ∙ past-head f passed end n h (ap f one ∙ e))
+            (record {
+              begun = let b : from ≤ passed = w .begun in omega arith;
+              behind = λ x a l. by-cases (ℕ-discrete x (suc passed)) (λ (q : x ≡ suc passed). let z : f x ≡ f (suc passed) = ap f q in omega arith)
+                  (λ (q : ¬ (x ≡ suc passed)). let z : f x ≤ k = w .behind x a (omega (arith, q)) in omega arith);
+              before = λ x a l. let b : from ≤ passed = w .begun in let z : f (suc passed) < f x = rising (suc passed) x (omega arith) a l in omega arith;
+            })
+
+        stays : passed < end → ¬ (f (suc passed) ≡ n) → P (cardPast f passed end n)
+        stays h e =
+            subst P (past-other f passed end n h (λ (z : f (passed + 1) ≡ n). e (ap f (sym one) ∙ z)))
+            (record {
+              begun = w .begun;
+              behind = λ x a l. let z : f x ≤ k = w .behind x a l in omega arith;
+              before = λ x a l. let z : f (suc passed) ≤ f x = head-least x a l in let y : n ≤ f (suc passed) = low h in omega (arith, e);
+            })
+
+        ended : ¬ (passed < end) → P (cardPast f passed end n)
+        ended h =
+            subst P (past-end f passed end n (omega (arith, h)))
+            (record {
+              begun = w .begun;
+              behind = λ x a l. let z : f x ≤ k = w .behind x a l in omega arith;
+              before = λ x a l. absurd (omega (arith, h));
+            })
+
+-- ---- all cards
+module _ {makers from ends : List ℕ} (r : Rises makers from ends) where
+  -- no number is passed yet
+  pub walk-start : Passed makers from ends from 0
+  walk-start = record { card = λ c h. card-start (r .card c h) }
+
+  -- the least number at the heads is the least of all above those passed
+  pub walk-next : {passed : List ℕ} {k : ℕ} → Passed makers from ends passed k → NextOf (ahead makers from ends) k (leastHead makers passed ends)
+  walk-next {passed} {k} w =
+      next-least 16 (λ c. cardAhead (maker makers c) (at from c) (at ends c)) (λ c. headNumber (maker makers c) (at passed c) (at ends c)) k (λ c h. card-next (r .card c h) (w .card c h))
+
+  -- a number that no head is below is passed next
+  pub walk-past : {passed : List ℕ} {k : ℕ} (n : ℕ) → Passed makers from ends passed k → k < n
+      → ((c : ℕ) → c < 16 → at passed c < at ends c → n ≤ maker makers c (suc (at passed c)))
+      → Passed makers from ends (allPast makers passed ends n) n
+  walk-past {passed} {k} n w g low =
+      record {
+        card = λ c h.
+            subst (λ (x : ℕ). CardPassed (maker makers c) (at from c) (at ends c) x n)
+            (sym (getD-tabulate 16 (λ c. cardPast (maker makers c) (at passed c) (at ends c) n) 0 c h))
+            (card-past (r .card c h) (w .card c h) n g (low c h));
+      }

@@ -1,0 +1,84 @@
+-- `merge::past` brings each card past a number. The invariant: those passed are brought. Assumes nothing.
+use Prim.Native.Nat.{_-_}
+use mathlib.Core.Path.{refl}
+use Rattle.laws.proofs.Fill.{FilledSoFar, filled-none, filled-more, filled-done}
+use Rattle.merge.specs.Merge.{at, maker, cardPast}
+use borrow.Author.Needs.{needs}
+use Rattle.merge.proofs.past.Statement.{statement}
+use Rattle.merge.proofs.past.Tie as tie
+use Rattle.merge.proofs.past.Reads as reads
+use Rattle.merge.proofs.past.Lts as lts
+use Rattle.merge.proofs.card_past.Reads as card-past-reads
+
+abbrev Inv-loop : tie.InvT-loop
+Inv-loop makers k passed ends out₀ c₀ out c = FilledSoFar 0 16 (λ i. cardPast (maker makers i) (at passed i) (at ends i) k) out c
+
+abbrev μ-loop : tie.MeasureT-loop
+μ-loop makers k passed ends out₀ c₀ out c = 16 - c
+
+-- src/lib.rt:64:5
+loop-holds : tie.Need-loop-holds Inv-loop μ-loop
+loop-holds c = filled-none refl
+
+-- src/lib.rt:65:38
+mul-card-past : tie.Need-mul-card-past Inv-loop μ-loop
+mul-card-past c = search needs
+
+-- src/lib.rt:65:38
+array-read-card-past : tie.Need-array-read-card-past Inv-loop μ-loop
+array-read-card-past c = search needs
+
+-- src/lib.rt:65:49
+mul-card-past-2 : tie.Need-mul-card-past-2 Inv-loop μ-loop
+mul-card-past-2 c = search needs
+
+-- src/lib.rt:65:49
+array-read-card-past-2 : tie.Need-array-read-card-past-2 Inv-loop μ-loop
+array-read-card-past-2 c = search needs
+
+-- src/lib.rt:65:13
+card-past-requires : tie.Need-card-past-requires Inv-loop μ-loop
+card-past-requires c κs = search needs
+
+-- src/lib.rt:66:9
+mul-out : tie.Need-mul-out Inv-loop μ-loop
+mul-out c = search needs
+
+-- src/lib.rt:66:9
+array-write-out : tie.Need-array-write-out Inv-loop μ-loop
+array-write-out c = search needs
+
+-- src/lib.rt:67:9
+add-c : tie.Need-add-c Inv-loop μ-loop
+add-c c = search needs
+
+-- src/lib.rt:64:5
+loop-less : tie.Need-loop-less Inv-loop μ-loop
+loop-less c = search needs
+
+-- src/lib.rt:64:5
+loop-again : tie.Need-loop-again Inv-loop μ-loop
+loop-again c = filled-more (c .before .before .loop .inv) (c .before .loop-test .taken) (c .card-past .ensures)
+
+-- src/lib.rt:59:1
+returns : tie.Need-returns Inv-loop μ-loop
+returns c = filled-done (c .before .loop .inv) (c .loop-test .left) refl
+
+pub past-spec : {M : Type 1} → statement M
+past-spec =
+    tie.close
+    (tie.spec
+    Inv-loop
+    μ-loop
+    loop-holds
+    mul-card-past
+    array-read-card-past
+    mul-card-past-2
+    array-read-card-past-2
+    card-past-requires
+    mul-out
+    array-write-out
+    add-c
+    loop-less
+    loop-again
+    returns)
