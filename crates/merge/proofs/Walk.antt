@@ -2,16 +2,16 @@
 -- brought past it, exactly the numbers above it are ahead. So it meets each number once, rising. Assumes nothing.
 use Prim.Native.Nat.{ℕ, zero, suc, _+_, _-_, _≤_, _<_}
 use mathlib.Core.Path.{_≡_, refl, sym, _∙_, ap, subst}
-use mathlib.Core.Bool.{Bool, true, false, cond}
+use mathlib.Core.Bool.{Bool, true, false, _&&_, cond}
 use mathlib.Core.Logic.{by-cases, ⊎-elim}
 use mathlib.Core.List.{List}
 use native.Mathlib.Nat.{not-suc-le-zero}
 use native.Mathlib.Decide.{decLt, ℕ-discrete}
 use native.Mathlib.Omega.{arith}
 use lib.Dec.{eqb, ltb}
-use borrow.Author.Tests.{lt-ltb, le-ltb, eq-eqb, ne-eqb, eqb-true}
+use borrow.Author.Tests.{lt-ltb, le-ltb, eq-eqb, ne-eqb, eqb-true, ltb-true}
 use Rattle.laws.specs.Below.{anyBelow}
-use Rattle.laws.proofs.Logic.{fails}
+use Rattle.laws.proofs.Logic.{fails, clash, same-test, and-intro, and-left, and-right}
 use Rattle.laws.proofs.Below.{Found, any-intro, any-elim}
 use Rattle.laws.proofs.Fill.{getD-tabulate}
 use Rattle.merge.specs.Merge.{at, maker, headNumber, leastHead, isHead, cardPast, allPast, CardRises, Rises, cardAhead, ahead, NextOf, CardPassed, Passed}
@@ -156,14 +156,70 @@ module _ {makers from ends : List ℕ} (r : Rises makers from ends) where
   walk-next {passed} {k} w =
       next-least 16 (λ c. cardAhead (maker makers c) (at from c) (at ends c)) (λ c. headNumber (maker makers c) (at passed c) (at ends c)) k (λ c h. card-next (r .card c h) (w .card c h))
 
-  -- a number that no head is below is passed next
-  pub walk-past : {passed : List ℕ} {k : ℕ} (n : ℕ) → Passed makers from ends passed k → k < n
-      → ((c : ℕ) → c < 16 → at passed c < at ends c → n ≤ maker makers c (suc (at passed c)))
-      → Passed makers from ends (allPast makers passed ends n) n
-  walk-past {passed} {k} n w g low =
-      record {
-        card = λ c h.
-            subst (λ (x : ℕ). CardPassed (maker makers c) (at from c) (at ends c) x n)
-            (sym (getD-tabulate 16 (λ c. cardPast (maker makers c) (at passed c) (at ends c) n) 0 c h))
-            (card-past (r .card c h) (w .card c h) n g (low c h));
-      }
+  module _ {passed : List ℕ} {k : ℕ} (w : Passed makers from ends passed k) (n : ℕ) (none : (j : ℕ) → k < j → j < n → ahead makers from ends j ≡ false) where
+    -- where no number ahead is below n, no head is
+    pub walk-low : (c : ℕ) → c < 16 → at passed c < at ends c → n ≤ maker makers c (suc (at passed c))
+    walk-low c h l =
+        by-cases (decLt (maker makers c (suc (at passed c))) n)
+        (λ (u : maker makers c (suc (at passed c)) < n). clash (seen (w .card c h)) (none (maker makers c (suc (at passed c))) (w .card c h .before (suc (at passed c)) (omega arith) (omega arith)) u))
+        (λ (u : ¬ (maker makers c (suc (at passed c)) < n)). omega (arith, u))
+      where
+        seen : CardPassed (maker makers c) (at from c) (at ends c) (at passed c) k → ahead makers from ends (maker makers c (suc (at passed c))) ≡ true
+        seen v =
+            let b : at from c ≤ at passed c = v .begun in
+            let s : suc (at from c + (at passed c - at from c)) ≡ suc (at passed c) = omega arith in
+            any-intro 16 (λ i. cardAhead (maker makers i) (at from i) (at ends i) (maker makers c (suc (at passed c)))) c h
+            (any-intro (at ends c - at from c) (λ s. eqb (maker makers c (suc (at from c + s))) (maker makers c (suc (at passed c)))) (at passed c - at from c) (omega arith)
+            (eq-eqb (maker makers c (suc (at from c + (at passed c - at from c)))) (maker makers c (suc (at passed c))) (ap (maker makers c) s)))
+
+    -- and the cards brought past n have passed the numbers up to it
+    pub walk-past : k < n → Passed makers from ends (allPast makers passed ends n) n
+    walk-past g =
+        record {
+          card = λ c h.
+              subst (λ (x : ℕ). CardPassed (maker makers c) (at from c) (at ends c) x n)
+              (sym (getD-tabulate 16 (λ c. cardPast (maker makers c) (at passed c) (at ends c) n) 0 c h))
+              (card-past (r .card c h) (w .card c h) n g (walk-low c h));
+        }
+
+  -- exactly the numbers above those passed are ahead
+  pub walk-ahead : {passed : List ℕ} {k : ℕ} → Passed makers from ends passed k → (j : ℕ) → ahead makers passed ends j ≡ ltb k j && ahead makers from ends j
+  walk-ahead {passed} {k} w j = same-test (ahead makers passed ends j) (ltb k j && ahead makers from ends j) forth back
+    where
+      forth : ahead makers passed ends j ≡ true → ltb k j && ahead makers from ends j ≡ true
+      forth t = card (any-elim 16 (λ c. cardAhead (maker makers c) (at passed c) (at ends c) j) t)
+        where
+          card : Found 16 (λ c. cardAhead (maker makers c) (at passed c) (at ends c) j) → ltb k j && ahead makers from ends j ≡ true
+          card q = state (q .0) (q .1) (w .card (q .0) (q .1)) (any-elim (at ends (q .0) - at passed (q .0)) (λ s. eqb (maker makers (q .0) (suc (at passed (q .0) + s))) j) (q .2))
+            where
+              state : (c : ℕ) → c < 16 → CardPassed (maker makers c) (at from c) (at ends c) (at passed c) k → Found (at ends c - at passed c) (λ s. eqb (maker makers c (suc (at passed c + s))) j) → ltb k j && ahead makers from ends j ≡ true
+              state c h v s =
+                  let i : s .0 < at ends c - at passed c = s .1 in
+                  let b : at from c ≤ at passed c = v .begun in
+                  let e : maker makers c (suc (at passed c + s .0)) ≡ j = eqb-true (maker makers c (suc (at passed c + s .0))) j (s .2) in
+                  let g : k < maker makers c (suc (at passed c + s .0)) = v .before (suc (at passed c + s .0)) (omega arith) (omega arith) in
+                  let x : suc (at from c + (at passed c + s .0 - at from c)) ≡ suc (at passed c + s .0) = omega arith in
+                  and-intro (lt-ltb k j (omega arith))
+                  (any-intro 16 (λ i. cardAhead (maker makers i) (at from i) (at ends i) j) c h
+                  (any-intro (at ends c - at from c) (λ s. eqb (maker makers c (suc (at from c + s))) j) (at passed c + s .0 - at from c) (omega arith)
+                  (eq-eqb (maker makers c (suc (at from c + (at passed c + s .0 - at from c)))) j (ap (maker makers c) x ∙ e))))
+
+      back : ltb k j && ahead makers from ends j ≡ true → ahead makers passed ends j ≡ true
+      back t = card (ltb-true k j (and-left (ltb k j) (ahead makers from ends j) t)) (any-elim 16 (λ c. cardAhead (maker makers c) (at from c) (at ends c) j) (and-right (ltb k j) (ahead makers from ends j) t))
+        where
+          card : k < j → Found 16 (λ c. cardAhead (maker makers c) (at from c) (at ends c) j) → ahead makers passed ends j ≡ true
+          card g q = state (q .0) (q .1) (w .card (q .0) (q .1)) (any-elim (at ends (q .0) - at from (q .0)) (λ s. eqb (maker makers (q .0) (suc (at from (q .0) + s))) j) (q .2))
+            where
+              state : (c : ℕ) → c < 16 → CardPassed (maker makers c) (at from c) (at ends c) (at passed c) k → Found (at ends c - at from c) (λ s. eqb (maker makers c (suc (at from c + s))) j) → ahead makers passed ends j ≡ true
+              state c h v s =
+                  let i : s .0 < at ends c - at from c = s .1 in
+                  let e : maker makers c (suc (at from c + s .0)) ≡ j = eqb-true (maker makers c (suc (at from c + s .0))) j (s .2) in
+                  by-cases (decLt (at passed c) (suc (at from c + s .0)))
+                  (λ (l : at passed c < suc (at from c + s .0)).
+                  let x : suc (at passed c + (at from c + s .0 - at passed c)) ≡ suc (at from c + s .0) = omega arith in
+                  any-intro 16 (λ i. cardAhead (maker makers i) (at passed i) (at ends i) j) c h
+                  (any-intro (at ends c - at passed c) (λ s. eqb (maker makers c (suc (at passed c + s))) j) (at from c + s .0 - at passed c) (omega arith)
+                  (eq-eqb (maker makers c (suc (at passed c + (at from c + s .0 - at passed c)))) j (ap (maker makers c) x ∙ e))))
+                  (λ (l : ¬ (at passed c < suc (at from c + s .0))).
+                  let y : maker makers c (suc (at from c + s .0)) ≤ k = v .behind (suc (at from c + s .0)) (omega arith) (omega (arith, l)) in
+                  absurd (omega arith))
