@@ -1,4 +1,5 @@
 pub mod Known
+pub mod Rising
 pub mod Call
 pub mod Share
 pub mod Laws

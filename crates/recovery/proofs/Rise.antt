@@ -9,13 +9,14 @@ use native.Mathlib.Decide.{decLt, ℕ-discrete}
 use native.Mathlib.Numerals.{add-one}
 use native.Mathlib.Omega.{arith}
 use lib.ListN.{length, set, length-append}
-use lib.Seq.{sets, length-sets}
+use lib.Seq.{sets}
 use lib.Dec.{eqb, leb, ltb}
 use borrow.Author.Tests.{lt-ltb, le-ltb, eq-eqb, ne-eqb}
 use Rattle.laws.specs.Below.{anyBelow, selected, occurs, one-if}
 use Rattle.laws.proofs.Below.{occurs-append}
 use Rattle.laws.proofs.Fill.{sets-snoc}
-use Rattle.recovery.specs.Lost.{NextOf, Rising, Counted, Written}
+use Rattle.merge.specs.Merge.{NextOf}
+use Rattle.recovery.specs.Lost.{Rising, Counted, Written}
 
 -- the numbers below n that pass
 abbrev pub those : (ℕ → Bool) → ℕ → List ℕ
@@ -82,28 +83,27 @@ rising-once {p} {xs} r k = ap (occurs k) (r .so) ∙ occurs-those p k (suc (r .t
 pub record FoundSoFar (p : ℕ → Bool) (n k x : ℕ) : Type 0 where
   pub next : NextOf p k x
   pub count : n ≡ length (those p (suc k))
-  pub few : n ≤ k
-  pub fits : x < 4294967296
 
 those-first : (p : ℕ → Bool) → p 0 ≡ false → those p (suc 0) ≡ []
 those-first p e = let one : List ℕ = 0 ∷ [] in ap (λ (b : Bool). cond b one []) e
 
-pub found-none : {p : ℕ → Bool} {x : ℕ} → p 0 ≡ false → NextOf p 0 x → x < 4294967296 → FoundSoFar p 0 0 x
-found-none {p} {x} e r f = record { next = r; count = ap length (sym (those-first p e)); few = zero-le; fits = f }
+pub found-none : {p : ℕ → Bool} {x : ℕ} → p 0 ≡ false → NextOf p 0 x → FoundSoFar p 0 0 x
+found-none {p} {x} e r = record { next = r; count = ap length (sym (those-first p e)) }
 
-pub found-more : {p : ℕ → Bool} {n k x y : ℕ} → FoundSoFar p n k x → (x ≡ 0 → ⊥) → NextOf p x y → y < 4294967296 → FoundSoFar p (n + 1) x y
-found-more {p} {n} {k} {x} {y} s h r f =
+pub found-more : {p : ℕ → Bool} {n k x y : ℕ} → FoundSoFar p n k x → (x ≡ 0 → ⊥) → NextOf p x y → FoundSoFar p (n + 1) x y
+found-more {p} {n} {k} {x} {y} s h r =
     record {
       next = r;
       count = ap (λ (i : ℕ). i + 1) (s .count) ∙ sym (length-append (those p (suc k)) (x ∷ [])) ∙ ap length (sym (step p k x (s .next) h));
-      few = let a : k < x = s .next .above h in let l : n ≤ k = s .few in omega arith;
-      fits = f;
     }
 
-pub found-rising : {p : ℕ → Bool} {n k x : ℕ} → FoundSoFar p n k x → x ≡ 0 → Rising p (those p (suc k))
-found-rising {p} {n} {k} {x} s e = record { top = k; so = refl; end = s .next .none e }
+pub found-rising : {p : ℕ → Bool} {n k x : ℕ} → FoundSoFar p n k x → x ≤ k → Rising p (those p (suc k))
+found-rising {p} {n} {k} {x} s e = record { top = k; so = refl; end = s .next .none (no-next (s .next .above)) }
+  where
+    no-next : ((x ≡ 0 → ⊥) → k < x) → x ≡ 0
+    no-next a = by-cases (ℕ-discrete x 0) (λ (z : x ≡ 0). z) (λ (z : ¬ (x ≡ 0)). let l : k < x = a z in absurd (omega arith))
 
-pub found-done : {p : ℕ → Bool} {n k x : ℕ} → FoundSoFar p n k x → x ≡ 0 → Counted p n
+pub found-done : {p : ℕ → Bool} {n k x : ℕ} → FoundSoFar p n k x → x ≤ k → Counted p n
 found-done {p} {n} {k} {x} s e = record { list = those p (suc k); rising = found-rising s e; count = s .count }
 
 -- ---- and they stand at the beginning of a list
@@ -111,18 +111,15 @@ pub record StoredSoFar (p : ℕ → Bool) (before now : List ℕ) (n k x : ℕ) 
   pub found : FoundSoFar p n k x
   pub so : now ≡ sets before 0 (those p (suc k))
 
-pub stored-none : {p : ℕ → Bool} {before : List ℕ} {x : ℕ} → p 0 ≡ false → NextOf p 0 x → x < 4294967296 → StoredSoFar p before before 0 0 x
-stored-none {p} {before} {x} e r f = record { found = found-none e r f; so = ap (sets before 0) (sym (those-first p e)) }
+pub stored-none : {p : ℕ → Bool} {before : List ℕ} {x : ℕ} → p 0 ≡ false → NextOf p 0 x → StoredSoFar p before before 0 0 x
+stored-none {p} {before} {x} e r = record { found = found-none e r; so = ap (sets before 0) (sym (those-first p e)) }
 
-pub stored-more : {p : ℕ → Bool} {before now later : List ℕ} {n k x y : ℕ} → StoredSoFar p before now n k x → (x ≡ 0 → ⊥) → later ≡ set now n x → NextOf p x y → y < 4294967296 → StoredSoFar p before later (n + 1) x y
-stored-more {p} {before} {now} {later} {n} {k} {x} {y} s h e r f =
+pub stored-more : {p : ℕ → Bool} {before now later : List ℕ} {n k x y : ℕ} → StoredSoFar p before now n k x → (x ≡ 0 → ⊥) → later ≡ set now n x → NextOf p x y → StoredSoFar p before later (n + 1) x y
+stored-more {p} {before} {now} {later} {n} {k} {x} {y} s h e r =
     record {
-      found = found-more (s .found) h r f;
+      found = found-more (s .found) h r;
       so = e ∙ ap₂ (λ (l : List ℕ) (i : ℕ). set l i x) (s .so) (s .found .count ∙ (let z : length (those p (suc k)) ≡ 0 + length (those p (suc k)) = omega arith in z)) ∙ sym (sets-snoc (those p (suc k)) before 0 x) ∙ ap (sets before 0) (sym (step p k x (s .found .next) h));
     }
 
-pub stored-long : {p : ℕ → Bool} {before now : List ℕ} {n k x : ℕ} → StoredSoFar p before now n k x → length now ≡ length before
-stored-long {p} {before} {now} {n} {k} {x} s = ap length (s .so) ∙ length-sets before 0 (those p (suc k))
-
-pub stored-done : {p : ℕ → Bool} {before now : List ℕ} {n k x : ℕ} → StoredSoFar p before now n k x → x ≡ 0 → Written p before now
+pub stored-done : {p : ℕ → Bool} {before now : List ℕ} {n k x : ℕ} → StoredSoFar p before now n k x → x ≤ k → Written p before now
 stored-done {p} {before} {now} {n} {k} {x} s e = record { list = those p (suc k); rising = found-rising (s .found) e; stored = s .so }

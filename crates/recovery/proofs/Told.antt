@@ -15,9 +15,9 @@ use Rattle.laws.proofs.Below.{any-elim, Found, greatest-above, any-same, count-
 use Rattle.bits.specs.Member.{member}
 use Rattle.bits.specs.Sets.{below, cut}
 use Rattle.refusal.specs.declared.Refusal.{Refusal}
-use Rattle.refusal.specs.declared.Refusal.the-variants.{TooShort}
+use Rattle.refusal.specs.declared.Refusal.the-variants.{BadCabinet, TooShort}
 use Rattle.history.specs.Line.{climb}
-use Rattle.protocol.specs.Model.{Model}
+use Rattle.protocol.specs.Model.{Model, isCard}
 use Rattle.protocol.specs.Edit.{Edit, fix}
 use Rattle.protocol.specs.Plan.{CardRow, Answer, fixed, Check, _⇒_, Plan, checked, accepted, refused}
 use Rattle.protocol.specs.Plan as plan
@@ -32,7 +32,8 @@ use Rattle.verdicts.proofs.Held.{at-list}
 use Rattle.verdicts.proofs.Checks.{done-plan, refused-plan}
 use Rattle.recovery.specs.declared.FixReply.{FixReply}
 use Rattle.recovery.specs.declared.FixReply.the-variants.{Fixed, NotFixed}
-use Rattle.recovery.specs.Lost.{Rising, Counted, Written, framedBy, endedBy, lostBy}
+use Rattle.merge.specs.Merge.{maker, CardRises, Rises}
+use Rattle.recovery.specs.Lost.{Rising, Counted, Written, endsOf, framedBy, endedBy, lostBy}
 use Rattle.recovery.specs.Fix.{rowsOf, fixReplyOf, listAfter, linesAfter, butLast, FixTold, fixPlanFor}
 use Rattle.recovery.proofs.Rise.{those, rising-once, rising-one}
 
@@ -81,6 +82,15 @@ rows-count all n e =
 climb-from : (f : ℕ → Bool) (base k : ℕ) → base ≤ climb f base k
 climb-from f base zero = omega arith
 climb-from f base (suc k) = let r : suc base ≤ climb f (suc base) k = climb-from f (suc base) k in cond-case (λ (x : ℕ). base ≤ x) (f (suc base)) (λ e. let l : base ≤ base = omega arith in l) (λ e. omega arith)
+
+-- the numbers that rise from one state on rise from a later one on
+rises-later : {makers from ends : List ℕ} (later : List ℕ) → Rises makers from ends → ((c : ℕ) → c < 16 → at from c ≤ at later c) → Rises makers later ends
+rises-later {makers} {from} {ends} later r l = record { card = each }
+  where
+    each : (c : ℕ) → c < 16 → CardRises (maker makers c) (at later c) (at ends c)
+    each c h =
+        let b : at from c ≤ at later c = l c h in
+        record { some = λ x a u. r .card c h .some x (omega arith) u; next = λ x a u. r .card c h .next x (omega arith) u }
 
 -- ---- the last check
 last-check : (cs : List Check) (b : Bool) (r : Refusal) → firstFailing (cs ++ (b ⇒ r ∷ [])) ≡ next (firstFailing cs) b r
@@ -137,6 +147,11 @@ module _ (entries makers base stored reached ended : List ℕ) (h : Head) where
       ap₂ (λ (a b : Bool). not (eqb k 0) && (a || b))
       (any-same 16 (λ c. ltb c (h .cards) && framedBy makers c (at foundLine c) (at reached c) k) (λ c. ltb c (h .cards) && frameAbove found k c (lineOf limits16 found c)) (card-same k) ∙ ap (λ (w : ℕ). anyBelow w (λ c. ltb c (h .cards) && frameAbove found k c (lineOf limits16 found c))) (sym width16))
       (ap (λ (w : ℕ). anyBelow w (λ p. eqb (at ended p) k)) (sym places8))
+
+  line-above : (c : ℕ) → c < 16 → at base c ≤ at foundLine c
+  line-above c l =
+      subst (λ (x : ℕ). at base c ≤ x) (sym (at-list (lines limits16 found) c l))
+      (cond-case (λ (x : ℕ). at base c ≤ x) (isCard limits16 found c) (λ e. climb-from _ (at base c) (at reached c - at base c)) (λ e. let s : at base c ≤ at base c = omega arith in s))
 
   once-of : {xs : List ℕ} → Rising (lostBy makers foundLine reached ended (h .cards)) xs → (k : ℕ) → occurs k xs ≡ one-if (isLost limits16 found k)
   once-of r k = rising-once r k ∙ ap one-if (lost-same k)
@@ -197,8 +212,16 @@ module _ (entries makers base stored reached ended : List ℕ) (h : Head) where
           arrays = sym (ap (λ (x : Plan). linesAfter (x .reply) found) p);
         }
 
+    -- a cabinet that the checks let pass was found to pass 28
+    whole-known : firstFailing (butLast (after28 (not whole) (fixChecks limits16 found cp 0 []))) ≡ Done → whole ≡ true
+    whole-known e = test whole (λ w. w) (λ w. let z : Refused BadCabinet ≡ Done = rw w at e in let y : _≡_ {A = ℕ} 0 1 = cc in absurd (omega arith))
+
     -- ---- as the code has them: the lines that it worked out, the count and the list that it wrote
     module _ (line : List ℕ) (el : line ≡ foundLine) (z : List ℕ) (ez : z ≡ listOf (λ c. 0)) where
+      -- where the numbers of a cabinet that passes 28 rise, those above the line do
+      pub line-rises : (whole ≡ true → Rises makers base (endsOf reached (h .cards))) → firstFailing (butLast (after28 (not whole) (fixChecks limits16 found cp 0 []))) ≡ Done → Rises makers line (endsOf reached (h .cards))
+      line-rises r e = subst (λ (l : List ℕ). Rises makers l (endsOf reached (h .cards))) (sym el) (rises-later foundLine (r (whole-known e)) line-above)
+
       pub early-told : (q : Refusal) → firstFailing (butLast (after28 (not whole) (fixChecks limits16 found cp 0 []))) ≡ Refused q → FixTold found thePlan (h .cards) stored z before before (NotFixed q)
       early-told q e = subst (λ (l : List ℕ). FixTold found thePlan (h .cards) stored l before before (NotFixed q)) (sym ez) (told-early q e)
 

@@ -1,4 +1,4 @@
--- The changes lost, found one after the other.
+-- The changes lost, met one after the other by a merge.
 use Prim.Native.Nat.{ℕ, suc, _+_, _-_, _<_}
 use mathlib.Core.Path.{_≡_}
 use mathlib.Core.Bool.{Bool, true, false, not, _&&_, _||_, cond}
@@ -6,15 +6,9 @@ use mathlib.Core.List.{List}
 use lib.Dec.{eqb, ltb}
 use lib.ListN.{length}
 use lib.Seq.{sets}
-use Rattle.laws.specs.Below.{anyBelow, selected}
+use Rattle.laws.specs.Below.{anyBelow, tabulate, selected}
+use Rattle.merge.specs.Merge.{lesser, leastBelow, leastHead}
 use Rattle.verdicts.specs.Shape.{at, ringMaker}
-
--- r is the least number above k that passes the test, and 0 where there is none
-pub record NextOf (p : ℕ → Bool) (k r : ℕ) : Type 0 where
-  pub none : r ≡ 0 → (j : ℕ) → k < j → p j ≡ false
-  pub above : (r ≡ 0 → ⊥) → k < r
-  pub passes : (r ≡ 0 → ⊥) → p r ≡ true
-  pub least : (j : ℕ) → k < j → j < r → p j ≡ false
 
 -- the numbers that pass the test, each once, in rising order
 pub record Rising (p : ℕ → Bool) (xs : List ℕ) : Type 0 where
@@ -34,13 +28,21 @@ pub record Written (p : ℕ → Bool) (before after : List ℕ) : Type 0 where
   pub rising : Rising p list
   pub stored : after ≡ sets before 0 list
 
--- the lesser of two numbers of which 0 is none
-abbrev pub lesser : ℕ → ℕ → ℕ
-lesser a b = cond (eqb a 0) b (cond (eqb b 0) a (cond (ltb a b) a b))
-
 -- a number above k, and 0 for another
 abbrev pub numberAbove : ℕ → ℕ → ℕ
 numberAbove x k = cond (ltb k x) x 0
+
+-- the least number above k in the list of the changes ended, and 0 where there is none
+abbrev pub leastEnded : (ended : List ℕ) → ℕ → ℕ
+leastEnded ended k = leastBelow 8 (λ p. numberAbove (at ended p) k)
+
+-- the last state of each card; a card that is not there has none
+abbrev pub endsOf : (reached : List ℕ) → (cards : ℕ) → List ℕ
+endsOf reached cards = tabulate 16 (λ c. cond (ltb c cards) (at reached c) 0)
+
+-- the number that comes next: the least at the heads of the cards or, above k, among the changes ended
+abbrev pub nextLost : (makers passed ends ended : List ℕ) → ℕ → ℕ
+nextLost makers passed ends ended k = lesser (leastHead makers passed ends) (leastEnded ended k)
 
 -- card c has a frame above the number x, up to reached, that change k made
 abbrev pub framedBy : (makers : List ℕ) → (c x reached k : ℕ) → Bool

@@ -1,7 +1,7 @@
 // The core of fix, over numbers and lent arrays.
 ghost use Prim.Native.Nat.{ℕ};
 ghost use mathlib.Core.Path.{_≡_};
-ghost use mathlib.Core.Bool.{not, _||_};
+ghost use mathlib.Core.Bool.{true, not, _||_};
 ghost use mathlib.Core.List.{[]};
 ghost use lib.Dec.{ltb};
 ghost use lib.ListN.{length};
@@ -9,6 +9,8 @@ ghost use Rattle.laws.specs.Below.{countBelow};
 ghost use Rattle.protocol.specs.Calls.{fixChecks};
 ghost use Rattle.verdicts.specs.Shape.{limits16, presentOf, headModel, modelOf};
 ghost use Rattle.verdicts.specs.Answers.{firstFailing, after28};
+ghost use Rattle.merge.specs.Merge.{Rises};
+ghost use Rattle.recovery.specs.Lost.{endsOf};
 ghost use Rattle.recovery.specs.Fix.{butLast, FixTold, fixPlanFor};
 use crate::FixReply;
 use crate::Outcome;
@@ -41,6 +43,7 @@ pub fn is_short(head: Head, places: usize, room: usize, lost: usize) -> bool
 }
 
 // 9. fix: the line of each card, and the numbers of the changes lost in the lent list; nothing where it is refused.
+// `sound` is what the check for 28 found; it lets no cabinet pass whose change numbers do not rise.
 pub fn fix<'a, 'b>(
     list: &'a mut [u32],
     entries: &'b [u32; 12288],
@@ -53,7 +56,7 @@ pub fn fix<'a, 'b>(
     ended: [u32; 8],
     places: usize,
 ) -> Outcome
-    ensures { λ r. ⌜ FixTold (modelOf (now (entries .entry)) (now (makers .entry)) [] [] [] base stored [] reached [] ended 0 head) (fixPlanFor sound (modelOf (now (entries .entry)) (now (makers .entry)) [] [] [] base stored [] reached [] ended 0 head) places (length (now (list .entry)))) (head .cards) stored (r .line) (now (list .entry)) (now (list .exit)) (r .reply) ⌝ }
+    ensures { λ r. ⌜ ((sound ≡ true → Rises (now (makers .entry)) base (endsOf reached (head .cards))) → FixTold (modelOf (now (entries .entry)) (now (makers .entry)) [] [] [] base stored [] reached [] ended 0 head) (fixPlanFor sound (modelOf (now (entries .entry)) (now (makers .entry)) [] [] [] base stored [] reached [] ended 0 head) places (length (now (list .entry)))) (head .cards) stored (r .line) (now (list .entry)) (now (list .exit)) (r .reply)) ⌝ }
 {
     let first = fix_reply(sound, head);
     match first {

@@ -1,20 +1,10 @@
 // The changes lost: one merge over the cards' frames above the line and the changes that a loss ended.
-ghost use Prim.Native.Nat.{ℕ, _-_, _<_};
+ghost use Prim.Native.Nat.{ℕ, _<_};
 ghost use mathlib.Core.Path.{_≡_};
-ghost use mathlib.Core.Bool.{_&&_};
+ghost use mathlib.Core.Bool.{cond};
 ghost use lib.ListN.{set};
-ghost use Rattle.recovery.specs.Lost.{NextOf, Counted, Written, lesser, numberAbove, framedBy, endedBy, lostBy};
-
-// The lesser of two numbers of which 0 is none.
-fn lesser(a: u32, b: u32) -> u32
-    ensures { λ r. ⌜ r ≡ lesser a b ⌝ }
-{
-    if a == 0 {
-        b
-    } else {
-        if b == 0 { a } else { if a < b { a } else { b } }
-    }
-}
+ghost use Rattle.merge.specs.Merge.{Rises};
+ghost use Rattle.recovery.specs.Lost.{Counted, Written, numberAbove, leastEnded, endsOf, nextLost, lostBy};
 
 // A number above k, and 0 for another.
 fn number_above(x: u32, k: u32) -> u32
@@ -23,81 +13,55 @@ fn number_above(x: u32, k: u32) -> u32
     if k < x { x } else { 0 }
 }
 
-// How many states are above the line.
-fn above_line(line: u32, reached: u32) -> u32
-    ensures { λ r. ⌜ r ≡ reached - line ⌝ }
-{
-    if line < reached { reached - line } else { 0 }
-}
-
 // The least number above k of the changes that a loss ended with a written share untaken, and 0 where there is none.
 fn next_ended(ended: [u32; 8], k: u32) -> u32
-    ensures { λ r. ⌜ NextOf (endedBy ended) k r ⌝ }
+    ensures { λ r. ⌜ r ≡ leastEnded ended k ⌝ }
 {
     let mut best: u32 = 0;
     let mut p: usize = 0;
     while p < 8 {
         let v = number_above(ended[p], k);
-        let b = lesser(best, v);
+        let b = merge::lesser(best, v);
         best = b;
         p += 1;
     }
     best
 }
 
-// The least number above k of the changes that made the states of card c above its line, and 0 where there is none.
-fn next_of_card(makers: &[u32; 768], c: usize, line: u32, reached: u32, k: u32) -> u32
-    requires { ⌜ c < 16 ⌝ }
-    ensures { λ r. ⌜ NextOf (framedBy (now (makers .entry)) c line reached) k r ⌝ }
+// The last state of a card that is there; of another, none.
+fn end_of(there: bool, reached: u32) -> u32
+    ensures { λ r. ⌜ r ≡ cond there reached 0 ⌝ }
 {
-    let n = above_line(line, reached);
-    let mut best: u32 = 0;
-    let mut s: u32 = 0;
-    while s < n {
-        let x = line + s + 1;
-        let place = c * 48 + (x % 48) as usize;
-        let v = number_above(makers[place], k);
-        let b = lesser(best, v);
-        best = b;
-        s += 1;
-    }
-    best
+    if there { reached } else { 0 }
 }
 
-// The same of a card that is there; of another, none.
-fn next_if(makers: &[u32; 768], there: bool, c: usize, line: u32, reached: u32, k: u32) -> u32
-    requires { ⌜ c < 16 ⌝ }
-    ensures { λ r. ⌜ NextOf (λ j. there && framedBy (now (makers .entry)) c line reached j) k r ⌝ }
+// The last state of each card.
+fn ends_of(reached: [u32; 16], cards: u32) -> [u32; 16]
+    ensures { λ r. ⌜ r ≡ endsOf reached cards ⌝ }
 {
-    if there {
-        next_of_card(makers, c, line, reached, k)
-    } else {
-        0
-    }
-}
-
-// The least number above k of the changes lost, and 0 where there is none.
-pub fn next_lost(
-    makers: &[u32; 768],
-    line: [u32; 16],
-    reached: [u32; 16],
-    ended: [u32; 8],
-    cards: u32,
-    k: u32,
-) -> u32
-    ensures { λ r. ⌜ NextOf (lostBy (now (makers .entry)) line reached ended cards) k r ⌝ }
-{
-    let mut best: u32 = 0;
+    let mut out = [0u32; 16];
     let mut c: usize = 0;
     while c < 16 {
-        let there = c < cards as usize;
-        let v = next_if(makers, there, c, line[c], reached[c], k);
-        let b = lesser(best, v);
-        best = b;
+        let x = end_of(c < cards as usize, reached[c]);
+        out[c] = x;
         c += 1;
     }
+    out
+}
+
+// The number of the change lost that comes next, where those up to k are met, and 0 where there is none.
+pub fn next_lost(
+    makers: &[u32; 768],
+    passed: [u32; 16],
+    ends: [u32; 16],
+    ended: [u32; 8],
+    k: u32,
+) -> u32
+    ensures { λ r. ⌜ r ≡ nextLost (now (makers .entry)) passed ends ended k ⌝ }
+{
+    let head = merge::least(makers, passed, ends);
     let e = next_ended(ended, k);
-    lesser(best, e)
+    merge::lesser(head, e)
 }
 
 // How many changes are lost.
@@ -108,18 +72,22 @@ pub fn count_lost(
     ended: [u32; 8],
     cards: u32,
 ) -> usize
-    ensures { λ r. ⌜ Counted (lostBy (now (makers .entry)) line reached ended cards) r ⌝ }
+    ensures { λ r. ⌜ (Rises (now (makers .entry)) line (endsOf reached cards) → Counted (lostBy (now (makers .entry)) line reached ended cards) r) ⌝ }
 {
-    let mut n: usize = 0;
+    let ends = ends_of(reached, cards);
+    let mut passed = line;
+    let mut count: usize = 0;
     let mut k: u32 = 0;
-    let mut x = next_lost(makers, line, reached, ended, cards, 0);
-    while x != 0 {
-        n += 1;
+    let mut x = next_lost(makers, passed, ends, ended, 0);
+    while k < x {
+        count += 1;
         k = x;
-        let y = next_lost(makers, line, reached, ended, cards, k);
+        let p = merge::past(makers, passed, ends, k);
+        passed = p;
+        let y = next_lost(makers, passed, ends, ended, k);
         x = y;
     }
-    n
+    count
 }
 
 // The number x at place n, where there is such a place.
@@ -140,16 +108,20 @@ pub fn write_lost<'a, 'b>(
     ended: [u32; 8],
     cards: u32,
 )
-    ensures { λ r. ⌜ Written (lostBy (now (makers .entry)) line reached ended cards) (now (list .entry)) (now (list .exit)) ⌝ }
+    ensures { λ r. ⌜ (Rises (now (makers .entry)) line (endsOf reached cards) → Written (lostBy (now (makers .entry)) line reached ended cards) (now (list .entry)) (now (list .exit))) ⌝ }
 {
+    let ends = ends_of(reached, cards);
+    let mut passed = line;
     let mut n: usize = 0;
     let mut k: u32 = 0;
-    let mut x = next_lost(makers, line, reached, ended, cards, 0);
-    while x != 0 {
+    let mut x = next_lost(makers, passed, ends, ended, 0);
+    while k < x {
         put(list, n, x);
         n += 1;
         k = x;
-        let y = next_lost(makers, line, reached, ended, cards, k);
+        let p = merge::past(makers, passed, ends, k);
+        passed = p;
+        let y = next_lost(makers, passed, ends, ended, k);
         x = y;
     }
 }

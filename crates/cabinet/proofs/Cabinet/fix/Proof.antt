@@ -1,3 +1,4 @@
+use Rattle.cabinet.proofs.Rising.{sound-rises}
 use Rattle.cabinet.proofs.Told.{fix-done, fix-refused, fixed-next}
 use Prim.Native.Nat.{ℕ, zero, suc, _+_, _*_, _-_, _/_, _%_, _^_, _≤_, _<_, max}
 use mathlib.Core.Path.{_≡_, refl, sym, _∙_, ap, ap₂}
@@ -44,7 +45,7 @@ same-length c = search needs
 
 -- src/recover.rt:67:5
 returns : tie.Need-returns
-returns c = let a : _ = c .before .before .before .before .before .before .before .before .before .before .before .before .before .before .before .before .before .before .before .before .before .before .before .before .before .before .args in fix-done (a .t1) (a .places) (a .list .now) (c .before .before .before .before .before .before .before .before .before .before .before .cabinet-sound .result) (c .before .before .before .before .before .before .before .before .before .before .before .cabinet-sound .ensures) (c .before .before .before .before .before .before .fix .result .line) _ (c .before .before .before .before .before .before .fix .result .reply) _ _ (c .before .before .before .before .before .before .fix .ensures) (c .before .enum-told .given .1) (fixed-next (a .t1) (c .before .before .before .before .before .before .fix .result .line))
+returns c = let a : _ = c .before .before .before .before .before .before .before .before .before .before .before .before .before .before .before .before .before .before .before .before .before .before .before .before .before .before .args in fix-done (a .t1) (a .places) (a .list .now) (c .before .before .before .before .before .before .before .before .before .before .before .cabinet-sound .result) (c .before .before .before .before .before .before .before .before .before .before .before .cabinet-sound .ensures) (c .before .before .before .before .before .before .fix .result .line) _ (c .before .before .before .before .before .before .fix .result .reply) _ _ (c .before .before .before .before .before .before .fix .ensures (λ w. sound-rises (a .t1) (sym (c .before .before .before .before .before .before .before .before .before .before .before .cabinet-sound .ensures) ∙ w))) (c .before .enum-told .given .1) (fixed-next (a .t1) (c .before .before .before .before .before .before .fix .result .line))
 
 -- src/recover.rt:67:5
 same-length-2 : tie.Need-same-length-2
@@ -52,7 +53,7 @@ same-length-2 c = search needs
 
 -- src/recover.rt:67:5
 returns-2 : tie.Need-returns-2
-returns-2 c = let a : _ = c .before .before .before .before .before .before .before .before .before .before .before .before .before .before .before .before .before .before .before .before .before .before .before .before .before .args in fix-refused (a .t1) (a .places) (a .list .now) (c .before .before .before .before .before .before .before .before .before .before .cabinet-sound .result) (c .before .before .before .before .before .before .before .before .before .before .cabinet-sound .ensures) (c .before .before .before .before .before .fix .result .line) _ (c .before .before .before .before .before .fix .result .reply) _ _ (c .before .before .before .before .before .fix .ensures) (c .enum-told2 .given .1) refl
+returns-2 c = let a : _ = c .before .before .before .before .before .before .before .before .before .before .before .before .before .before .before .before .before .before .before .before .before .before .before .before .before .args in fix-refused (a .t1) (a .places) (a .list .now) (c .before .before .before .before .before .before .before .before .before .before .cabinet-sound .result) (c .before .before .before .before .before .before .before .before .before .before .cabinet-sound .ensures) (c .before .before .before .before .before .fix .result .line) _ (c .before .before .before .before .before .fix .result .reply) _ _ (c .before .before .before .before .before .fix .ensures (λ w. sound-rises (a .t1) (sym (c .before .before .before .before .before .before .before .before .before .before .cabinet-sound .ensures) ∙ w))) (c .enum-told2 .given .1) refl
 
 pub fix-spec : {M : Type 1} → statement M
 fix-spec =

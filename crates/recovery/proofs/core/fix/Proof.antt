@@ -1,6 +1,6 @@
 use lib.ListN.{replicate}
 use Rattle.verdicts.proofs.Held.{zero-listed}
-use Rattle.recovery.proofs.Told.{early-told, short-told, fixed-told, foundLine}
+use Rattle.recovery.proofs.Told.{line-rises, early-told, short-told, fixed-told, foundLine}
 use Rattle.verdicts.specs.declared.Reply.the-variants.{Done, Refused}
 use Prim.Native.Nat.{ℕ, zero, suc, _+_, _*_, _-_, _/_, _%_, _^_, _≤_, _<_, max}
 use mathlib.Core.Path.{_≡_, refl, sym, _∙_, ap, ap₂}
@@ -57,21 +57,31 @@ write-lost-requires c κs = search needs
 enum-known-first : tie.Need-enum-known-first
 enum-known-first c = search needs
 
--- src/core.rt:44:1
 returns : tie.Need-returns
-returns c = let a : _ = c .before .before .before .before .before .before .before .before .args in short-told (a .entries .now) (a .makers .now) (a .base) (a .stored) (a .reached) (a .ended) (a .head) (a .sound) (a .places) (a .list .now) (c .before .before .before .lines .result) (c .before .before .before .lines .ensures) (replicate 16 0) zero-listed (c .before .before .count-lost .result) (c .before .before .count-lost .ensures) (sym (c .before .before .before .before .before .before .fix-reply .ensures) ∙ c .before .before .before .before .enum-told .given .1) (sym (c .before .is-short .ensures) ∙ c .if1 .taken)
+returns c =
+    let a : _ = c .before .before .before .before .before .before .before .before .args in
+    let done : _ = sym (c .before .before .before .before .before .before .fix-reply .ensures) ∙ c .before .before .before .before .enum-told .given .1 in
+    λ r.
+    short-told (a .entries .now) (a .makers .now) (a .base) (a .stored) (a .reached) (a .ended) (a .head) (a .sound) (a .places) (a .list .now) (c .before .before .before .lines .result) (c .before .before .before .lines .ensures) (replicate 16 0) zero-listed (c .before .before .count-lost .result)
+    (c .before .before .count-lost .ensures (line-rises (a .entries .now) (a .makers .now) (a .base) (a .stored) (a .reached) (a .ended) (a .head) (a .sound) (a .places) (a .list .now) (c .before .before .before .lines .result) (c .before .before .before .lines .ensures) (replicate 16 0) zero-listed r done))
+    done (sym (c .before .is-short .ensures) ∙ c .if1 .taken)
 
--- src/core.rt:44:1
 same-length : tie.Need-same-length
 same-length c = search needs
 
--- src/core.rt:44:1
 returns-2 : tie.Need-returns-2
-returns-2 c = let a : _ = c .before .before .before .before .before .before .before .before .before .before .before .before .args in fixed-told (a .entries .now) (a .makers .now) (a .base) (a .stored) (a .reached) (a .ended) (a .head) (a .sound) (a .places) (a .list .now) (c .before .before .before .before .before .before .before .lines .result) (c .before .before .before .before .before .before .before .lines .ensures) (replicate 16 0) zero-listed (c .before .before .before .before .before .before .count-lost .result) _ (c .before .before .before .before .before .before .count-lost .ensures) (c .before .before .write-lost .ensures) (sym (c .before .before .before .before .before .before .before .before .before .before .fix-reply .ensures) ∙ c .before .before .before .before .before .before .before .before .enum-told .given .1) (sym (c .before .before .before .before .before .is-short .ensures) ∙ c .before .before .before .before .if1 .left)
+returns-2 c =
+    let a : _ = c .before .before .before .before .before .before .before .before .before .before .before .before .args in
+    let line : _ = c .before .before .before .before .before .before .before .lines in
+    let count : _ = c .before .before .before .before .before .before .count-lost in
+    let done : _ = sym (c .before .before .before .before .before .before .before .before .before .before .fix-reply .ensures) ∙ c .before .before .before .before .before .before .before .before .enum-told .given .1 in
+    λ r.
+    let rises : _ = line-rises (a .entries .now) (a .makers .now) (a .base) (a .stored) (a .reached) (a .ended) (a .head) (a .sound) (a .places) (a .list .now) (line .result) (line .ensures) (replicate 16 0) zero-listed r done in
+    fixed-told (a .entries .now) (a .makers .now) (a .base) (a .stored) (a .reached) (a .ended) (a .head) (a .sound) (a .places) (a .list .now) (line .result) (line .ensures) (replicate 16 0) zero-listed (count .result) _ (count .ensures rises) (c .before .before .write-lost .ensures rises)
+    done (sym (c .before .before .before .before .before .is-short .ensures) ∙ c .before .before .before .before .if1 .left)
 
--- src/core.rt:44:1
 returns-3 : tie.Need-returns-3
-returns-3 c = let a : _ = c .before .before .before .before .before .args in early-told (a .entries .now) (a .makers .now) (a .base) (a .stored) (a .reached) (a .ended) (a .head) (a .sound) (a .places) (a .list .now) (foundLine (a .entries .now) (a .makers .now) (a .base) (a .stored) (a .reached) (a .ended) (a .head)) (refl) (replicate 16 0) zero-listed _ (sym (c .before .before .before .fix-reply .ensures) ∙ c .before .first .given .1)
+returns-3 c = let a : _ = c .before .before .before .before .before .args in λ r. early-told (a .entries .now) (a .makers .now) (a .base) (a .stored) (a .reached) (a .ended) (a .head) (a .sound) (a .places) (a .list .now) (foundLine (a .entries .now) (a .makers .now) (a .base) (a .stored) (a .reached) (a .ended) (a .head)) (refl) (replicate 16 0) zero-listed _ (sym (c .before .before .before .fix-reply .ensures) ∙ c .before .first .given .1)
 
 pub fix-spec : {M : Type 1} → statement M
 fix-spec =

@@ -1,62 +1,64 @@
-use Rattle.recovery.specs.Lost.{NextOf, lostBy}
-use lib.Seq.{length-sets, set-out}
-use Rattle.recovery.proofs.Rise.{FoundSoFar, found-none, found-more, found-done, StoredSoFar, stored-none, stored-more, stored-done}
-use Prim.Native.Nat.{ℕ, zero, suc, _+_, _*_, _-_, _/_, _%_, _^_, _≤_, _<_, max}
-use mathlib.Core.Path.{_≡_, refl, sym, _∙_, ap, ap₂}
-use mathlib.Core.Bool.{Bool, true, false, not, _&&_, _||_, cond}
-use mathlib.Core.List.{List, [], _∷_, _++_}
-use mathlib.Core.Logic.{⊎-elim, by-cases, inl, inr}
-use native.Mathlib.Numerals.{add-one}
+-- `recovery::lost::count_lost` counts the changes lost. The invariant: those up to k are met and counted. Assumes nothing.
+use Prim.Native.Nat.{ℕ, _-_, _<_}
 use native.Mathlib.Omega.{arith}
-use lib.ListN.{length, getD, set, List·getD-eq-default}
-use lib.Dec.{leb, ltb, eqb}
-use borrow.Author.Tests.{eq-eqb, ne-eqb, lt-ltb, le-ltb, le-leb, lt-leb, ltb-true, leb-true}
-use Rattle.laws.specs.Below.{allBelow, anyBelow, tabulate}
-use Rattle.laws.proofs.Logic.{test, clash, cond-true, cond-false, and-intro, and-left, and-right}
-use Rattle.laws.proofs.Fill.{AnySoFar, any-none, any-more, any-done, any-same, all-same, FilledSoFar, filled-none, filled-more, filled-done}
-use Rattle.history.specs.Line.{orphan, climb, lineFrom}
-use Rattle.verdicts.specs.Shape.{limits16, at, listOf, setOf, ringFrame, ringPlace, headModel, modelOf}
-use Rattle.verdicts.proofs.Limits.{width16, places8, greatestNumber32}
+use Rattle.recovery.proofs.Next.{lostTo}
+use Rattle.recovery.proofs.Merged.{Counting, counting-none, counting-more, counting-done}
 use borrow.Author.Needs.{needs}
 use Rattle.recovery.proofs.lost.count_lost.Statement.{statement}
 use Rattle.recovery.proofs.lost.count_lost.Tie as tie
 use Rattle.recovery.proofs.lost.count_lost.Reads as reads
 use Rattle.recovery.proofs.lost.count_lost.Lts as lts
+use Rattle.merge.proofs.past.Reads as past-reads
+use Rattle.recovery.proofs.lost.ends_of.Reads as ends-of-reads
 use Rattle.recovery.proofs.lost.next_lost.Reads as next-lost-reads
 
 abbrev Inv-loop : tie.InvT-loop
-Inv-loop makers line reached ended cards n₀ k₀ x₀ n k x = FoundSoFar (lostBy makers line reached ended cards) n k x
+Inv-loop makers ended cards ends passed₀ count₀ k₀ x₀ passed count k x = Counting makers passed₀ ends (lostTo makers passed₀ ends ended) passed count k x
 
 abbrev μ-loop : tie.MeasureT-loop
-μ-loop makers line reached ended cards n₀ k₀ x₀ n k x = 4294967296 - k
+μ-loop makers ended cards ends passed₀ count₀ k₀ x₀ passed count k x = 4294967296 - k
 
--- src/lost.rt:125:9
+-- src/lost.rt:77:9
+ends-of-requires : tie.Need-ends-of-requires Inv-loop μ-loop
+ends-of-requires c κs = search needs
+
+-- src/lost.rt:81:9
 next-lost-requires : tie.Need-next-lost-requires Inv-loop μ-loop
 next-lost-requires c κs = search needs
 
--- src/lost.rt:126:5
+-- src/lost.rt:82:5
 loop-holds : tie.Need-loop-holds Inv-loop μ-loop
-loop-holds c = found-none refl (c .next-lost .ensures) (search needs)
+loop-holds c =
+    let a : _ = c .before .before .args in
+    counting-none (a .makers .now) (a .line) (c .before .ends-of .result) (a .ended) (c .next-lost .ensures) (search needs)
 
--- src/lost.rt:127:9
-add-n : tie.Need-add-n Inv-loop μ-loop
-add-n c = let i : _ = c .before .loop .inv in let h : _ = i .next .above (c .loop-test .taken) in omega (arith, h)
+-- src/lost.rt:83:9
+add-count : tie.Need-add-count Inv-loop μ-loop
+add-count c = let s : _ = c .before .loop .inv .stands in omega (arith, s .few, s .fits)
 
--- src/lost.rt:129:13
+-- src/lost.rt:85:13
+past-requires : tie.Need-past-requires Inv-loop μ-loop
+past-requires c κs = search needs
+
+-- src/lost.rt:87:13
 next-lost-requires-2 : tie.Need-next-lost-requires-2 Inv-loop μ-loop
 next-lost-requires-2 c κs = search needs
 
--- src/lost.rt:126:5
+-- src/lost.rt:82:5
 loop-less : tie.Need-loop-less Inv-loop μ-loop
-loop-less c = let i : _ = c .before .before .loop .inv in let h : _ = i .next .above (c .before .loop-test .taken) in omega (arith, h)
+loop-less c = let s : _ = c .before .before .before .loop .inv .stands in omega (arith, s .fits, c .before .before .loop-test .taken)
 
--- src/lost.rt:126:5
+-- src/lost.rt:82:5
 loop-again : tie.Need-loop-again Inv-loop μ-loop
-loop-again c = found-more (c .before .before .loop .inv) (c .before .loop-test .taken) (c .next-lost2 .ensures) (search needs)
+loop-again c =
+    let a : _ = c .before .before .before .before .before .before .args in
+    counting-more (a .makers .now) (a .line) (c .before .before .before .before .before .ends-of .result) (a .ended) (c .before .before .before .loop .inv) (c .before .before .loop-test .taken) (c .before .past .ensures) (c .next-lost2 .ensures) (search needs)
 
--- src/lost.rt:114:1
+-- src/lost.rt:68:1
 returns : tie.Need-returns Inv-loop μ-loop
-returns c = found-done (c .before .loop .inv) (c .loop-test .left)
+returns c =
+    let a : _ = c .before .before .before .before .args in
+    counting-done (a .makers .now) (a .line) (c .before .before .before .ends-of .result) (a .ended) (a .reached) (a .cards) (c .before .loop .inv) (c .loop-test .left) (c .before .before .before .ends-of .ensures)
 
 pub count-lost-spec : {M : Type 1} → statement M
 count-lost-spec =
@@ -64,9 +66,11 @@ count-lost-spec =
     (tie.spec
     Inv-loop
     μ-loop
+    ends-of-requires
     next-lost-requires
     loop-holds
-    add-n
+    add-count
+    past-requires
     next-lost-requires-2
     loop-less
     loop-again

@@ -1,71 +1,74 @@
-use Rattle.recovery.specs.Lost.{NextOf, lostBy}
-use lib.Seq.{length-sets, set-out}
-use Rattle.recovery.proofs.Rise.{FoundSoFar, found-none, found-more, found-done, StoredSoFar, stored-none, stored-more, stored-done, stored-long}
-use Prim.Native.Nat.{ℕ, zero, suc, _+_, _*_, _-_, _/_, _%_, _^_, _≤_, _<_, max}
-use mathlib.Core.Path.{_≡_, refl, sym, _∙_, ap, ap₂}
-use mathlib.Core.Bool.{Bool, true, false, not, _&&_, _||_, cond}
-use mathlib.Core.List.{List, [], _∷_, _++_}
-use mathlib.Core.Logic.{⊎-elim, by-cases, inl, inr}
-use native.Mathlib.Numerals.{add-one}
+-- `recovery::lost::write_lost` writes the changes lost. The invariant: those up to k are met and stand at the beginning of the list. Assumes nothing.
+use Prim.Native.Nat.{ℕ, _-_, _<_}
 use native.Mathlib.Omega.{arith}
-use lib.ListN.{length, getD, set, List·getD-eq-default}
-use lib.Dec.{leb, ltb, eqb}
-use borrow.Author.Tests.{eq-eqb, ne-eqb, lt-ltb, le-ltb, le-leb, lt-leb, ltb-true, leb-true}
-use Rattle.laws.specs.Below.{allBelow, anyBelow, tabulate}
-use Rattle.laws.proofs.Logic.{test, clash, cond-true, cond-false, and-intro, and-left, and-right}
-use Rattle.laws.proofs.Fill.{AnySoFar, any-none, any-more, any-done, any-same, all-same, FilledSoFar, filled-none, filled-more, filled-done}
-use Rattle.history.specs.Line.{orphan, climb, lineFrom}
-use Rattle.verdicts.specs.Shape.{limits16, at, listOf, setOf, ringFrame, ringPlace, headModel, modelOf}
-use Rattle.verdicts.proofs.Limits.{width16, places8, greatestNumber32}
+use Rattle.recovery.proofs.Next.{lostTo}
+use Rattle.recovery.proofs.Merged.{Writing, writing-none, writing-more, writing-done}
 use borrow.Author.Needs.{needs}
 use Rattle.recovery.proofs.lost.write_lost.Statement.{statement}
 use Rattle.recovery.proofs.lost.write_lost.Tie as tie
 use Rattle.recovery.proofs.lost.write_lost.Reads as reads
 use Rattle.recovery.proofs.lost.write_lost.Lts as lts
+use Rattle.merge.proofs.past.Reads as past-reads
+use Rattle.recovery.proofs.lost.ends_of.Reads as ends-of-reads
 use Rattle.recovery.proofs.lost.next_lost.Reads as next-lost-reads
 use Rattle.recovery.proofs.lost.put.Reads as put-reads
 
 abbrev Inv-loop : tie.InvT-loop
-Inv-loop list₀ makers line reached ended cards n₀ k₀ x₀ list n k x = StoredSoFar (lostBy makers line reached ended cards) list₀ list n k x
+Inv-loop list₀ makers ended cards ends passed₀ n₀ k₀ x₀ list passed n k x = Writing makers passed₀ ends (lostTo makers passed₀ ends ended) list₀ list passed n k x
 
 abbrev μ-loop : tie.MeasureT-loop
-μ-loop list₀ makers line reached ended cards n₀ k₀ x₀ list n k x = 4294967296 - k
+μ-loop list₀ makers ended cards ends passed₀ n₀ k₀ x₀ list passed n k x = 4294967296 - k
 
--- src/lost.rt:158:9
+-- src/lost.rt:113:9
+ends-of-requires : tie.Need-ends-of-requires Inv-loop μ-loop
+ends-of-requires c κs = search needs
+
+-- src/lost.rt:117:9
 next-lost-requires : tie.Need-next-lost-requires Inv-loop μ-loop
 next-lost-requires c κs = search needs
 
--- src/lost.rt:159:5
+-- src/lost.rt:118:5
 loop-holds : tie.Need-loop-holds Inv-loop μ-loop
-loop-holds c = stored-none refl (c .next-lost .ensures) (search needs)
+loop-holds c =
+    let a : _ = c .before .before .before .args in
+    writing-none (a .makers .now) (a .line) (c .before .ends-of .result) (a .ended) (c .next-lost .ensures) (search needs)
 
--- src/lost.rt:160:9
+-- src/lost.rt:119:9
 put-requires : tie.Need-put-requires Inv-loop μ-loop
 put-requires c κs = search needs
 
--- src/lost.rt:161:9
+-- src/lost.rt:120:9
 add-n : tie.Need-add-n Inv-loop μ-loop
-add-n c = let i : _ = c .before .before .before .before .before .loop .inv .found in let h : _ = i .next .above (c .before .before .before .before .loop-test .taken) in omega (arith, h)
+add-n c = let s : _ = c .before .before .before .before .before .loop .inv .stands in omega (arith, s .few, s .fits, c .before .before .before .before .loop-test .taken)
 
--- src/lost.rt:163:13
+-- src/lost.rt:122:13
+past-requires : tie.Need-past-requires Inv-loop μ-loop
+past-requires c κs = search needs
+
+-- src/lost.rt:124:13
 next-lost-requires-2 : tie.Need-next-lost-requires-2 Inv-loop μ-loop
 next-lost-requires-2 c κs = search needs
 
--- src/lost.rt:159:5
+-- src/lost.rt:118:5
 loop-less : tie.Need-loop-less Inv-loop μ-loop
-loop-less c = let i : _ = c .before .before .before .before .before .before .loop .inv .found in let h : _ = i .next .above (c .before .before .before .before .before .loop-test .taken) in omega (arith, h)
+loop-less c = let s : _ = c .before .before .before .before .before .before .before .loop .inv .stands in omega (arith, s .fits, c .before .before .before .before .before .before .loop-test .taken)
 
--- src/lost.rt:159:5
+-- src/lost.rt:118:5
 loop-again : tie.Need-loop-again Inv-loop μ-loop
-loop-again c = stored-more (c .before .before .before .before .before .before .loop .inv) (c .before .before .before .before .before .loop-test .taken) (c .before .before .before .put .ensures) (c .next-lost2 .ensures) (search needs)
+loop-again c =
+    let l : _ = c .before .before .before .before .before .before .before in
+    let a : _ = l .before .before .before .before .args in
+    writing-more (a .makers .now) (a .line) (l .before .before .ends-of .result) (a .ended) (l .loop .inv) (c .before .before .before .before .before .before .loop-test .taken) (c .before .before .before .before .put .ensures) (c .before .past .ensures) (c .next-lost2 .ensures) (search needs)
 
--- src/lost.rt:146:1
+-- src/lost.rt:103:1
 same-length : tie.Need-same-length Inv-loop μ-loop
-same-length c = stored-long (c .before .loop .inv)
+same-length c = c .before .loop .inv .long
 
--- src/lost.rt:146:1
+-- src/lost.rt:103:1
 returns : tie.Need-returns Inv-loop μ-loop
-returns c = stored-done (c .before .loop .inv) (c .loop-test .left)
+returns c =
+    let a : _ = c .before .before .before .before .before .args in
+    writing-done (a .makers .now) (a .line) (c .before .before .before .ends-of .result) (a .ended) (a .reached) (a .cards) (c .before .loop .inv) (c .loop-test .left) (c .before .before .before .ends-of .ensures)
 
 pub write-lost-spec : {M : Type 1} → statement M
 write-lost-spec =
@@ -73,10 +76,12 @@ write-lost-spec =
     (tie.spec
     Inv-loop
     μ-loop
+    ends-of-requires
     next-lost-requires
     loop-holds
     put-requires
     add-n
+    past-requires
     next-lost-requires-2
     loop-less
     loop-again
