@@ -1,3 +1,3 @@
 pub mod Next
-pub mod Heads
+pub mod Head
 pub mod Walk

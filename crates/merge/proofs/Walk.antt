@@ -16,7 +16,7 @@ use Rattle.laws.proofs.Below.{Found, any-intro, any-elim}
 use Rattle.laws.proofs.Fill.{getD-tabulate}
 use Rattle.merge.specs.Merge.{at, maker, headNumber, leastHead, isHead, cardPast, allPast, CardRises, Rises, cardAhead, ahead, NextOf, CardPassed, Passed}
 use Rattle.merge.proofs.Next.{next-least}
-use Rattle.merge.proofs.Heads.{past-head, past-other, past-end}
+use Rattle.merge.proofs.Head.{past-head, past-other, past-end}
 
 -- ---- one card
 module _ {f : ℕ → ℕ} {from end : ℕ} (r : CardRises f from end) where

@@ -29,6 +29,10 @@ leastBelow (suc n) f = lesser (leastBelow n f) (f n)
 abbrev pub headNumber : (ℕ → ℕ) → ℕ → ℕ → ℕ
 headNumber f passed end = cond (ltb passed end) (f (suc passed)) 0
 
+-- those of all cards
+abbrev pub headNumbers : (makers passed ends : List ℕ) → List ℕ
+headNumbers makers passed ends = tabulate 16 (λ c. headNumber (maker makers c) (at passed c) (at ends c))
+
 -- the least number at the heads of the cards, and 0 where there is none
 abbrev pub leastHead : (makers passed ends : List ℕ) → ℕ
 leastHead makers passed ends = leastBelow 16 (λ c. headNumber (maker makers c) (at passed c) (at ends c))

@@ -1,7 +1,7 @@
 // One merge over the cards' frames, whose change numbers rise with the states: it meets each number once, rising.
 ghost use Prim.Native.Nat.{ℕ, _<_};
 ghost use mathlib.Core.Path.{_≡_};
-ghost use Rattle.merge.specs.Merge.{lesser, maker, headNumber, leastHead, cardPast, allPast};
+ghost use Rattle.merge.specs.Merge.{lesser, maker, headNumber, headNumbers, leastHead, cardPast, allPast};
 
 // The lesser of two numbers of which 0 is none.
 pub fn lesser(a: u32, b: u32) -> u32
@@ -25,6 +25,20 @@ fn head_number(makers: &[u32; 768], c: usize, passed: u32, end: u32) -> u32
     } else {
         0
     }
+}
+
+// The number at the head of each card, and 0 where its end is passed.
+pub fn heads(makers: &[u32; 768], passed: [u32; 16], ends: [u32; 16]) -> [u32; 16]
+    ensures { λ r. ⌜ r ≡ headNumbers (now (makers .entry)) passed ends ⌝ }
+{
+    let mut out = [0u32; 16];
+    let mut c: usize = 0;
+    while c < 16 {
+        let x = head_number(makers, c, passed[c], ends[c]);
+        out[c] = x;
+        c += 1;
+    }
+    out
 }
 
 // The least number at the heads of the cards, and 0 where there is none.

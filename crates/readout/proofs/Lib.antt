@@ -1,2 +1,4 @@
 pub mod Turns
 pub mod Single
+pub mod Agreed
+pub mod Tidy

@@ -7,13 +7,15 @@ use lib.Dec.{ltb, eqb}
 use borrow.Author.Tests.{lt-ltb, le-ltb}
 use Rattle.laws.specs.Below.{anyBelow}
 use Rattle.laws.proofs.Below.{any-intro}
-use mathlib.Core.List.{List}
+use Rattle.laws.proofs.Fill.{NoneSoFar, search-more}
+use mathlib.Core.List.{List, []}
 use lib.ListN.{length, getD}
 use Rattle.refusal.specs.declared.Refusal.the-variants.{TwoVectors, SessionsApart, TooLong, LimitReached}
 use Rattle.frame.specs.declared.Verdict.the-variants.{Accepted, Refused}
 use Rattle.sheet.specs.declared.Readout.{Readout}
 use Rattle.sheet.specs.declared.Reading.{Reading}
 use Rattle.sheet.specs.Walk.{noReadout, readingOf}
+use Rattle.readout.specs.Heads.{listsRead}
 use Rattle.readout.specs.Joint.{lowestTo, apart, twoVectors, jointVerdict, joined, lined, readoutOf}
 
 pub any-step : (n : ℕ) (p : ℕ → Bool) {t : Bool} → anyBelow n p ≡ false → t ≡ p n → t ≡ false → anyBelow (n + 1) p ≡ false
@@ -24,6 +26,18 @@ any-stop n m p h y z = sym (any-intro m p n h (sym y ∙ z))
 
 pub any-end : (n m : ℕ) (p : ℕ → Bool) → n ≡ m → anyBelow n p ≡ false → false ≡ anyBelow m p
 any-end n m p e x = rw (← e) (sym x)
+
+pub none-stop : {n : ℕ} {p : ℕ → Bool} {i : ℕ} {t : Bool} → NoneSoFar n p i → i < n → t ≡ p i → t ≡ true → true ≡ anyBelow n p
+none-stop {n} {p} {i} s h y z = sym (any-intro n p i h (sym y ∙ z))
+
+pub none-more : {n : ℕ} {p : ℕ → Bool} {i : ℕ} {t : Bool} → NoneSoFar n p i → i < n → t ≡ p i → t ≡ false → NoneSoFar n p (i + 1)
+none-more s h y z = search-more s h (sym y ∙ z)
+
+pub none-end : {n : ℕ} {p : ℕ → Bool} {i : ℕ} → NoneSoFar n p i → n ≤ i → false ≡ anyBelow n p
+none-end {n} {p} {i} s h =
+    let l : i ≤ n = s .within in
+    let e : i ≡ n = omega arith in
+    sym (ap (λ (m : ℕ). anyBelow m p) (sym e) ∙ s .so)
 
 pub lowest-step : (f : ℕ → ℕ) (i : ℕ) {a b v : ℕ} → a ≡ lowestTo f i → b ≡ f (i + 1) → v ≡ min a b → v ≡ lowestTo f (i + 1)
 lowest-step f i p q r = let k : i + 1 ≡ suc i = omega arith in rw (r, q, p, k)
@@ -47,6 +61,15 @@ pub joint-tests :
     cond a (Refused SessionsApart) (cond d (Refused LimitReached) (cond c (Refused TwoVectors) Accepted)) ≡ jointVerdict r n
 unfolding jointVerdict
 joint-tests r n k p q x y = rw (y, ← x, q, p, k)
+
+-- neither looks at the number of cards, and refusal 10 not at the sessions
+pub two-lists : (changes entries sessions bases counts : List ℕ) (n : ℕ) → twoVectors (listsRead changes entries [] bases counts) n ≡ twoVectors (listsRead changes entries sessions bases counts) n
+unfolding twoVectors
+two-lists changes entries sessions bases counts n = refl
+
+pub joint-lists : (r : Readout) (n : ℕ) → jointVerdict (listsRead (r .changes) (r .entries) (r .sessions) (r .bases) (r .counts)) n ≡ jointVerdict r n
+unfolding jointVerdict twoVectors
+joint-lists r n = refl
 
 pub long-read : (input : List ℕ) → 65536 < length input → _≡_ {A = Reading} (joined (Refused TooLong) noReadout) (readoutOf input)
 unfolding readoutOf

@@ -1,2 +1,3 @@
 pub mod Joint
 pub mod Single
+pub mod Heads

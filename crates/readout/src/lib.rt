@@ -1,11 +1,14 @@
 // The reader of a joined read-out: its lines, and then the sheets beside each other.
 ghost use mathlib.Core.Path.{_≡_};
 ghost use Prim.Native.Nat.{ℕ, _+_, _*_, _-_, _≤_, _<_, min};
-ghost use mathlib.Core.Bool.{not, _&&_, _||_};
+ghost use mathlib.Core.Bool.{not, _&&_, _||_, cond};
+ghost use mathlib.Core.List.{[]};
 ghost use lib.ListN.{length, getD};
 ghost use lib.Dec.{eqb, ltb};
 ghost use Rattle.laws.specs.Below.{allBelow, anyBelow};
-ghost use Rattle.readout.specs.Joint.{lowestTo, lowestOf, apart, frameAt, differ, differsIn, twoVectors, jointVerdict, cardsOf, joined, readoutOf};
+ghost use Rattle.merge.specs.Merge.{at};
+ghost use Rattle.readout.specs.Joint.{lowestTo, lowestOf, apart, twoVectors, jointVerdict, cardsOf, joined, readoutOf};
+ghost use Rattle.readout.specs.Heads.{endsOf, Orderly, listsRead, headPlace, sameEntries, firstWith, headDiffers, headsDiffer};
 ghost use Rattle.readout.specs.Single.{changesIn, rowIn, entriesIn, answered, sheetReadOf};
 ghost use Rattle.sheet.specs.Flat.{noSheet};
 ghost use Rattle.sheet.specs.Walk.{noReadout};
@@ -70,17 +73,41 @@ fn sessions_apart(sessions: [u32; 16], counts: [u32; 16], low: u32, n: u32) -> b
     false
 }
 
-fn place(card: u32, base: u32, a: u32) -> usize
-    requires { ⌜ card < 16 ⌝ }
-    ensures at { λ r. ⌜ r ≡ frameAt card base a ⌝ }
-    ensures small { λ r. ⌜ r < 768 ⌝ }
+// The last state of a card that is there; of another, none.
+fn end_of(there: bool, base: u32, count: u32) -> u32
+    requires { ⌜ base + count ≤ 60000 ⌝ }
+    ensures { λ r. ⌜ r ≡ cond there (base + count) 0 ⌝ }
 {
-    card as usize * 48 + (base as usize + 1 + a as usize) % 48
+    if there { base + count } else { 0 }
 }
 
-fn same_entries(entries: &[u32], p: usize, q: usize, n: usize) -> bool
-    requires { ⌜ (length (now entries) ≡ 12288) × (p < 768) × (q < 768) × (n ≤ 16) ⌝ }
-    ensures { λ r. ⌜ r ≡ allBelow n (λ k. eqb (getD (now (entries .entry)) (p * 16 + k) 0) (getD (now (entries .entry)) (q * 16 + k) 0)) ⌝ }
+// The last state of each of n cards.
+fn ends_of(bases: [u32; 16], counts: [u32; 16], n: u32) -> [u32; 16]
+    requires { ⌜ ((c : ℕ) → c < 16 → at bases c + at counts c ≤ 60000) ⌝ }
+    ensures { λ r. ⌜ r ≡ endsOf bases counts n ⌝ }
+{
+    let mut out = [0u32; 16];
+    let mut c: usize = 0;
+    while c < 16 {
+        let x = end_of(c < n as usize, bases[c], counts[c]);
+        out[c] = x;
+        c += 1;
+    }
+    out
+}
+
+// The place of the state behind the one passed of a card.
+fn head_place(card: usize, passed: u32) -> usize
+    requires { ⌜ card < 16 ⌝ }
+    ensures at { λ r. ⌜ r ≡ headPlace card passed ⌝ }
+    ensures small { λ r. ⌜ r < 768 ⌝ }
+{
+    card * 48 + (passed as usize + 1) % 48
+}
+
+fn same_entries(entries: &[u32; 12288], p: usize, q: usize, n: usize) -> bool
+    requires { ⌜ (p < 768) × (q < 768) × (n ≤ 16) ⌝ }
+    ensures { λ r. ⌜ r ≡ sameEntries (now (entries .entry)) n p q ⌝ }
 {
     let mut k = 0;
     while k < n {
@@ -92,86 +119,109 @@ fn same_entries(entries: &[u32], p: usize, q: usize, n: usize) -> bool
     true
 }
 
-fn differ_at<'a>(changes: &'a [u32], entries: &'a [u32], p: usize, q: usize, n: usize) -> bool
-    requires { ⌜ (length (now changes) ≡ 768) × (length (now entries) ≡ 12288) × (p < 768) × (q < 768) × (n ≤ 16) ⌝ }
-    ensures { λ r. ⌜ r ≡ differ (now (changes .entry)) (now (entries .entry)) n p q ⌝ }
+// The first card at whose head the change k stands, and 16 where there is none.
+fn first_with(heads: [u32; 16], k: u32) -> usize
+    ensures { λ r. ⌜ r ≡ firstWith heads k ⌝ }
 {
-    if changes[p] != changes[q] {
-        return false;
+    let mut c: usize = 0;
+    while c < 16 {
+        if heads[c] == k {
+            return c;
+        }
+        c += 1;
     }
-    !same_entries(entries, p, q, n)
+    16
 }
 
-// Whether the frame at place p differs so from a frame of card j.
-fn differs_in<'a>(
-    changes: &'a [u32],
-    entries: &'a [u32],
+// Whether card c has the change k at its head, with another vector than that at place p.
+fn head_differs(
+    entries: &[u32; 12288],
+    head: u32,
+    c: usize,
+    passed: u32,
+    k: u32,
     p: usize,
-    j: u32,
-    base: u32,
-    count: u32,
     n: usize,
 ) -> bool
-    requires { ⌜ (length (now changes) ≡ 768) × (length (now entries) ≡ 12288) × (p < 768) × (j < 16) × (n ≤ 16) ⌝ }
-    ensures { λ r. ⌜ r ≡ differsIn (now (changes .entry)) (now (entries .entry)) n p j base count ⌝ }
+    requires { ⌜ (c < 16) × (p < 768) × (n ≤ 16) ⌝ }
+    ensures { λ r. ⌜ r ≡ (eqb head k && not (sameEntries (now (entries .entry)) n (headPlace c passed) p)) ⌝ }
 {
-    let mut b: u32 = 0;
-    while b < count {
-        if differ_at(changes, entries, p, place(j, base, b), n) {
+    if head == k {
+        let q = head_place(c, passed);
+        !same_entries(entries, q, p, n)
+    } else {
+        false
+    }
+}
+
+// Whether some card has.
+fn some_differs(
+    entries: &[u32; 12288],
+    heads: [u32; 16],
+    passed: [u32; 16],
+    k: u32,
+    p: usize,
+    n: usize,
+) -> bool
+    requires { ⌜ (p < 768) × (n ≤ 16) ⌝ }
+    ensures { λ r. ⌜ r ≡ anyBelow 16 (headDiffers (now (entries .entry)) heads passed n k p) ⌝ }
+{
+    let mut other: usize = 0;
+    while other < 16 {
+        if head_differs(entries, heads[other], other, passed[other], k, p, n) {
             return true;
         }
-        b += 1;
+        other += 1;
     }
     false
 }
 
-// Whether a frame of card i differs so from a frame of card j.
-fn pair_differs(r: Readout, i: u32, j: u32, n: usize) -> bool
-    requires { ⌜ (i < 16) × (j < 16) × (n ≤ 16) ⌝ }
-    ensures { λ x. ⌜ x ≡ anyBelow (getD (r .counts) i 0) (λ a. differsIn (r .changes) (r .entries) n (frameAt i (getD (r .bases) i 0) a) j (getD (r .bases) j 0) (getD (r .counts) j 0)) ⌝ }
-{
-    let base = r.bases[i as usize];
-    let count = r.counts[i as usize];
-    let other = r.bases[j as usize];
-    let others = r.counts[j as usize];
-    let mut a: u32 = 0;
-    while a < count {
-        let p = place(i, base, a);
-        if differs_in(&r.changes, &r.entries, p, j, other, others, n) {
-            return true;
-        }
-        a += 1;
-    }
-    false
-}
-
-// Whether a frame of card i differs so from a frame of a card before it.
-fn card_differs(r: Readout, i: u32, n: usize) -> bool
-    requires { ⌜ (i < 16) × (n ≤ 16) ⌝ }
-    ensures { λ x. ⌜ x ≡ anyBelow i (λ j. anyBelow (getD (r .counts) i 0) (λ a. differsIn (r .changes) (r .entries) n (frameAt i (getD (r .bases) i 0) a) j (getD (r .bases) j 0) (getD (r .counts) j 0))) ⌝ }
-{
-    let mut j: u32 = 0;
-    while j < i {
-        if pair_differs(r, i, j, n) {
-            return true;
-        }
-        j += 1;
-    }
-    false
-}
-
-// Whether one change has two vectors on two sheets.
-fn two_vectors(r: Readout, n: u32) -> bool
+// Whether two cards have the change k at their heads, with two vectors.
+fn heads_differ(
+    entries: &[u32; 12288],
+    heads: [u32; 16],
+    passed: [u32; 16],
+    k: u32,
+    n: usize,
+) -> bool
     requires { ⌜ n ≤ 16 ⌝ }
-    ensures { λ x. ⌜ x ≡ twoVectors r n ⌝ }
+    ensures { λ r. ⌜ r ≡ headsDiffer (now (entries .entry)) heads passed n k ⌝ }
+{
+    let first = first_with(heads, k);
+    if first < 16 {
+        let p = head_place(first, passed[first]);
+        some_differs(entries, heads, passed, k, p, n)
+    } else {
+        false
+    }
+}
+
+// Whether one change has two vectors on two sheets, by one merge over the sheets' frames.
+fn two_vectors<'a>(
+    changes: &'a [u32; 768],
+    entries: &'a [u32; 12288],
+    bases: [u32; 16],
+    counts: [u32; 16],
+    n: u32,
+) -> bool
+    requires { ⌜ (n ≤ 16) × Orderly (now changes) bases counts n ⌝ }
+    ensures { λ x. ⌜ x ≡ twoVectors (listsRead (now (changes .entry)) (now (entries .entry)) [] bases counts) n ⌝ }
 {
     let cards = n as usize;
-    let mut i: u32 = 0;
-    while i < n {
-        if card_differs(r, i, cards) {
+    let ends = ends_of(bases, counts, n);
+    let mut passed = bases;
+    let mut k: u32 = 0;
+    let mut x = merge::least(changes, passed, ends);
+    while k < x {
+        let heads = merge::heads(changes, passed, ends);
+        if heads_differ(entries, heads, passed, x, cards) {
             return true;
         }
-        i += 1;
+        k = x;
+        let p = merge::past(changes, passed, ends, k);
+        passed = p;
+        let y = merge::least(changes, passed, ends);
+        x = y;
     }
     false
 }
@@ -183,12 +233,17 @@ fn before(n: u32) -> u32
 }
 
 // The verdict on the sheets beside each other.
-fn joint_verdict(r: Readout, n: u32) -> Verdict
-    requires { ⌜ n ≤ 16 ⌝ }
-    ensures { λ x. ⌜ x ≡ jointVerdict r n ⌝ }
+fn joint_verdict<'a>(
+    changes: &'a [u32; 768],
+    entries: &'a [u32; 12288],
+    sessions: [u32; 16],
+    bases: [u32; 16],
+    counts: [u32; 16],
+    n: u32,
+) -> Verdict
+    requires { ⌜ (n ≤ 16) × Orderly (now changes) bases counts n ⌝ }
+    ensures { λ x. ⌜ x ≡ jointVerdict (listsRead (now (changes .entry)) (now (entries .entry)) sessions bases counts) n ⌝ }
 {
-    let sessions = r.sessions;
-    let counts = r.counts;
     let low = lowest(sessions, before(n));
     if sessions_apart(sessions, counts, low, n) {
         return Verdict::Refused(Refusal::SessionsApart);
@@ -196,7 +251,7 @@ fn joint_verdict(r: Readout, n: u32) -> Verdict
     if low == 4294967295 {
         return Verdict::Refused(Refusal::LimitReached);
     }
-    if two_vectors(r, n) {
+    if two_vectors(changes, entries, bases, counts, n) {
         return Verdict::Refused(Refusal::TwoVectors);
     }
     Verdict::Accepted
@@ -220,9 +275,14 @@ fn no_readout(x: Refusal) -> Reading
 }
 
 fn judged_jointly(r: Readout) -> Reading
+    requires { ⌜ Orderly (r .changes) (r .bases) (r .counts) (cardsOf r) ⌝ }
     ensures { λ x. ⌜ x ≡ joined (jointVerdict r (cardsOf r)) r ⌝ }
 {
-    let v = joint_verdict(r, least(r.cards, 16));
+    let sessions = r.sessions;
+    let bases = r.bases;
+    let counts = r.counts;
+    let n = least(r.cards, 16);
+    let v = joint_verdict(&r.changes, &r.entries, sessions, bases, counts, n);
     match v {
         Verdict::Accepted => Reading {
             readout: r,

@@ -1,7 +1,7 @@
 -- `merge::card_past` brings a card past a number. Assumes nothing.
 use borrow.Author.Needs.{needs}
 use Rattle.merge.specs.Merge.{maker}
-use Rattle.merge.proofs.Heads.{past-head, past-other, past-end}
+use Rattle.merge.proofs.Head.{past-head, past-other, past-end}
 use Rattle.merge.proofs.card_past.Statement.{statement}
 use Rattle.merge.proofs.card_past.Tie as tie
 use Rattle.merge.proofs.card_past.Reads as reads

@@ -1,7 +1,7 @@
 -- `merge::head_number` reads the number of a card's next state. Assumes nothing.
 use borrow.Author.Needs.{needs}
 use Rattle.merge.specs.Merge.{maker}
-use Rattle.merge.proofs.Heads.{head-there, head-none}
+use Rattle.merge.proofs.Head.{head-there, head-none}
 use Rattle.merge.proofs.head_number.Statement.{statement}
 use Rattle.merge.proofs.head_number.Tie as tie
 use Rattle.merge.proofs.head_number.Reads as reads

@@ -8,6 +8,7 @@ use borrow.Author.Needs.{needs}
 use native.Mathlib.Omega.{arith}
 use Rattle.readout.specs.Joint.{jointVerdict, joined, lined, readoutOf}
 use Rattle.readout.proofs.Turns.{long-read, lines-read}
+use Rattle.readout.proofs.Tidy.{reading-orderly}
 use Rattle.readout.proofs.read_readout.Statement.{statement}
 use Rattle.readout.proofs.read_readout.Tie as tie
 use Rattle.readout.proofs.read_readout.Reads as reads
@@ -29,7 +30,9 @@ enum-told : tie.Need-enum-told
 enum-told c = search needs
 
 judged-jointly-requires : tie.Need-judged-jointly-requires
-judged-jointly-requires c κs = search needs
+judged-jointly-requires c κs =
+    let g = c .before .before .before .read-sheets in
+    reading-orderly (c .before .before .before .before .before .before .args .s .now) (g .ensures) (c .before .enum-told .given .1) _
 
 enum-known-v : tie.Need-enum-known-v
 enum-known-v c = search needs

@@ -1,48 +1,80 @@
--- `readout::two_vectors` looks for one change with two vectors on two sheets. The invariant: none of the cards passed differs. Assumes nothing.
-use Prim.Native.Nat.{ℕ, _+_, _*_, _-_, _≤_, _<_, zero-le}
-use mathlib.Core.Bool.{Bool, true, false, not, _||_, _&&_}
-use mathlib.Core.Path.{_≡_, refl, sym, _∙_, ap}
-use borrow.Author.Needs.{needs}
+-- `readout::two_vectors` merges the sheets' frames and compares the vectors of each change. The invariant: frames of one change up to k have one vector. Assumes nothing.
+use Prim.Native.Nat.{_-_, _<_}
+use mathlib.Core.Path.{sym, _∙_, subst}
+use mathlib.Core.List.{List}
+use Prim.Native.Nat.{ℕ}
 use native.Mathlib.Omega.{arith}
-use lib.Dec.{eqb, ltb}
-use lib.ListN.{length, getD}
-use Rattle.laws.specs.Below.{allBelow, anyBelow}
-use Rattle.readout.specs.Joint.{frameAt, differsIn, twoVectors}
-use Rattle.readout.proofs.Turns.{any-step, any-stop, any-end}
+use Rattle.merge.specs.Merge.{Rises}
+use Rattle.readout.proofs.Agreed.{Looked, looked-none, looked-more, looked-found, looked-done}
+use borrow.Author.Needs.{needs}
 use Rattle.readout.proofs.two_vectors.Statement.{statement}
 use Rattle.readout.proofs.two_vectors.Tie as tie
 use Rattle.readout.proofs.two_vectors.Reads as reads
 use Rattle.readout.proofs.two_vectors.Lts as lts
-use Rattle.readout.proofs.card_differs.Reads as card-differs-reads
+use Rattle.merge.proofs.heads.Reads as heads-reads
+use Rattle.merge.proofs.least.Reads as least-reads
+use Rattle.merge.proofs.past.Reads as past-reads
+use Rattle.readout.proofs.ends_of.Reads as ends-of-reads
+use Rattle.readout.proofs.heads_differ.Reads as heads-differ-reads
 
 abbrev Inv-loop : tie.InvT-loop
-Inv-loop r n cards i₀ i = (i ≤ n) × (anyBelow i (λ m. anyBelow m (λ j. anyBelow (getD (r .counts) m 0) (λ a. differsIn (r .changes) (r .entries) (n) (frameAt m (getD (r .bases) m 0) a) j (getD (r .bases) j 0) (getD (r .counts) j 0)))) ≡ false)
+Inv-loop changes entries n cards ends passed₀ k₀ x₀ passed k x = Looked changes entries passed₀ ends n passed k x
 
 abbrev μ-loop : tie.MeasureT-loop
-μ-loop r n cards i₀ i = n - i
+μ-loop changes entries n cards ends passed₀ k₀ x₀ passed k x = 4294967296 - k
 
+-- src/lib.rt:201:9
+ends-of-requires : tie.Need-ends-of-requires Inv-loop μ-loop
+ends-of-requires c κs = c .pre .1 .states
+
+-- src/lib.rt:204:9
+least-requires : tie.Need-least-requires Inv-loop μ-loop
+least-requires c κs = search needs
+
+-- src/lib.rt:205:5
 loop-holds : tie.Need-loop-holds Inv-loop μ-loop
-loop-holds c = (zero-le, refl)
+loop-holds c = let s : _ = c .before .before in looked-none (s .args .changes .now) (s .args .entries .now) (s .args .bases) (c .before .ends-of .result) (s .args .n) (subst (λ (l : List ℕ). Rises (s .args .changes .now) (s .args .bases) l) (sym (c .before .ends-of .ensures)) (s .pre .1 .rises)) (c .least .ensures) (search needs)
 
-card-differs-requires : tie.Need-card-differs-requires Inv-loop μ-loop
-card-differs-requires c κs = search needs
+-- src/lib.rt:206:13
+heads-requires : tie.Need-heads-requires Inv-loop μ-loop
+heads-requires c κs = search needs
 
+-- src/lib.rt:207:12
+heads-differ-requires : tie.Need-heads-differ-requires Inv-loop μ-loop
+heads-differ-requires c κs = search needs
+
+-- src/lib.rt:208:13
 returns : tie.Need-returns Inv-loop μ-loop
-unfolding twoVectors
-returns c = any-stop (c .before .before .before .loop .i) (c .before .before .before .before .args .n) (λ m. anyBelow m (λ j. anyBelow (getD (c .before .before .before .before .args .r .counts) m 0) (λ a. differsIn (c .before .before .before .before .args .r .changes) (c .before .before .before .before .args .r .entries) (c .before .before .before .before .args .n) (frameAt m (getD (c .before .before .before .before .args .r .bases) m 0) a) j (getD (c .before .before .before .before .args .r .bases) j 0) (getD (c .before .before .before .before .args .r .counts) j 0)))) (c .before .before .loop-test .taken) (c .before .card-differs .ensures) (c .if1 .taken)
+returns c =
+    let s : _ = c .before .before .before .before .before .before .before in
+    let e : _ = c .before .before .before .before .before .before .ends-of in
+    looked-found (s .args .changes .now) (s .args .entries .now) (s .args .bases) (e .result) (s .args .n) (subst (λ (l : List ℕ). Rises (s .args .changes .now) (s .args .bases) l) (sym (e .ensures)) (s .pre .1 .rises)) (c .before .before .before .before .loop .inv) (c .before .before .before .loop-test .taken) (c .before .before .heads .ensures) (s .args .counts) (e .ensures) (c .before .heads-differ .ensures) (c .if1 .taken)
 
-add-i : tie.Need-add-i Inv-loop μ-loop
-add-i c = search needs
+-- src/lib.rt:211:13
+past-requires : tie.Need-past-requires Inv-loop μ-loop
+past-requires c κs = search needs
 
+-- src/lib.rt:213:13
+least-requires-2 : tie.Need-least-requires-2 Inv-loop μ-loop
+least-requires-2 c κs = search needs
+
+-- src/lib.rt:205:5
 loop-less : tie.Need-loop-less Inv-loop μ-loop
-loop-less c = search needs
+loop-less c = let s : _ = c .before .before .before .before .before .before .loop .inv in omega (arith, s .fits, c .before .before .before .before .before .loop-test .taken)
 
+-- src/lib.rt:205:5
 loop-again : tie.Need-loop-again Inv-loop μ-loop
-loop-again c = (omega arith, any-step (c .before .before .before .loop .i) (λ m. anyBelow m (λ j. anyBelow (getD (c .before .before .before .before .args .r .counts) m 0) (λ a. differsIn (c .before .before .before .before .args .r .changes) (c .before .before .before .before .args .r .entries) (c .before .before .before .before .args .n) (frameAt m (getD (c .before .before .before .before .args .r .bases) m 0) a) j (getD (c .before .before .before .before .args .r .bases) j 0) (getD (c .before .before .before .before .args .r .counts) j 0)))) (c .before .before .before .loop .inv .1) (c .before .card-differs .ensures) (c .if1 .left))
+loop-again c =
+    let s : _ = c .before .before .before .before .before .before .before .before .before in
+    let e : _ = c .before .before .before .before .before .before .before .before .ends-of in
+    looked-more (s .args .changes .now) (s .args .entries .now) (s .args .bases) (e .result) (s .args .n) (subst (λ (l : List ℕ). Rises (s .args .changes .now) (s .args .bases) l) (sym (e .ensures)) (s .pre .1 .rises)) (c .before .before .before .before .before .before .loop .inv) (c .before .before .before .before .before .loop-test .taken) (c .before .before .before .before .heads .ensures) (c .before .before .before .heads-differ .ensures) (c .before .before .if1 .left) (c .before .past .ensures) (c .least2 .ensures) (search needs)
 
+-- src/lib.rt:190:1
 returns-2 : tie.Need-returns-2 Inv-loop μ-loop
-unfolding twoVectors
-returns-2 c = any-end (c .before .loop .i) (c .before .before .args .n) (λ m. anyBelow m (λ j. anyBelow (getD (c .before .before .args .r .counts) m 0) (λ a. differsIn (c .before .before .args .r .changes) (c .before .before .args .r .entries) (c .before .before .args .n) (frameAt m (getD (c .before .before .args .r .bases) m 0) a) j (getD (c .before .before .args .r .bases) j 0) (getD (c .before .before .args .r .counts) j 0)))) (omega arith) (c .before .loop .inv .1)
+returns-2 c =
+    let s : _ = c .before .before .before .before in
+    let e : _ = c .before .before .before .ends-of in
+    looked-done (s .args .changes .now) (s .args .entries .now) (s .args .bases) (e .result) (s .args .n) (subst (λ (l : List ℕ). Rises (s .args .changes .now) (s .args .bases) l) (sym (e .ensures)) (s .pre .1 .rises)) (c .before .loop .inv) (c .loop-test .left) (s .args .counts) (e .ensures) (s .pre .0)
 
 pub two-vectors-spec : {M : Type 1} → statement M
 two-vectors-spec =
@@ -50,10 +82,14 @@ two-vectors-spec =
     (tie.spec
     Inv-loop
     μ-loop
+    ends-of-requires
+    least-requires
     loop-holds
-    card-differs-requires
+    heads-requires
+    heads-differ-requires
     returns
-    add-i
+    past-requires
+    least-requires-2
     loop-less
     loop-again
     returns-2)
