@@ -7,7 +7,7 @@ ghost use lib.ListN.{length, getD};
 ghost use lib.Dec.{eqb, ltb};
 ghost use Rattle.laws.specs.Below.{allBelow, anyBelow};
 ghost use Rattle.merge.specs.Merge.{at};
-ghost use Rattle.readout.specs.Joint.{lowestTo, lowestOf, apart, twoVectors, jointVerdict, cardsOf, joined, readoutOf};
+ghost use Rattle.readout.specs.Joint.{lowestTo, lowestOf, apart, frameAt, twoVectors, jointVerdict, cardsOf, joined, readoutOf};
 ghost use Rattle.readout.specs.Heads.{endsOf, Orderly, listsRead, headPlace, sameEntries, firstWith, headDiffers, headsDiffer};
 ghost use Rattle.readout.specs.Single.{changesIn, rowIn, entriesIn, answered, sheetReadOf};
 ghost use Rattle.sheet.specs.Flat.{noSheet};
@@ -326,6 +326,15 @@ fn no_sheet(x: Refusal) -> SheetRead
         sheet,
         verdict: Verdict::Refused(x),
     }
+}
+
+// The place of frame a of a card, the first being 0.
+fn place(card: u32, base: u32, a: u32) -> usize
+    requires { ⌜ card < 16 ⌝ }
+    ensures at { λ r. ⌜ r ≡ frameAt card base a ⌝ }
+    ensures small { λ r. ⌜ r < 768 ⌝ }
+{
+    card as usize * 48 + (base as usize + 1 + a as usize) % 48
 }
 
 // The change numbers of a card's frames, and 0 beyond them.
