@@ -23,13 +23,13 @@ use Rattle.verdicts.specs.declared.Vector.{Vector}
 use Rattle.verdicts.specs.declared.Place.{Place}
 use Rattle.demands.specs.Lists.{Sized}
 
-by-card : {A : Type 0} (f : ℕ → A) → length (tabulate (limits16 .width) f) ≡ 16
+pub by-card : {A : Type 0} (f : ℕ → A) → length (tabulate (limits16 .width) f) ≡ 16
 by-card f = length-tabulate (limits16 .width) f ∙ width16
 
-by-place : {A : Type 0} (f : ℕ → A) → length (tabulate (limits16 .places) f) ≡ 8
+pub by-place : {A : Type 0} (f : ℕ → A) → length (tabulate (limits16 .places) f) ≡ 8
 by-place f = length-tabulate (limits16 .places) f ∙ places8
 
-set-small : (p : CardSet) → setOf p < 65536
+pub set-small : (p : CardSet) → setOf p < 65536
 set-small p = subst (λ (w : ℕ). number w p < 65536) (sym width16) (number-lt 16 p)
 
 pub zero-sized : (h : Head) → Sized (zeroCabinet h)

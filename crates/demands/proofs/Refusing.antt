@@ -6,23 +6,22 @@ use lib.ListN.{length}
 use Rattle.refusal.specs.declared.Refusal.{Refusal}
 use Rattle.refusal.specs.Number.{numberOf}
 use Rattle.bits.specs.Member.{member}
-use Rattle.frame.specs.declared.Verdict.{Verdict}
-use Rattle.frame.specs.declared.Verdict.the-variants.{Accepted, Refused}
 use Rattle.frame.specs.Format.{format}
 use Rattle.protocol.specs.Edit.{Edit}
-use Rattle.protocol.specs.Plan.{Answer, done, Reply, refused, Check, Plan, checked}
+use Rattle.protocol.specs.Plan.{Answer, Reply, refused, Check, Plan, checked}
 use Rattle.protocol.specs.Calls.{openChecks, voteChecks, takeChecks, withdrawChecks, storeChecks, trimChecks, safeChecks, loseChecks, fixChecks, rollChecks}
-use Rattle.protocol.specs.Sheets.{joinedSheets, restartReply}
-use Rattle.protocol.specs.Run.{Call, Choice, planOf, verdictReply}
+use Rattle.protocol.specs.Sheets.{sheetChecks, sheetPlan}
+use Rattle.protocol.specs.Run.{Choice, planOf}
 use Rattle.protocol.specs.Run as run
 use Rattle.protocol.proofs.Steps.{checked-case}
 use Rattle.protocol.proofs.Claims.{not-both, demand-1}
 use Rattle.verdicts.specs.Shape.{limits16}
 use Rattle.recovery.specs.Fix.{listAfter}
+use Rattle.card_sheet.specs.Card.{bufferAfter}
 use Rattle.cabinet.specs.declared.Cabinet.{Cabinet}
 use Rattle.cabinet.specs.View.{view}
 use Rattle.cabinet.specs.Apply.{Carried, applyAll}
-use Rattle.demands.specs.Lists.{Asked, opening, vote, take, withdraw, store, trim, safe, lose, fix, roll, sheet, restart, callOf, lent, RestartedTo, Answered}
+use Rattle.demands.specs.Lists.{Asked, opening, vote, take, withdraw, store, trim, safe, lose, fix, roll, sheet, restart, callOf, lent, Answered}
 use Rattle.demands.specs.Claims.{Refuses16, Demand1}
 
 no-choice : Choice
@@ -32,10 +31,6 @@ no-choice = record { named = 0; lost = [] }
 refused-keeps : (s : Cabinet) (cs : List Check) (a : Answer) (es : List Edit) (r : Refusal) → refused r ≡ checked cs a es .reply → applyAll (checked cs a es .edits) s ≡ s
 refused-keeps s cs a es r =
     checked-case (λ (p : Plan). refused r ≡ p .reply → applyAll (p .edits) s ≡ s) cs a es (λ q e. refl) (λ ps e. not-both a r (sym e))
-
-refused-restart : (v : Verdict) (bytes : List ℕ) (s t : Cabinet) (r : Refusal) → refused r ≡ verdictReply v → RestartedTo v bytes s t → t ≡ s
-refused-restart Accepted bytes s t r e d = not-both done r (sym e)
-refused-restart (Refused q) bytes s t r e d = d
 
 pub demand-1-holds : Demand1
 demand-1-holds s asked t after r d = refuses asked d
@@ -69,14 +64,15 @@ demand-1-holds s asked t after r d = refuses asked d
         }
     refuses (roll c) d = by-plan (roll c) (d .0) (refused-keeps s (rollChecks limits16 (view s) c) _ _ r) (d .1)
     refuses (sheet c buffer) d =
+        let e : refused r ≡ sheetPlan format limits16 (view s) c (length buffer) .reply = d .answer ∙ d .carried .told .answer in
         record {
-          listed = demand-1 limits16 (view s) (run.sheetCall c (length buffer)) no-choice .listed r (sym (d .answer));
-          cabinet = d .cabinet;
-          lists = d .buffer;
+          listed = demand-1 limits16 (view s) (run.sheetCall c (length buffer)) no-choice .listed r (sym e);
+          cabinet = d .carried .cabinet ∙ refused-keeps s (sheetChecks format limits16 (view s) c (length buffer)) _ _ r e;
+          lists = d .carried .told .buffer ∙ ap (λ (y : Reply). bufferAfter y buffer) (sym e);
         }
     refuses restart d =
         record {
-          listed = demand-1 limits16 (view s) run.restartCall no-choice .listed r (sym (d .0 .answer));
-          cabinet = refused-restart (restartReply (joinedSheets format limits16 (view s))) (joinedSheets format limits16 (view s)) s t r (d .0 .answer) (d .0 .cabinet);
+          listed = demand-1 limits16 (view s) run.restartCall no-choice .listed r (sym (d .0 .told .answer));
+          cabinet = d .0 .cabinet;
           lists = d .1;
         }

@@ -44,10 +44,15 @@ use Rattle.cabinet.specs.View.{view}
 use Rattle.cabinet.specs.Apply.{Carried, OpenCarried, applyAll}
 use Rattle.cabinet.specs.Fixing.{FixCarried}
 use Rattle.cabinet.specs.Fresh.{Freshly, zeroCabinet, freshHead, voidHead}
-use Rattle.demands.specs.Lists.{Asked, opening, vote, take, withdraw, store, trim, safe, lose, fix, roll, sheet, restart, callOf, Typed, lent, Sized, FixAnswered, SheetAnswered, RestartedTo, RestartAnswered, Answered, List16, start, next}
+use Rattle.demands.specs.Lists.{Asked, opening, vote, take, withdraw, store, trim, safe, lose, fix, roll, sheet, restart, callOf, Typed, lent, Sized, FixAnswered, SheetAnswered, goingOn, RestartAnswered, Answered, List16, start, next}
 use Rattle.demands.specs.Claims.{RestartsRolling, Throughout, Demands23, RestartsLeft, Anywhere}
 use Rattle.cabinet.proofs.Laws.{free-fits}
+use Rattle.sheet.proofs.Lay as lay
+use Rattle.readback.proofs.Shown.{shown as shown-readout}
+use Rattle.restart.specs.Restart.{restartedCabinet, cabinetFor}
+use Rattle.restart.proofs.Shows.{shows-restart}
 use Rattle.demands.proofs.Narrow.{Narrow}
+use Rattle.demands.proofs.Lengths.{by-card, by-place, set-small}
 use Rattle.demands.proofs.Laws.{EditsFit, Shows, edits-show}
 use Rattle.demands.proofs.Plans.{open-fits, vote-fits, take-fits, withdraw-fits, store-fits, trim-fits, safe-fits, lose-fits, fix-fits, roll-fits}
 use Rattle.demands.proofs.Fresh.{fresh-shows}
@@ -101,8 +106,8 @@ carried-step s z w call reply t p e f d =
       after = subst (λ (m : Model). Shows m t) (sym e) (planned s z w (planOf limits16 (view s) call no-choice) t f (d .cabinet));
     }
 
-sheet-keeps : (m : Model) (c places : ℕ) → afterPlan limits16 (sheetPlan format limits16 m c places) m ≡ m
-sheet-keeps m c places = checked-case (λ (p : Plan). afterPlan limits16 p m ≡ m) (sheetChecks format limits16 m c places) _ _ (λ r. refl) (λ ps. refl)
+sheet-fits : (s : Cabinet) (c places : ℕ) → EditsFit s (sheetPlan format limits16 (view s) c places .edits)
+sheet-fits s c places = checked-case (λ (p : Plan). EditsFit s (p .edits)) (sheetChecks format limits16 (view s) c places) _ _ (λ r. tt) (λ ps. tt)
 
 restarted-narrow : (r : Readout) → Narrow (restarted limits16 r)
 restarted-narrow r = record { places = λ p. free-fits; last = short; pending = short }
@@ -114,9 +119,29 @@ restarted-narrow r = record { places = λ p. free-fits; last = short; pending = 
         outside true b e = ap (λ (x : Bool). cond x (getD (r .entries) (placeOf c (storedIn r c) * 16 + k) 0) 0) e
         outside false b e = refl
 
-restarted-shows : (v : Verdict) (bytes : List ℕ) (s t : Cabinet) → Sized s → Narrow (view s) → RestartedTo v bytes s t → Shows (verdictCabinet v (restartedFrom limits16 bytes) (view s)) t
-restarted-shows Accepted bytes s t z w d = record { same = d .1; sized = d .0; narrow = restarted-narrow (readoutOf bytes .readout) }
-restarted-shows (Refused r) bytes s t z w d = subst (Shows (view s)) (sym d) (shown s z w)
+restarted-sized : (r : Readout) → lay.Sized r → Sized (restartedCabinet r)
+restarted-sized r z =
+    record {
+      entries = z .entries;
+      makers = z .changes;
+      last = by-card _;
+      pending = by-card _;
+      places = by-place _;
+      base = by-card _;
+      stored = by-card _;
+      held = by-card _;
+      reached = by-card _;
+      line = by-card _;
+      ended = by-place _;
+      rolled = set-small _;
+    }
+
+restarted-shows : (v : Verdict) (bytes : List ℕ) (s handed next : Cabinet) → Sized s → Narrow (view s) → restartReply bytes ≡ v → handed ≡ cabinetFor v (readoutOf bytes .readout)
+    → next ≡ goingOn (verdictReply v) handed s → Shows (verdictCabinet v (restartedFrom limits16 bytes) (view s)) next
+restarted-shows Accepted bytes s handed next z w v h e =
+    subst (Shows (restartedFrom limits16 bytes)) (sym (e ∙ h))
+    (record { same = shows-restart bytes v; sized = restarted-sized (readoutOf bytes .readout) (shown-readout bytes v .holds .sized); narrow = restarted-narrow (readoutOf bytes .readout) })
+restarted-shows (Refused r) bytes s handed next z w v h e = subst (Shows (view s)) (sym e) (shown s z w)
 
 pub step : (s : Cabinet) → Sized s → Narrow (view s) → (asked : Asked) → Typed asked → (reply : Reply) (t : Cabinet) (after : List ℕ) → Answered s asked reply t after → Step s (callOf asked) reply t
 step s z w (opening reads writes) y reply t after d =
@@ -145,15 +170,18 @@ step s z w (sheet c buffer) y reply t after d =
     record {
       choice = no-choice;
       proper = tt;
-      replied = d .answer;
-      after = subst₂ Shows (sym (sheet-keeps (view s) c (length buffer))) (sym (d .cabinet)) (shown s z w);
+      replied = d .answer ∙ d .carried .told .answer;
+      after = planned s z w (sheetPlan format limits16 (view s) c (length buffer)) t (sheet-fits s c (length buffer)) (d .carried .cabinet);
     }
 step s z w restart y reply t after d =
+    let bytes : List ℕ = joinedSheets format limits16 (view s) in
     record {
       choice = no-choice;
       proper = tt;
-      replied = d .0 .answer;
-      after = restarted-shows (restartReply (joinedSheets format limits16 (view s))) (joinedSheets format limits16 (view s)) s t z w (d .0 .cabinet);
+      replied = d .0 .told .answer;
+      after =
+          restarted-shows (restartReply bytes) bytes s (d .0 .handed) t z w refl (d .0 .told .cabinet)
+          (d .0 .cabinet ∙ ap (λ (x : Reply). goingOn x (d .0 .handed) s) (d .0 .told .answer));
     }
 
 -- ---- whole lists

@@ -4,24 +4,24 @@ use mathlib.Core.Path.{_≡_}
 use mathlib.Core.Bool.{Bool}
 use mathlib.Core.List.{List, []}
 use lib.ListN.{length}
-use lib.Seq.{sets}
 use Rattle.bits.specs.Member.{member}
-use Rattle.frame.specs.declared.Verdict.the-variants.{Accepted, Refused}
-use Rattle.frame.specs.declared.Verdict.{Verdict}
 use Rattle.frame.specs.Format.{format}
-use Rattle.protocol.specs.Plan.{Reply, accepted, refused, done, opened, unsafe, fixed, written}
-use Rattle.protocol.specs.Plan as plan
+use Rattle.protocol.specs.Plan.{Reply, accepted, refused, done}
 use Rattle.protocol.specs.Calls.{votePlan, takePlan, withdrawPlan, storePlan, trimPlan, safePlan, losePlan, rollPlan}
-use Rattle.protocol.specs.Sheets.{sheetPlan, joinedSheets, restartReply, restartedFrom}
+use Rattle.protocol.specs.Sheets.{joinedSheets}
 use Rattle.protocol.specs.Run as run
-use Rattle.protocol.specs.Run.{Call, Calls, none, further, verdictReply}
+use Rattle.protocol.specs.Run.{Call, Calls, none, further}
 use Rattle.verdicts.specs.Shape.{limits16}
 use Rattle.recovery.specs.declared.FixReply.{FixReply}
-use Rattle.recovery.specs.Fix.{fixReplyOf, listAfter}
+use Rattle.recovery.specs.Fix.{fixReplyOf}
 use Rattle.cabinet.specs.declared.Cabinet.{Cabinet}
 use Rattle.cabinet.specs.View.{view}
 use Rattle.cabinet.specs.Apply.{Carried, OpenCarried}
 use Rattle.cabinet.specs.Fixing.{FixCarried}
+use Rattle.cabinet.specs.Writing.{SheetCarried}
+use Rattle.card_sheet.specs.Card.{sheetReplyOf}
+use Rattle.write.specs.declared.Written.{Written}
+use Rattle.restart.specs.Restart.{Restarted}
 use Rattle.cabinet.specs.Fresh.{Freshly}
 
 -- a call with its arguments as the code takes them: a set is a number of 16 bits, and a lent list comes with what stands in it
@@ -108,30 +108,22 @@ pub record FixAnswered (s : Cabinet) (places : ℕ) (before : List ℕ) (reply :
   pub carried : FixCarried s places before after stored line told next
   pub answer : reply ≡ fixReplyOf (s .head .cards) stored line after told
 
--- the buffer after a sheet was written to its first places
-abbrev pub bufferAfter : Reply → List ℕ → List ℕ
-bufferAfter (accepted (written bytes)) l = sets l 0 bytes
-bufferAfter (accepted done) l = l
-bufferAfter (accepted (opened k)) l = l
-bufferAfter (accepted plan.safe) l = l
-bufferAfter (accepted unsafe) l = l
-bufferAfter (accepted (fixed rows lost)) l = l
-bufferAfter (refused r) l = l
-
--- a card's sheet into a lent buffer
+-- a card's sheet into a lent buffer: what its contract says, and its reply in document 01's values
 pub record SheetAnswered (s : Cabinet) (card : ℕ) (before : List ℕ) (reply : Reply) (next : Cabinet) (after : List ℕ) : Type 0 where
-  pub answer : reply ≡ sheetPlan format limits16 (view s) card (length before) .reply
-  pub cabinet : next ≡ s
-  pub buffer : after ≡ bufferAfter reply before
+  pub told : Written
+  pub carried : SheetCarried s card before after told next
+  pub answer : reply ≡ sheetReplyOf after told
 
--- restart from a read-out: a cabinet that shows what the sheets give, or a refusal, and the caller goes on with the cabinet it has
-abbrev pub RestartedTo : Verdict → List ℕ → (s next : Cabinet) → Type 0
-RestartedTo Accepted bytes s next = Sized next × (view next ≡ restartedFrom limits16 bytes)
-RestartedTo (Refused r) bytes s next = next ≡ s
+-- after a refused restart the caller goes on with the cabinet it has
+abbrev pub goingOn : Reply → (handed s : Cabinet) → Cabinet
+goingOn (accepted a) handed s = handed
+goingOn (refused r) handed s = s
 
+-- restart from the sheets of all cards, joined: what its contract says of these bytes
 pub record RestartAnswered (s : Cabinet) (reply : Reply) (next : Cabinet) : Type 0 where
-  pub answer : reply ≡ verdictReply (restartReply (joinedSheets format limits16 (view s)))
-  pub cabinet : RestartedTo (restartReply (joinedSheets format limits16 (view s))) (joinedSheets format limits16 (view s)) s next
+  pub handed : Cabinet
+  pub told : Restarted (joinedSheets format limits16 (view s)) reply handed
+  pub cabinet : next ≡ goingOn reply handed s
 
 -- what a call answers, the cabinet that it hands back, and the list or buffer lent after it: the contract of each method
 abbrev pub Answered : Cabinet → Asked → Reply → Cabinet → List ℕ → Type 0

@@ -23,7 +23,7 @@ use Rattle.protocol.specs.Model.{Model, freePlace, isCard}
 use Rattle.protocol.specs.Model as model
 use Rattle.protocol.specs.Calls.{lines}
 use Rattle.protocol.specs.Sheets.{storedIn, isIn, makerIn, vectorIn, restarted, restartReply}
-use Rattle.protocol.proofs.Lay.{Sized}
+use Rattle.sheet.proofs.Lay.{Sized}
 use Rattle.verdicts.specs.declared.Phase.the-variants.{Rolling}
 use Rattle.verdicts.specs.declared.Head.{Head}
 use Rattle.verdicts.specs.declared.Vector.{Vector}

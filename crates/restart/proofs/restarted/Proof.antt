@@ -1,7 +1,7 @@
 -- `restart::restarted` is the cabinet that restarts from a read-out. Assumes nothing.
 use mathlib.Core.Path.{_≡_}
 use lib.ListN.{replicate}
-use Rattle.protocol.proofs.Lay.{Sized}
+use Rattle.sheet.proofs.Lay.{Sized}
 use Rattle.cabinet.proofs.Told.{none-ended}
 use Rattle.restart.proofs.Shows.{restarted-is}
 use borrow.Author.Needs.{needs}
