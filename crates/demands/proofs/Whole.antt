@@ -136,12 +136,12 @@ restarted-sized r z =
       rolled = set-small _;
     }
 
-restarted-shows : (v : Verdict) (bytes : List ℕ) (s handed next : Cabinet) → Sized s → Narrow (view s) → restartReply bytes ≡ v → handed ≡ cabinetFor v (readoutOf bytes .readout)
-    → next ≡ goingOn (verdictReply v) handed s → Shows (verdictCabinet v (restartedFrom limits16 bytes) (view s)) next
-restarted-shows Accepted bytes s handed next z w v h e =
+restarted-shows : (v : Verdict) (bytes : List ℕ) (s handed t : Cabinet) → Sized s → Narrow (view s) → restartReply bytes ≡ v → handed ≡ cabinetFor v (readoutOf bytes .readout)
+    → t ≡ goingOn (verdictReply v) handed s → Shows (verdictCabinet v (restartedFrom limits16 bytes) (view s)) t
+restarted-shows Accepted bytes s handed t z w v h e =
     subst (Shows (restartedFrom limits16 bytes)) (sym (e ∙ h))
     (record { same = shows-restart bytes v; sized = restarted-sized (readoutOf bytes .readout) (shown-readout bytes v .holds .sized); narrow = restarted-narrow (readoutOf bytes .readout) })
-restarted-shows (Refused r) bytes s handed next z w v h e = subst (Shows (view s)) (sym e) (shown s z w)
+restarted-shows (Refused r) bytes s handed t z w v h e = subst (Shows (view s)) (sym e) (shown s z w)
 
 pub step : (s : Cabinet) → Sized s → Narrow (view s) → (asked : Asked) → Typed asked → (reply : Reply) (t : Cabinet) (after : List ℕ) → Answered s asked reply t after → Step s (callOf asked) reply t
 step s z w (opening reads writes) y reply t after d =
