@@ -1,4 +1,4 @@
-// What bench/sheet measures, exported to Rust: the readers' verdicts, and the largest sheet, made and written.
+// What bench/sheet measures, exported to Rust: the readers, and the largest sheet, made and written.
 use frame::Verdict;
 use sheet::Sheet;
 use write::Written;
@@ -18,11 +18,23 @@ pub extern "C" fn yerwaqis_read_readout(s: &[u8]) -> u32 {
     number_of(v)
 }
 
+// Of a sheet that is accepted the sum of an entry and a change number at a place, so that the whole sheet is made.
+fn sum_at(s: Sheet, place: usize) -> u32 {
+    let e = s.entries[place % 768];
+    let c = s.changes[place % 48];
+    std::num::wrapping_add_u32(e, c)
+}
+
+// That sum, or the number of the refusal.
 #[no_mangle]
-pub extern "C" fn yerwaqis_read_sheet(s: &[u8], card: u32) -> u32 {
+pub extern "C" fn yerwaqis_read_sheet(s: &[u8], card: u32, place: usize) -> u32 {
     let read = readout::read_sheet(s, card);
     let v = read.verdict;
-    number_of(v)
+    let sheet = read.sheet;
+    match v {
+        Verdict::Accepted => sum_at(sheet, place),
+        Verdict::Refused(r) => refusal::number(r),
+    }
 }
 
 // A sheet of 16 cards and 48 frames.
