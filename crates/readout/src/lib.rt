@@ -389,17 +389,19 @@ pub fn read_sheet(s: &[u8], card: u32) -> SheetRead
     match v {
         Verdict::Refused(x) => no_sheet(x),
         Verdict::Accepted => {
-            let r = read.readout;
+            let sessions = read.readout.sessions;
+            let bases = read.readout.bases;
+            let counts = read.readout.counts;
             let i = card as usize;
-            let session = r.sessions[i];
-            let base = r.bases[i];
-            let count = r.counts[i];
+            let session = sessions[i];
+            let base = bases[i];
+            let count = counts[i];
             let sheet = Sheet {
-                entries: entries_of(&r.entries, card, base, count),
-                changes: changes_of(&r.changes, card, base, count),
+                entries: entries_of(&read.readout.entries, card, base, count),
+                changes: changes_of(&read.readout.changes, card, base, count),
                 session,
                 card,
-                cards: r.cards,
+                cards: read.readout.cards,
                 base,
                 count,
             };

@@ -42,34 +42,34 @@ enum-told c = search needs
 mul-session : tie.Need-mul-session
 mul-session c = search needs
 
-element-copy-out-session : tie.Need-element-copy-out-session
-element-copy-out-session c = small-card (c .before)
+array-read-session : tie.Need-array-read-session
+array-read-session c = small-card (c .before .before .before)
 
 mul-base : tie.Need-mul-base
 mul-base c = search needs
 
-element-copy-out-base : tie.Need-element-copy-out-base
-element-copy-out-base c = small-card (c .before .before)
+array-read-base : tie.Need-array-read-base
+array-read-base c = small-card (c .before .before .before)
 
 mul-count : tie.Need-mul-count
 mul-count c = search needs
 
-element-copy-out-count : tie.Need-element-copy-out-count
-element-copy-out-count c = small-card (c .before .before .before)
+array-read-count : tie.Need-array-read-count
+array-read-count c = small-card (c .before .before .before)
 
 entries-of-requires : tie.Need-entries-of-requires
-entries-of-requires c κs = (search needs, small-card (c .before .before .before .before .before .before .before), small-count (c .before .before .before .before .before .before .before))
+entries-of-requires c κs = (search needs, small-card (c .before .before .before .before .before .before), small-count (c .before .before .before .before .before .before))
 
 changes-of-requires : tie.Need-changes-of-requires
-changes-of-requires c κs = (search needs, small-card (c .before .before .before .before .before .before .before .before .before .before .before), small-count (c .before .before .before .before .before .before .before .before .before .before .before))
+changes-of-requires c κs = (search needs, small-card (c .before .before .before .before .before .before .before .before .before .before), small-count (c .before .before .before .before .before .before .before .before .before .before))
 
 returns-2 : tie.Need-returns-2
 returns-2 c = c .no-sheet2 .ensures ∙ refused-sheet (c .before .before .before .before .before .before .before .args .card) (c .before .before .before .before .before .before .before .args .s .now) (c .before .before .before .before .before .if1 .left) (c .before .before .before .before .read-sheets .ensures) (c .before .before .v .given .1)
 
 returns-3 : tie.Need-returns-3
 returns-3 c =
-    let a = c .before .before .before .before .before .before .before .before .before .before .before .before .before .before .before .before .before .args in
-    let g = c .before .before .before .before .before .before .before .before .before .before .before .before .before .before .read-sheets .result in
+    let a = c .before .before .before .before .before .before .before .before .before .before .before .before .before .before .before .before .args in
+    let g = c .before .before .before .before .before .before .before .before .before .before .before .before .before .read-sheets .result in
     (λ i.
     record {
       sheet =
@@ -84,7 +84,7 @@ returns-3 c =
           };
       verdict = Accepted;
     })
-    ∙ sheet-taken (a .card) (a .s .now) (c .before .before .before .before .before .before .before .before .before .before .before .before .before .before .read-sheets .ensures) (c .before .before .before .before .before .before .before .before .before .before .before .before .enum-told .given .1) (c .before .before .before .before .before .before .before .before .before .before .before .before .before .before .before .if1 .left)
+    ∙ sheet-taken (a .card) (a .s .now) (c .before .before .before .before .before .before .before .before .before .before .before .before .before .read-sheets .ensures) (c .before .before .before .before .before .before .before .before .before .before .before .enum-told .given .1) (c .before .before .before .before .before .before .before .before .before .before .before .before .before .before .if1 .left)
 
 pub read-sheet-spec : {M : Type 1} → statement M
 read-sheet-spec =
@@ -97,11 +97,11 @@ read-sheet-spec =
     no-sheet-requires-2
     enum-told
     mul-session
-    element-copy-out-session
+    array-read-session
     mul-base
-    element-copy-out-base
+    array-read-base
     mul-count
-    element-copy-out-count
+    array-read-count
     entries-of-requires
     changes-of-requires
     returns-2
