@@ -6,7 +6,7 @@ use native.Mathlib.Numerals.{add-one}
 use lib.Dec.{eqb, ltb}
 use borrow.Author.Tests.{lt-ltb, le-ltb, eq-eqb, ne-eqb}
 use Rattle.laws.proofs.Logic.{and-intro}
-use Rattle.merge.specs.Merge.{headNumber, isHead, cardPast}
+use Rattle.merge.specs.Merge.{headNumber, cardPast}
 
 module _ (f : ℕ → ℕ) (passed end : ℕ) where
   pub head-there : passed < end → f (passed + 1) ≡ headNumber f passed end
@@ -15,11 +15,12 @@ module _ (f : ℕ → ℕ) (passed end : ℕ) where
   pub head-none : end ≤ passed → 0 ≡ headNumber f passed end
   head-none h = rw (le-ltb passed end h)
 
-  pub past-head : (k : ℕ) → passed < end → f (passed + 1) ≡ k → passed + 1 ≡ cardPast f passed end k
-  past-head k h e = rw (lt-ltb passed end h, eq-eqb (f (suc passed)) k (ap f (sym (add-one passed)) ∙ e)) (add-one passed)
+module _ (passed end head k : ℕ) where
+  pub past-head : passed < end → head ≡ k → passed + 1 ≡ cardPast passed end head k
+  past-head h e = rw (lt-ltb passed end h, eq-eqb head k e) (add-one passed)
 
-  pub past-other : (k : ℕ) → passed < end → (f (passed + 1) ≡ k → ⊥) → passed ≡ cardPast f passed end k
-  past-other k h n = rw (lt-ltb passed end h, ne-eqb (f (suc passed)) k (λ (e : f (suc passed) ≡ k). n (ap f (add-one passed) ∙ e)))
+  pub past-other : passed < end → (head ≡ k → ⊥) → passed ≡ cardPast passed end head k
+  past-other h n = rw (lt-ltb passed end h, ne-eqb head k n)
 
-  pub past-end : (k : ℕ) → end ≤ passed → passed ≡ cardPast f passed end k
-  past-end k h = rw (le-ltb passed end h)
+  pub past-end : end ≤ passed → passed ≡ cardPast passed end head k
+  past-end h = rw (le-ltb passed end h)

@@ -14,9 +14,9 @@ use Rattle.laws.specs.Below.{anyBelow}
 use Rattle.laws.proofs.Logic.{fails, clash, same-test, and-intro, and-left, and-right}
 use Rattle.laws.proofs.Below.{Found, any-intro, any-elim}
 use Rattle.laws.proofs.Fill.{getD-tabulate}
-use Rattle.merge.specs.Merge.{at, maker, headNumber, leastHead, isHead, cardPast, allPast, CardRises, Rises, cardAhead, ahead, NextOf, CardPassed, Passed}
+use Rattle.merge.specs.Merge.{at, maker, headNumber, headNumbers, leastOf, cardPast, allPast, CardRises, Rises, cardAhead, ahead, NextOf, CardPassed, Passed}
 use Rattle.merge.proofs.Next.{next-least}
-use Rattle.merge.proofs.Head.{past-head, past-other, past-end}
+use Rattle.merge.proofs.Head.{head-there, past-head, past-other, past-end}
 
 -- ---- one card
 module _ {f : ℕ → ℕ} {from end : ℕ} (r : CardRises f from end) where
@@ -108,8 +108,8 @@ module _ {f : ℕ → ℕ} {from end : ℕ} (r : CardRises f from end) where
                 omega arith
 
     -- a number above k that no head is below is passed
-    card-past : (n : ℕ) → k < n → (passed < end → n ≤ f (suc passed)) → CardPassed f from end (cardPast f passed end n) n
-    card-past n g low = by-cases (decLt passed end) (λ (h : passed < end). by-cases (ℕ-discrete (f (suc passed)) n) (moved h) (stays h)) ended
+    card-past : (n head : ℕ) → head ≡ headNumber f passed end → k < n → (passed < end → n ≤ f (suc passed)) → CardPassed f from end (cardPast passed end head n) n
+    card-past n head eh g low = by-cases (decLt passed end) (λ (h : passed < end). by-cases (ℕ-discrete (f (suc passed)) n) (moved h) (stays h)) ended
       where
         P : ℕ → Type 0
         P x = CardPassed f from end x n
@@ -117,9 +117,12 @@ module _ {f : ℕ → ℕ} {from end : ℕ} (r : CardRises f from end) where
         one : passed + 1 ≡ suc passed
         one = omega arith
 
-        moved : passed < end → f (suc passed) ≡ n → P (cardPast f passed end n)
+        head-is-next : passed < end → head ≡ f (suc passed)
+        head-is-next h = eh ∙ sym (head-there f passed end h) ∙ ap f one
+
+        moved : passed < end → f (suc passed) ≡ n → P (cardPast passed end head n)
         moved h e =
-            subst P (sym one ∙ past-head f passed end n h (ap f one ∙ e))
+            subst P (sym one ∙ past-head passed end head n h (head-is-next h ∙ e))
             (record {
               begun = let b : from ≤ passed = w .begun in omega arith;
               behind = λ x a l. by-cases (ℕ-discrete x (suc passed)) (λ (q : x ≡ suc passed). let z : f x ≡ f (suc passed) = ap f q in omega arith)
@@ -127,18 +130,18 @@ module _ {f : ℕ → ℕ} {from end : ℕ} (r : CardRises f from end) where
               before = λ x a l. let b : from ≤ passed = w .begun in let z : f (suc passed) < f x = rising (suc passed) x (omega arith) a l in omega arith;
             })
 
-        stays : passed < end → ¬ (f (suc passed) ≡ n) → P (cardPast f passed end n)
+        stays : passed < end → ¬ (f (suc passed) ≡ n) → P (cardPast passed end head n)
         stays h e =
-            subst P (past-other f passed end n h (λ (z : f (passed + 1) ≡ n). e (ap f (sym one) ∙ z)))
+            subst P (past-other passed end head n h (λ (z : head ≡ n). e (sym (head-is-next h) ∙ z)))
             (record {
               begun = w .begun;
               behind = λ x a l. let z : f x ≤ k = w .behind x a l in omega arith;
               before = λ x a l. let z : f (suc passed) ≤ f x = head-least x a l in let y : n ≤ f (suc passed) = low h in omega (arith, e);
             })
 
-        ended : ¬ (passed < end) → P (cardPast f passed end n)
+        ended : ¬ (passed < end) → P (cardPast passed end head n)
         ended h =
-            subst P (past-end f passed end n (omega (arith, h)))
+            subst P (past-end passed end head n (omega (arith, h)))
             (record {
               begun = w .begun;
               behind = λ x a l. let z : f x ≤ k = w .behind x a l in omega arith;
@@ -146,15 +149,19 @@ module _ {f : ℕ → ℕ} {from end : ℕ} (r : CardRises f from end) where
             })
 
 -- ---- all cards
+pub head-at : (makers passed ends : List ℕ) {heads : List ℕ} → heads ≡ headNumbers makers passed ends → (c : ℕ) → c < 16 → at heads c ≡ headNumber (maker makers c) (at passed c) (at ends c)
+head-at makers passed ends e c h = ap (λ (l : List ℕ). at l c) e ∙ getD-tabulate 16 (λ c. headNumber (maker makers c) (at passed c) (at ends c)) 0 c h
+
 module _ {makers from ends : List ℕ} (r : Rises makers from ends) where
   -- no number is passed yet
   pub walk-start : Passed makers from ends from 0
   walk-start = record { card = λ c h. card-start (r .card c h) }
 
   -- the least number at the heads is the least of all above those passed
-  pub walk-next : {passed : List ℕ} {k : ℕ} → Passed makers from ends passed k → NextOf (ahead makers from ends) k (leastHead makers passed ends)
-  walk-next {passed} {k} w =
-      next-least 16 (λ c. cardAhead (maker makers c) (at from c) (at ends c)) (λ c. headNumber (maker makers c) (at passed c) (at ends c)) k (λ c h. card-next (r .card c h) (w .card c h))
+  pub walk-next : {passed heads : List ℕ} {k : ℕ} → Passed makers from ends passed k → heads ≡ headNumbers makers passed ends → NextOf (ahead makers from ends) k (leastOf heads)
+  walk-next {passed} {heads} {k} w e =
+      next-least 16 (λ c. cardAhead (maker makers c) (at from c) (at ends c)) (at heads) k
+      (λ c h. subst (λ (v : ℕ). NextOf (cardAhead (maker makers c) (at from c) (at ends c)) k v) (sym (head-at makers passed ends e c h)) (card-next (r .card c h) (w .card c h)))
 
   module _ {passed : List ℕ} {k : ℕ} (w : Passed makers from ends passed k) (n : ℕ) (none : (j : ℕ) → k < j → j < n → ahead makers from ends j ≡ false) where
     -- where no number ahead is below n, no head is
@@ -173,13 +180,13 @@ module _ {makers from ends : List ℕ} (r : Rises makers from ends) where
             (eq-eqb (maker makers c (suc (at from c + (at passed c - at from c)))) (maker makers c (suc (at passed c))) (ap (maker makers c) s)))
 
     -- and the cards brought past n have passed the numbers up to it
-    pub walk-past : k < n → Passed makers from ends (allPast makers passed ends n) n
-    walk-past g =
+    pub walk-past : {heads : List ℕ} → heads ≡ headNumbers makers passed ends → k < n → Passed makers from ends (allPast passed ends heads n) n
+    walk-past {heads} e g =
         record {
           card = λ c h.
               subst (λ (x : ℕ). CardPassed (maker makers c) (at from c) (at ends c) x n)
-              (sym (getD-tabulate 16 (λ c. cardPast (maker makers c) (at passed c) (at ends c) n) 0 c h))
-              (card-past (r .card c h) (w .card c h) n g (walk-low c h));
+              (sym (getD-tabulate 16 (λ c. cardPast (at passed c) (at ends c) (at heads c) n) 0 c h))
+              (card-past (r .card c h) (w .card c h) n (at heads c) (head-at makers passed ends e c h) g (walk-low c h));
         }
 
   -- exactly the numbers above those passed are ahead

@@ -33,21 +33,17 @@ headNumber f passed end = cond (ltb passed end) (f (suc passed)) 0
 abbrev pub headNumbers : (makers passed ends : List ℕ) → List ℕ
 headNumbers makers passed ends = tabulate 16 (λ c. headNumber (maker makers c) (at passed c) (at ends c))
 
--- the least number at the heads of the cards, and 0 where there is none
-abbrev pub leastHead : (makers passed ends : List ℕ) → ℕ
-leastHead makers passed ends = leastBelow 16 (λ c. headNumber (maker makers c) (at passed c) (at ends c))
+-- the least of the cards' numbers, and 0 where there is none
+abbrev pub leastOf : (heads : List ℕ) → ℕ
+leastOf heads = leastBelow 16 (at heads)
 
--- the card's head has the number k
-abbrev pub isHead : (ℕ → ℕ) → ℕ → ℕ → ℕ → Bool
-isHead f passed end k = ltb passed end && eqb (f (suc passed)) k
-
--- the card brought past k: by one state where its head has that number
-abbrev pub cardPast : (ℕ → ℕ) → ℕ → ℕ → ℕ → ℕ
-cardPast f passed end k = cond (isHead f passed end k) (suc passed) passed
+-- the card brought past k: by one state where k is the number at its head
+abbrev pub cardPast : (passed end head k : ℕ) → ℕ
+cardPast passed end head k = cond (ltb passed end && eqb head k) (suc passed) passed
 
 -- each card brought past k
-abbrev pub allPast : (makers passed ends : List ℕ) → ℕ → List ℕ
-allPast makers passed ends k = tabulate 16 (λ c. cardPast (maker makers c) (at passed c) (at ends c) k)
+abbrev pub allPast : (passed ends heads : List ℕ) → ℕ → List ℕ
+allPast passed ends heads k = tabulate 16 (λ c. cardPast (at passed c) (at ends c) (at heads c) k)
 
 -- ---- of what the laws speak
 

@@ -13,8 +13,8 @@ use Rattle.laws.specs.Below.{allBelow, anyBelow, firstBelow, tabulate}
 use Rattle.laws.proofs.Logic.{test, clash, fails, and-intro, and-left, and-right, not-true, not-intro, cond-true, cond-false}
 use Rattle.laws.proofs.Below.{Found, all-at, all-intro, any-intro, any-elim, first-below, first-passes}
 use Rattle.laws.proofs.Fill.{getD-tabulate}
-use Rattle.merge.specs.Merge.{at, maker, headNumber, headNumbers, leastHead, allPast, Rises, cardAhead, ahead, NextOf, Passed}
-use Rattle.merge.proofs.Walk.{walk-start, walk-next, walk-past, walk-low, head-is}
+use Rattle.merge.specs.Merge.{at, maker, headNumber, headNumbers, leastOf, allPast, Rises, cardAhead, ahead, NextOf, Passed}
+use Rattle.merge.proofs.Walk.{head-is, head-at, walk-start, walk-next, walk-past, walk-low}
 use Rattle.sheet.specs.declared.Readout.{Readout}
 use Rattle.readout.specs.Joint.{frameAt, differ, differsIn, twoVectors}
 use Rattle.readout.specs.Heads.{endsOf, headPlace, sameEntries, headDiffers, firstWith, headsDiffer, listsRead}
@@ -135,7 +135,8 @@ pub record Agreed (changes entries bases ends : List ℕ) (n k : ℕ) : Type 0 w
   pub same : (i j x y : ℕ) → i < 16 → j < 16 → at bases i < x → x ≤ at ends i → at bases j < y → y ≤ at ends j → maker changes i x ≡ maker changes j y → maker changes i x ≤ k
       → sameEntries entries n (i * 48 + x % 48) (j * 48 + y % 48) ≡ true
 
-pub record Looked (changes entries bases ends : List ℕ) (n : ℕ) (passed : List ℕ) (k x : ℕ) : Type 0 where
+pub record Looked (changes entries bases ends : List ℕ) (n : ℕ) (passed heads : List ℕ) (k x : ℕ) : Type 0 where
+  pub heads-so : heads ≡ headNumbers changes passed ends
   pub walked : Passed changes bases ends passed k
   pub next : NextOf (ahead changes bases ends) k x
   pub agreed : Agreed changes entries bases ends n k
@@ -150,29 +151,27 @@ module _ (changes entries bases ends : List ℕ) (n : ℕ) (r : Rises changes ba
       (any-intro (at ends i - at bases i) (λ s. eqb (maker changes i (suc (at bases i + s))) (maker changes i x)) (x - suc (at bases i)) (omega arith)
       (eq-eqb (maker changes i (suc (at bases i + (x - suc (at bases i))))) (maker changes i x) (ap (maker changes i) e)))
 
-  pub looked-none : {x : ℕ} → x ≡ leastHead changes bases ends → x < 4294967296 → Looked changes entries bases ends n bases 0 x
-  looked-none {x} e f =
+  pub looked-none : {heads : List ℕ} {x : ℕ} → heads ≡ headNumbers changes bases ends → x ≡ leastOf heads → x < 4294967296 → Looked changes entries bases ends n bases heads 0 x
+  looked-none {heads} {x} eh e f =
       record {
+        heads-so = eh;
         walked = walk-start r;
-        next = subst (λ (v : ℕ). NextOf (ahead changes bases ends) 0 v) (sym e) (walk-next r (walk-start r));
+        next = subst (λ (v : ℕ). NextOf (ahead changes bases ends) 0 v) (sym e) (walk-next r (walk-start r) eh);
         agreed = record { same = λ i j x y hi hj ai bi aj bj q l. let p : 0 < maker changes i x = r .card i hi .some x ai bi in absurd (omega arith) };
         fits = f;
       }
 
-  module _ {passed : List ℕ} {k x : ℕ} (s : Looked changes entries bases ends n passed k x) (g : k < x) {heads : List ℕ} (eh : heads ≡ headNumbers changes passed ends) where
+  module _ {passed heads : List ℕ} {k x : ℕ} (s : Looked changes entries bases ends n passed heads k x) (g : k < x) where
     -- the frame that has the number x is at the head of its card
     at-head : (i y : ℕ) → i < 16 → at bases i < y → y ≤ at ends i → maker changes i y ≡ x → y ≡ suc (at passed i)
     at-head i y h a b e = head-is (r .card i h) (s .walked .card i h) y x a b e g (walk-low r (s .walked) x (s .next .least) i h)
-
-    head-at : (i : ℕ) → i < 16 → at heads i ≡ headNumber (maker changes i) (at passed i) (at ends i)
-    head-at i h = ap (λ (l : List ℕ). at l i) eh ∙ getD-tabulate 16 (λ c. headNumber (maker changes c) (at passed c) (at ends c)) 0 i h
 
     -- a card with the number x at its head: the state is there
     head-there : (i : ℕ) → i < 16 → at heads i ≡ x → (at passed i < at ends i) × (maker changes i (suc (at passed i)) ≡ x)
     head-there i h e =
         test (ltb (at passed i) (at ends i))
-        (λ t. (ltb-true (at passed i) (at ends i) t, sym (cond-true (maker changes i (suc (at passed i))) 0 t) ∙ sym (head-at i h) ∙ e))
-        (λ t. let z : 0 ≡ x = sym (cond-false (maker changes i (suc (at passed i))) 0 t) ∙ sym (head-at i h) ∙ e in absurd (omega arith))
+        (λ t. (ltb-true (at passed i) (at ends i) t, sym (cond-true (maker changes i (suc (at passed i))) 0 t) ∙ sym (head-at changes passed ends (s .heads-so) i h) ∙ e))
+        (λ t. let z : 0 ≡ x = sym (cond-false (maker changes i (suc (at passed i))) 0 t) ∙ sym (head-at changes passed ends (s .heads-so) i h) ∙ e in absurd (omega arith))
 
     agreed-more : headsDiffer entries heads passed n x ≡ false → Agreed changes entries bases ends n x
     agreed-more e = record { same = each }
@@ -190,17 +189,18 @@ module _ (changes entries bases ends : List ℕ) (n : ℕ) (r : Rises changes ba
             heads-of v =
                 let ei : y ≡ suc (at passed i) = at-head i y hi ai bi v in
                 let ej : z ≡ suc (at passed j) = at-head j z hj aj bj (sym q ∙ v) in
-                let ni : at heads i ≡ x = head-at i hi ∙ cond-true (maker changes i (suc (at passed i))) 0 (lt-ltb (at passed i) (at ends i) (omega arith)) ∙ ap (maker changes i) (sym ei) ∙ v in
-                let nj : at heads j ≡ x = head-at j hj ∙ cond-true (maker changes j (suc (at passed j))) 0 (lt-ltb (at passed j) (at ends j) (omega arith)) ∙ ap (maker changes j) (sym ej) ∙ sym q ∙ v in
+                let ni : at heads i ≡ x = head-at changes passed ends (s .heads-so) i hi ∙ cond-true (maker changes i (suc (at passed i))) 0 (lt-ltb (at passed i) (at ends i) (omega arith)) ∙ ap (maker changes i) (sym ei) ∙ v in
+                let nj : at heads j ≡ x = head-at changes passed ends (s .heads-so) j hj ∙ cond-true (maker changes j (suc (at passed j))) 0 (lt-ltb (at passed j) (at ends j) (omega arith)) ∙ ap (maker changes j) (sym ej) ∙ sym q ∙ v in
                 ap₂ (λ (a b : ℕ). sameEntries entries n (i * 48 + a % 48) (j * 48 + b % 48)) ei ej ∙ heads-same entries heads passed n x e i j hi hj ni nj
 
-    pub looked-more : {later : List ℕ} {y : ℕ} {t : Bool} → t ≡ headsDiffer entries heads passed n x → t ≡ false → later ≡ allPast changes passed ends x → y ≡ leastHead changes later ends → y < 4294967296
-        → Looked changes entries bases ends n later x y
-    looked-more {later} {y} d f el ey fy =
-        let w : Passed changes bases ends later x = subst (λ (l : List ℕ). Passed changes bases ends l x) (sym el) (walk-past r (s .walked) x (s .next .least) g) in
+    pub looked-more : {later ahead′ : List ℕ} {y : ℕ} {t : Bool} → t ≡ headsDiffer entries heads passed n x → t ≡ false → later ≡ allPast passed ends heads x → ahead′ ≡ headNumbers changes later ends → y ≡ leastOf ahead′ → y < 4294967296
+        → Looked changes entries bases ends n later ahead′ x y
+    looked-more {later} {ahead′} {y} d f el ea ey fy =
+        let w : Passed changes bases ends later x = subst (λ (l : List ℕ). Passed changes bases ends l x) (sym el) (walk-past r (s .walked) x (s .next .least) (s .heads-so) g) in
         record {
+          heads-so = ea;
           walked = w;
-          next = subst (λ (v : ℕ). NextOf (ahead changes bases ends) x v) (sym ey) (walk-next r w);
+          next = subst (λ (v : ℕ). NextOf (ahead changes bases ends) x v) (sym ey) (walk-next r w ea);
           agreed = agreed-more (sym d ∙ f);
           fits = fy;
         }
@@ -240,8 +240,8 @@ module _ (changes entries bases ends : List ℕ) (n : ℕ) (r : Rises changes ba
       looked-found d f = two-here (heads-two entries heads passed n x (sym d ∙ f))
 
   -- nothing is left: each pair has one vector
-  pub looked-done : {passed : List ℕ} {k x : ℕ} → Looked changes entries bases ends n passed k x → x ≤ k → (counts : List ℕ) → ends ≡ endsOf bases counts n → n ≤ 16 → false ≡ twoVectors (listsRead changes entries [] bases counts) n
-  looked-done {passed} {k} {x} s l counts es few = two-none changes entries bases counts n each
+  pub looked-done : {passed heads : List ℕ} {k x : ℕ} → Looked changes entries bases ends n passed heads k x → x ≤ k → (counts : List ℕ) → ends ≡ endsOf bases counts n → n ≤ 16 → false ≡ twoVectors (listsRead changes entries [] bases counts) n
+  looked-done {passed} {heads} {k} {x} s l counts es few = two-none changes entries bases counts n each
     where
       none : x ≡ 0
       none = by-cases (ℕ-discrete x 0) (λ (z : x ≡ 0). z) (λ (z : ¬ (x ≡ 0)). let u : k < x = s .next .above z in absurd (omega arith))

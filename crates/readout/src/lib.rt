@@ -210,17 +210,19 @@ fn two_vectors<'a>(
     let cards = n as usize;
     let ends = ends_of(bases, counts, n);
     let mut passed = bases;
+    let mut heads = merge::heads(changes, passed, ends);
     let mut k: u32 = 0;
-    let mut x = merge::least(changes, passed, ends);
+    let mut x = merge::least(heads);
     while k < x {
-        let heads = merge::heads(changes, passed, ends);
         if heads_differ(entries, heads, passed, x, cards) {
             return true;
         }
         k = x;
-        let p = merge::past(changes, passed, ends, k);
+        let p = merge::past(passed, ends, heads, k);
         passed = p;
-        let y = merge::least(changes, passed, ends);
+        let h = merge::heads(changes, passed, ends);
+        heads = h;
+        let y = merge::least(heads);
         x = y;
     }
     false

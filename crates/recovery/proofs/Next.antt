@@ -12,7 +12,7 @@ use Rattle.laws.specs.Below.{anyBelow, tabulate}
 use Rattle.laws.proofs.Logic.{test, fails, clash, or-left}
 use Rattle.laws.proofs.Fill.{any-same, getD-tabulate}
 use Rattle.verdicts.specs.Shape.{at}
-use Rattle.merge.specs.Merge.{NextOf, Rises, Passed, maker, leastHead, allPast, cardAhead, ahead}
+use Rattle.merge.specs.Merge.{NextOf, Rises, Passed, maker, headNumbers, leastOf, allPast, cardAhead, ahead}
 use Rattle.merge.proofs.Next.{next-either, next-least, next-same}
 use Rattle.merge.proofs.Walk.{walk-next, walk-past}
 use Rattle.recovery.specs.Lost.{numberAbove, leastEnded, endsOf, nextLost, framedBy, endedBy, lostBy}
@@ -60,18 +60,18 @@ module _ (makers line reached ended : List ℕ) (cards : ℕ) where
       ap (λ (a : Bool). not (eqb j 0) && (a || endedBy ended j))
       (any-same 16 (λ c. cardAhead (maker makers c) (at line c) (at (endsOf reached cards) c) j) (λ c. ltb c cards && framedBy makers c (at line c) (at reached c) j) (card-ahead j)) i
 
-module _ (makers line ends ended : List ℕ) (r : Rises makers line ends) {passed : List ℕ} {k : ℕ} (w : Passed makers line ends passed k) where
+module _ (makers line ends ended : List ℕ) (r : Rises makers line ends) {passed heads : List ℕ} {k : ℕ} (w : Passed makers line ends passed k) (eh : heads ≡ headNumbers makers passed ends) where
   same : (j : ℕ) → k < j → lostTo makers line ends ended j ≡ ahead makers line ends j || endedBy ended j
   same j h = ap (λ (b : Bool). not b && (ahead makers line ends j || endedBy ended j)) (ne-eqb j 0 (λ (z : j ≡ 0). absurd (omega arith)))
 
-  pub lost-next : NextOf (lostTo makers line ends ended) k (nextLost makers passed ends ended k)
+  pub lost-next : NextOf (lostTo makers line ends ended) k (nextLost heads ended k)
   lost-next =
       next-same (lostTo makers line ends ended) same
-      (next-either (ahead makers line ends) (endedBy ended) k (leastHead makers passed ends) (leastEnded ended k) (walk-next r w) (next-ended ended k))
+      (next-either (ahead makers line ends) (endedBy ended) k (leastOf heads) (leastEnded ended k) (walk-next r w eh) (next-ended ended k))
 
   -- the cards brought past it
-  pub lost-past : (x : ℕ) → NextOf (lostTo makers line ends ended) k x → k < x → Passed makers line ends (allPast makers passed ends x) x
+  pub lost-past : (x : ℕ) → NextOf (lostTo makers line ends ended) k x → k < x → Passed makers line ends (allPast passed ends heads x) x
   lost-past x n h =
       walk-past r w x
       (λ j l u. fails (ahead makers line ends j) (λ (t : ahead makers line ends j ≡ true). clash (same j l ∙ or-left (endedBy ended j) t) (n .least j l u)))
-      h
+      eh h

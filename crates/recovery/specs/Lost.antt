@@ -7,7 +7,7 @@ use lib.Dec.{eqb, ltb}
 use lib.ListN.{length}
 use lib.Seq.{sets}
 use Rattle.laws.specs.Below.{anyBelow, tabulate, selected}
-use Rattle.merge.specs.Merge.{lesser, leastBelow, leastHead}
+use Rattle.merge.specs.Merge.{lesser, leastBelow, leastOf}
 use Rattle.verdicts.specs.Shape.{at, ringMaker}
 
 -- the numbers that pass the test, each once, in rising order
@@ -41,8 +41,8 @@ abbrev pub endsOf : (reached : List ℕ) → (cards : ℕ) → List ℕ
 endsOf reached cards = tabulate 16 (λ c. cond (ltb c cards) (at reached c) 0)
 
 -- the number that comes next: the least at the heads of the cards or, above k, among the changes ended
-abbrev pub nextLost : (makers passed ends ended : List ℕ) → ℕ → ℕ
-nextLost makers passed ends ended k = lesser (leastHead makers passed ends) (leastEnded ended k)
+abbrev pub nextLost : (heads ended : List ℕ) → ℕ → ℕ
+nextLost heads ended k = lesser (leastOf heads) (leastEnded ended k)
 
 -- card c has a frame above the number x, up to reached, that change k made
 abbrev pub framedBy : (makers : List ℕ) → (c x reached k : ℕ) → Bool

@@ -50,16 +50,10 @@ fn ends_of(reached: [u32; 16], cards: u32) -> [u32; 16]
 }
 
 // The number of the change lost that comes next, where those up to k are met, and 0 where there is none.
-pub fn next_lost(
-    makers: &[u32; 768],
-    passed: [u32; 16],
-    ends: [u32; 16],
-    ended: [u32; 8],
-    k: u32,
-) -> u32
-    ensures { λ r. ⌜ r ≡ nextLost (now (makers .entry)) passed ends ended k ⌝ }
+pub fn next_lost(heads: [u32; 16], ended: [u32; 8], k: u32) -> u32
+    ensures { λ r. ⌜ r ≡ nextLost heads ended k ⌝ }
 {
-    let head = merge::least(makers, passed, ends);
+    let head = merge::least(heads);
     let e = next_ended(ended, k);
     merge::lesser(head, e)
 }
@@ -76,15 +70,18 @@ pub fn count_lost(
 {
     let ends = ends_of(reached, cards);
     let mut passed = line;
+    let mut heads = merge::heads(makers, passed, ends);
     let mut count: usize = 0;
     let mut k: u32 = 0;
-    let mut x = next_lost(makers, passed, ends, ended, 0);
+    let mut x = next_lost(heads, ended, 0);
     while k < x {
         count += 1;
         k = x;
-        let p = merge::past(makers, passed, ends, k);
+        let p = merge::past(passed, ends, heads, k);
         passed = p;
-        let y = next_lost(makers, passed, ends, ended, k);
+        let h = merge::heads(makers, passed, ends);
+        heads = h;
+        let y = next_lost(heads, ended, k);
         x = y;
     }
     count
@@ -112,16 +109,19 @@ pub fn write_lost<'a, 'b>(
 {
     let ends = ends_of(reached, cards);
     let mut passed = line;
+    let mut heads = merge::heads(makers, passed, ends);
     let mut n: usize = 0;
     let mut k: u32 = 0;
-    let mut x = next_lost(makers, passed, ends, ended, 0);
+    let mut x = next_lost(heads, ended, 0);
     while k < x {
         put(list, n, x);
         n += 1;
         k = x;
-        let p = merge::past(makers, passed, ends, k);
+        let p = merge::past(passed, ends, heads, k);
         passed = p;
-        let y = next_lost(makers, passed, ends, ended, k);
+        let h = merge::heads(makers, passed, ends);
+        heads = h;
+        let y = next_lost(heads, ended, k);
         x = y;
     }
 }

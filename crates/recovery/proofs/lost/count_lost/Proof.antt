@@ -8,57 +8,69 @@ use Rattle.recovery.proofs.lost.count_lost.Statement.{statement}
 use Rattle.recovery.proofs.lost.count_lost.Tie as tie
 use Rattle.recovery.proofs.lost.count_lost.Reads as reads
 use Rattle.recovery.proofs.lost.count_lost.Lts as lts
+use Rattle.merge.proofs.heads.Reads as heads-reads
 use Rattle.merge.proofs.past.Reads as past-reads
 use Rattle.recovery.proofs.lost.ends_of.Reads as ends-of-reads
 use Rattle.recovery.proofs.lost.next_lost.Reads as next-lost-reads
 
 abbrev Inv-loop : tie.InvT-loop
-Inv-loop makers ended cards ends passed₀ count₀ k₀ x₀ passed count k x = Counting makers passed₀ ends (lostTo makers passed₀ ends ended) passed count k x
+Inv-loop makers ended cards ends passed₀ heads₀ count₀ k₀ x₀ passed heads count k x = Counting makers passed₀ ends (lostTo makers passed₀ ends ended) passed heads count k x
 
 abbrev μ-loop : tie.MeasureT-loop
-μ-loop makers ended cards ends passed₀ count₀ k₀ x₀ passed count k x = 4294967296 - k
+μ-loop makers ended cards ends passed₀ heads₀ count₀ k₀ x₀ passed heads count k x = 4294967296 - k
 
--- src/lost.rt:77:9
+-- src/lost.rt:71:9
 ends-of-requires : tie.Need-ends-of-requires Inv-loop μ-loop
 ends-of-requires c κs = search needs
 
--- src/lost.rt:81:9
+-- src/lost.rt:73:9
+heads-requires : tie.Need-heads-requires Inv-loop μ-loop
+heads-requires c κs = search needs
+
+-- src/lost.rt:76:9
 next-lost-requires : tie.Need-next-lost-requires Inv-loop μ-loop
 next-lost-requires c κs = search needs
 
--- src/lost.rt:82:5
+-- src/lost.rt:77:5
 loop-holds : tie.Need-loop-holds Inv-loop μ-loop
 loop-holds c =
-    let a : _ = c .before .before .args in
-    counting-none (a .makers .now) (a .line) (c .before .ends-of .result) (a .ended) (c .next-lost .ensures) (search needs)
+    let a : _ = c .before .before .before .args in
+    let e : _ = c .before .before .ends-of in
+    counting-none (a .makers .now) (a .line) (e .result) (a .ended) (c .before .heads .ensures) (c .next-lost .ensures) (search needs)
 
--- src/lost.rt:83:9
+-- src/lost.rt:78:9
 add-count : tie.Need-add-count Inv-loop μ-loop
 add-count c = let s : _ = c .before .loop .inv .stands in omega (arith, s .few, s .fits)
 
--- src/lost.rt:85:13
+-- src/lost.rt:80:13
 past-requires : tie.Need-past-requires Inv-loop μ-loop
 past-requires c κs = search needs
 
--- src/lost.rt:87:13
+-- src/lost.rt:82:13
+heads-requires-2 : tie.Need-heads-requires-2 Inv-loop μ-loop
+heads-requires-2 c κs = search needs
+
+-- src/lost.rt:84:13
 next-lost-requires-2 : tie.Need-next-lost-requires-2 Inv-loop μ-loop
 next-lost-requires-2 c κs = search needs
 
--- src/lost.rt:82:5
+-- src/lost.rt:77:5
 loop-less : tie.Need-loop-less Inv-loop μ-loop
-loop-less c = let s : _ = c .before .before .before .loop .inv .stands in omega (arith, s .fits, c .before .before .loop-test .taken)
+loop-less c = let s : _ = c .before .before .before .before .loop .inv .stands in omega (arith, s .fits, c .before .before .before .loop-test .taken)
 
--- src/lost.rt:82:5
+-- src/lost.rt:77:5
 loop-again : tie.Need-loop-again Inv-loop μ-loop
 loop-again c =
-    let a : _ = c .before .before .before .before .before .before .args in
-    counting-more (a .makers .now) (a .line) (c .before .before .before .before .before .ends-of .result) (a .ended) (c .before .before .before .loop .inv) (c .before .before .loop-test .taken) (c .before .past .ensures) (c .next-lost2 .ensures) (search needs)
+    let a : _ = c .before .before .before .before .before .before .before .before .args in
+    let e : _ = c .before .before .before .before .before .before .before .ends-of in
+    counting-more (a .makers .now) (a .line) (e .result) (a .ended) (c .before .before .before .before .loop .inv) (c .before .before .before .loop-test .taken) (c .before .before .past .ensures) (c .before .heads2 .ensures) (c .next-lost2 .ensures) (search needs)
 
--- src/lost.rt:68:1
+-- src/lost.rt:62:1
 returns : tie.Need-returns Inv-loop μ-loop
 returns c =
-    let a : _ = c .before .before .before .before .args in
-    counting-done (a .makers .now) (a .line) (c .before .before .before .ends-of .result) (a .ended) (a .reached) (a .cards) (c .before .loop .inv) (c .loop-test .left) (c .before .before .before .ends-of .ensures)
+    let a : _ = c .before .before .before .before .before .args in
+    let e : _ = c .before .before .before .before .ends-of in
+    counting-done (a .makers .now) (a .line) (e .result) (a .ended) (a .reached) (a .cards) (c .before .loop .inv) (c .loop-test .left) (e .ensures)
 
 pub count-lost-spec : {M : Type 1} → statement M
 count-lost-spec =
@@ -67,10 +79,12 @@ count-lost-spec =
     Inv-loop
     μ-loop
     ends-of-requires
+    heads-requires
     next-lost-requires
     loop-holds
     add-count
     past-requires
+    heads-requires-2
     next-lost-requires-2
     loop-less
     loop-again

@@ -10,15 +10,15 @@ use Rattle.merge.proofs.least.Reads as least-reads
 use Rattle.merge.proofs.lesser.Reads as lesser-reads
 use Rattle.recovery.proofs.lost.next_ended.Reads as next-ended-reads
 
--- src/lost.rt:62:9
+-- src/lost.rt:56:9
 least-requires : tie.Need-least-requires
 least-requires c κs = search needs
 
--- src/lost.rt:63:9
+-- src/lost.rt:57:9
 next-ended-requires : tie.Need-next-ended-requires
 next-ended-requires c κs = search needs
 
--- src/lost.rt:64:5
+-- src/lost.rt:58:5
 lesser-requires : tie.Need-lesser-requires
 lesser-requires c κs = search needs
 

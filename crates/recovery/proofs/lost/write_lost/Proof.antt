@@ -8,67 +8,78 @@ use Rattle.recovery.proofs.lost.write_lost.Statement.{statement}
 use Rattle.recovery.proofs.lost.write_lost.Tie as tie
 use Rattle.recovery.proofs.lost.write_lost.Reads as reads
 use Rattle.recovery.proofs.lost.write_lost.Lts as lts
+use Rattle.merge.proofs.heads.Reads as heads-reads
 use Rattle.merge.proofs.past.Reads as past-reads
 use Rattle.recovery.proofs.lost.ends_of.Reads as ends-of-reads
 use Rattle.recovery.proofs.lost.next_lost.Reads as next-lost-reads
 use Rattle.recovery.proofs.lost.put.Reads as put-reads
 
 abbrev Inv-loop : tie.InvT-loop
-Inv-loop list₀ makers ended cards ends passed₀ n₀ k₀ x₀ list passed n k x = Writing makers passed₀ ends (lostTo makers passed₀ ends ended) list₀ list passed n k x
+Inv-loop list₀ makers ended cards ends passed₀ heads₀ n₀ k₀ x₀ list passed heads n k x = Writing makers passed₀ ends (lostTo makers passed₀ ends ended) list₀ list passed heads n k x
 
 abbrev μ-loop : tie.MeasureT-loop
-μ-loop list₀ makers ended cards ends passed₀ n₀ k₀ x₀ list passed n k x = 4294967296 - k
+μ-loop list₀ makers ended cards ends passed₀ heads₀ n₀ k₀ x₀ list passed heads n k x = 4294967296 - k
 
--- src/lost.rt:113:9
+-- src/lost.rt:110:9
 ends-of-requires : tie.Need-ends-of-requires Inv-loop μ-loop
 ends-of-requires c κs = search needs
 
--- src/lost.rt:117:9
+-- src/lost.rt:112:9
+heads-requires : tie.Need-heads-requires Inv-loop μ-loop
+heads-requires c κs = search needs
+
+-- src/lost.rt:115:9
 next-lost-requires : tie.Need-next-lost-requires Inv-loop μ-loop
 next-lost-requires c κs = search needs
 
--- src/lost.rt:118:5
+-- src/lost.rt:116:5
 loop-holds : tie.Need-loop-holds Inv-loop μ-loop
 loop-holds c =
-    let a : _ = c .before .before .before .args in
-    writing-none (a .makers .now) (a .line) (c .before .ends-of .result) (a .ended) (c .next-lost .ensures) (search needs)
+    let a : _ = c .before .before .before .before .args in
+    let e : _ = c .before .before .ends-of in
+    writing-none (a .makers .now) (a .line) (e .result) (a .ended) (c .before .heads .ensures) (c .next-lost .ensures) (search needs)
 
--- src/lost.rt:119:9
+-- src/lost.rt:117:9
 put-requires : tie.Need-put-requires Inv-loop μ-loop
 put-requires c κs = search needs
 
--- src/lost.rt:120:9
+-- src/lost.rt:118:9
 add-n : tie.Need-add-n Inv-loop μ-loop
 add-n c = let s : _ = c .before .before .before .before .before .loop .inv .stands in omega (arith, s .few, s .fits, c .before .before .before .before .loop-test .taken)
 
--- src/lost.rt:122:13
+-- src/lost.rt:120:13
 past-requires : tie.Need-past-requires Inv-loop μ-loop
 past-requires c κs = search needs
+
+-- src/lost.rt:122:13
+heads-requires-2 : tie.Need-heads-requires-2 Inv-loop μ-loop
+heads-requires-2 c κs = search needs
 
 -- src/lost.rt:124:13
 next-lost-requires-2 : tie.Need-next-lost-requires-2 Inv-loop μ-loop
 next-lost-requires-2 c κs = search needs
 
--- src/lost.rt:118:5
+-- src/lost.rt:116:5
 loop-less : tie.Need-loop-less Inv-loop μ-loop
-loop-less c = let s : _ = c .before .before .before .before .before .before .before .loop .inv .stands in omega (arith, s .fits, c .before .before .before .before .before .before .loop-test .taken)
+loop-less c = let s : _ = c .before .before .before .before .before .before .before .before .loop .inv .stands in omega (arith, s .fits, c .before .before .before .before .before .before .before .loop-test .taken)
 
--- src/lost.rt:118:5
+-- src/lost.rt:116:5
 loop-again : tie.Need-loop-again Inv-loop μ-loop
 loop-again c =
-    let l : _ = c .before .before .before .before .before .before .before in
-    let a : _ = l .before .before .before .before .args in
-    writing-more (a .makers .now) (a .line) (l .before .before .ends-of .result) (a .ended) (l .loop .inv) (c .before .before .before .before .before .before .loop-test .taken) (c .before .before .before .before .put .ensures) (c .before .past .ensures) (c .next-lost2 .ensures) (search needs)
+    let a : _ = c .before .before .before .before .before .before .before .before .before .before .before .before .before .args in
+    let e : _ = c .before .before .before .before .before .before .before .before .before .before .before .ends-of in
+    writing-more (a .makers .now) (a .line) (e .result) (a .ended) (c .before .before .before .before .before .before .before .before .loop .inv) (c .before .before .before .before .before .before .before .loop-test .taken) (c .before .before .before .before .before .put .ensures) (c .before .before .past .ensures) (c .before .heads2 .ensures) (c .next-lost2 .ensures) (search needs)
 
--- src/lost.rt:103:1
+-- src/lost.rt:100:1
 same-length : tie.Need-same-length Inv-loop μ-loop
 same-length c = c .before .loop .inv .long
 
--- src/lost.rt:103:1
+-- src/lost.rt:100:1
 returns : tie.Need-returns Inv-loop μ-loop
 returns c =
-    let a : _ = c .before .before .before .before .before .args in
-    writing-done (a .makers .now) (a .line) (c .before .before .before .ends-of .result) (a .ended) (a .reached) (a .cards) (c .before .loop .inv) (c .loop-test .left) (c .before .before .before .ends-of .ensures)
+    let a : _ = c .before .before .before .before .before .before .args in
+    let e : _ = c .before .before .before .before .ends-of in
+    writing-done (a .makers .now) (a .line) (e .result) (a .ended) (a .reached) (a .cards) (c .before .loop .inv) (c .loop-test .left) (e .ensures)
 
 pub write-lost-spec : {M : Type 1} → statement M
 write-lost-spec =
@@ -77,11 +88,13 @@ write-lost-spec =
     Inv-loop
     μ-loop
     ends-of-requires
+    heads-requires
     next-lost-requires
     loop-holds
     put-requires
     add-n
     past-requires
+    heads-requires-2
     next-lost-requires-2
     loop-less
     loop-again
