@@ -1,0 +1,37 @@
+// What bench/lost measures, exported to Rust: the core of fix where every state above the bases is lost.
+use recovery::FixReply;
+use verdicts::Head;
+use verdicts::Phase;
+
+// How many changes are lost of 16 cards that reached state 48 and stored none; 0 where fix is refused.
+#[no_mangle]
+pub extern "C" fn yerwaqis_fix_all_lost<'a, 'b>(
+    list: &'a mut [u32],
+    entries: &'b [u32; 12288],
+    makers: &'b [u32; 768],
+) -> usize {
+    let head = Head {
+        session: 1,
+        cards: 16,
+        count: 776,
+        phase: Phase::Down,
+    };
+    let ended = [769u32, 770, 771, 772, 773, 774, 775, 776];
+    let out = recovery::core::fix(
+        list,
+        entries,
+        makers,
+        true,
+        head,
+        [0u32; 16],
+        [0u32; 16],
+        [48u32; 16],
+        ended,
+        16,
+    );
+    let r = out.reply;
+    match r {
+        FixReply::Fixed(n) => n,
+        FixReply::NotFixed(_) => 0,
+    }
+}
