@@ -3,6 +3,7 @@ ghost use Prim.Native.Nat.{ℕ, _+_, _*_, _<_, _≤_};
 ghost use mathlib.Core.Path.{_≡_};
 ghost use mathlib.Core.Bool.{not, cond};
 ghost use mathlib.Core.List.{[]};
+ghost use lib.Dec.{ltb};
 ghost use Rattle.history.specs.Line.{orphan, lineFrom};
 ghost use Rattle.laws.specs.Below.{tabulate};
 ghost use Rattle.bits.specs.Member.{member};
@@ -35,6 +36,13 @@ pub struct Outcome {
     pub reply: FixReply,
 }
 
+// "at or above stored": an entry is kept as the number above its state, 0 for none.
+fn hits(entry: u32, stored: u32) -> bool
+    ensures { λ r. ⌜ r ≡ ltb stored entry ⌝ }
+{
+    (stored as u64) + 1 <= (entry as u64)
+}
+
 // "A state is hit when some entry of its vector, for card j, is at or above stored of j": the vector that begins at a place of the ring.
 fn orphan_from(entries: &[u32; 12288], stored: [u32; 16], from: usize) -> bool
     requires { ⌜ from + 16 ≤ 12288 ⌝ }
@@ -43,7 +51,7 @@ fn orphan_from(entries: &[u32; 12288], stored: [u32; 16], from: usize) -> bool
     let mut hit = false;
     let mut j: usize = 0;
     while j < 16 {
-        hit = hit | (stored[j] < entries[from + j]);
+        hit = hit | hits(entries[from + j], stored[j]);
         j += 1;
     }
     hit
