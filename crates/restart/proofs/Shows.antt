@@ -22,7 +22,9 @@ use Rattle.history.specs.Line.{orphan, climb, lineFrom}
 use Rattle.protocol.specs.Model.{Model, freePlace, isCard}
 use Rattle.protocol.specs.Model as model
 use Rattle.protocol.specs.Calls.{lines}
-use Rattle.protocol.specs.Sheets.{storedIn, isIn, makerIn, vectorIn, restarted, restartReply}
+use Rattle.frame.specs.Format.{format}
+use Rattle.protocol.specs.Sound.{sound}
+use Rattle.protocol.specs.Sheets.{joinedSheets, storedIn, isIn, makerIn, vectorIn, restarted, restartReply, restartedFrom}
 use Rattle.sheet.proofs.Lay.{Sized}
 use Rattle.verdicts.specs.declared.Phase.the-variants.{Rolling}
 use Rattle.verdicts.specs.declared.Head.{Head}
@@ -35,6 +37,8 @@ use Rattle.cabinet.specs.declared.Cabinet.{Cabinet}
 use Rattle.cabinet.specs.View.{view}
 use Rattle.cabinet.proofs.Laws.{beyond, places-by, no-place, open-back, free-fits}
 use Rattle.readback.proofs.Shown.{Shown, shown}
+use Rattle.readback.proofs.Again.{writes-the-same}
+use Rattle.readback.proofs.Whole.{never-refused-28}
 use Rattle.cabinet.specs.Fresh.{zeroCabinet, voidHead}
 use Rattle.refusal.specs.declared.Refusal.{Refusal}
 use Rattle.frame.specs.declared.Verdict.{Verdict}
@@ -42,7 +46,7 @@ use Rattle.frame.specs.declared.Verdict.the-variants.{Accepted, Refused}
 use Rattle.sheet.specs.declared.Reading.{Reading}
 use Rattle.protocol.specs.Plan.{done, accepted, refused}
 use Rattle.protocol.specs.Run.{verdictReply}
-use Rattle.restart.specs.Restart.{cabinetOf, restartedCabinet, cabinetFor, Restarted, ShowsRestart, Within}
+use Rattle.restart.specs.Restart.{cabinetOf, restartedCabinet, cabinetFor, Restarted, RestartGoesOn, VoidRefused, Within}
 
 -- the vectors of all cards, read back
 vectors-by : (f : ℕ → history.Vector) → ((c k : ℕ) → 16 ≤ k → f c k ≡ 0) → ((c : ℕ) → 16 ≤ c → (k : ℕ) → f c k ≡ 0) → vectorAt (tabulate (limits16 .width) (λ c. vectorFor (f c))) ≡ f
@@ -225,8 +229,19 @@ restarted-is r z w s line ended vs ps low rolled es el er ev eh ep en =
       head = record { session = el i; cards = r .cards; count = 0; phase = Rolling };
     }
 
-pub shows-restart : ShowsRestart
-shows-restart bytes e = view-law (readoutOf bytes .readout) (shown bytes e .holds .sized)
+-- ---- the cabinet behind a restart
+pub restart-goes-on : RestartGoesOn
+restart-goes-on bytes reply next h e =
+    let v : view next ≡ restartedFrom limits16 bytes =
+    ap view (h .cabinet ∙ ap (λ (x : Verdict). cabinetFor x (readoutOf bytes .readout)) e) ∙ view-law (readoutOf bytes .readout) (shown bytes e .holds .sized) in
+    record {
+      shows = v;
+      passes28 = ap (sound limits16) v ∙ never-refused-28 bytes e;
+      writes = ap (joinedSheets format limits16) v ∙ writes-the-same bytes e;
+    }
+
+pub void-refused : VoidRefused
+void-refused = refl
 
 -- what an accepted read-out shows of its numbers
 pub within : (bytes : List ℕ) → Shown bytes → Within (readoutOf bytes .readout)

@@ -1,8 +1,10 @@
 -- The cabinet that a restart hands back, list by list.
 use Prim.Native.Nat.{ℕ, _+_, _≤_, _<_}
 use mathlib.Core.Path.{_≡_}
+use mathlib.Core.Bool.{true, false}
 use mathlib.Core.List.{List}
 use Rattle.laws.specs.Below.{tabulate}
+use Rattle.frame.specs.Format.{format}
 use Rattle.frame.specs.declared.Verdict.{Verdict}
 use Rattle.frame.specs.declared.Verdict.the-variants.{Accepted, Refused}
 use Rattle.sheet.specs.declared.Readout.{Readout}
@@ -11,7 +13,8 @@ use Rattle.protocol.specs.Model.{Model}
 use Rattle.protocol.specs.Model as model
 use Rattle.protocol.specs.Plan.{Reply}
 use Rattle.protocol.specs.Run.{verdictReply}
-use Rattle.protocol.specs.Sheets.{restarted, restartReply, restartedFrom}
+use Rattle.protocol.specs.Sound.{sound}
+use Rattle.protocol.specs.Sheets.{joinedSheets, restarted, restartReply, restartedFrom}
 use Rattle.verdicts.specs.declared.Phase.{Phase}
 use Rattle.verdicts.specs.declared.Phase.the-variants.{Up, Down, Rolling}
 use Rattle.verdicts.specs.Shape.{limits16, at, listOf, setOf, vectorFor, placeFor}
@@ -64,6 +67,15 @@ pub record Within (r : Readout) : Type 0 where
   pub states : (c : ℕ) → c < 16 → at (r .bases) c + at (r .counts) c ≤ 60000
   pub absent : (c : ℕ) → r .cards ≤ c → at (r .counts) c ≡ 0
 
--- the restarted cabinet shows the model that the demands speak of
-abbrev pub ShowsRestart : Type 0
-ShowsRestart = (bytes : List ℕ) → restartReply bytes ≡ Accepted → view (restartedCabinet (readoutOf bytes .readout)) ≡ restartedFrom limits16 bytes
+-- The cabinet behind an accepted restart shows the model that the demands speak of, is never refused with 28, and writes the very bytes that it restarted from.
+pub record GoesOn (bytes : List ℕ) (next : Cabinet) : Type 0 where
+  pub shows : view next ≡ restartedFrom limits16 bytes
+  pub passes28 : sound limits16 (view next) ≡ true
+  pub writes : joinedSheets format limits16 (view next) ≡ bytes
+
+abbrev pub RestartGoesOn : Type 0
+RestartGoesOn = (bytes : List ℕ) (reply : Reply) (next : Cabinet) → Restarted bytes reply next → restartReply bytes ≡ Accepted → GoesOn bytes next
+
+-- The void cabinet behind a refused one is always refused with 28.
+abbrev pub VoidRefused : Type 0
+VoidRefused = sound limits16 (view (zeroCabinet voidHead)) ≡ false
