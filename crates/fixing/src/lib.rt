@@ -1,0 +1,44 @@
+// 9. fix as its caller has it: card records and the numbers of the changes lost, each in a lent list.
+ghost use mathlib.Core.Path.{_≡_};
+ghost use Rattle.fixing.specs.Lent.{numbersOf, FixLent};
+use cabinet::Cabinet;
+use cabinet::recover::FixAnswer;
+use records::CardNumbers;
+use records::CardRecord;
+use recovery::FixReply;
+
+// What there is to put into the list of card records: the numbers of every card, and of none where fix is refused.
+fn numbers_of(answer: FixAnswer) -> CardNumbers
+    ensures { λ r. ⌜ r ≡ numbersOf answer ⌝ }
+{
+    let cards = answer.cabinet.head.cards;
+    let stored = answer.stored;
+    let line = answer.line;
+    let reply = answer.reply;
+    match reply {
+        FixReply::Fixed(_) => CardNumbers {
+            cards: cards as usize,
+            stored: stored,
+            line: line,
+        },
+        FixReply::NotFixed(_) => CardNumbers {
+            cards: 0,
+            stored: stored,
+            line: line,
+        },
+    }
+}
+
+// 9. fix: a refusal, 4 the last of all, changes neither list nor cabinet.
+pub fn fix<'a, 'b>(
+    cabinet: Cabinet,
+    records: &'a mut [CardRecord],
+    list: &'b mut [u32],
+) -> FixAnswer
+    ensures { λ r. ⌜ FixLent cabinet (now (records .entry)) (now (records .exit)) (now (list .entry)) (now (list .exit)) (r .stored) (r .line) (r .reply) (r .cabinet) ⌝ }
+{
+    let answer = cabinet.fix(records.len(), list);
+    let numbers = numbers_of(answer);
+    records::fill(records, numbers);
+    answer
+}
