@@ -1,15 +1,15 @@
 -- The list of card records that is filled from what fix answered is the one that fix's plan says. Assumes nothing.
 use Prim.Native.Nat.{ℕ, zero, suc, _≤_, _<_}
 use mathlib.Core.Path.{_≡_, refl, sym, _∙_, ap}
-use mathlib.Core.Bool.{Bool, true, false, not, _&&_, _||_}
+use mathlib.Core.Bool.{Bool, true, false, not, _&&_, _||_, cond}
 use mathlib.Core.List.{List, [], _∷_, _++_, map}
 use native.Mathlib.Omega.{arith}
 use lib.Dec.{leb, ltb}
 use lib.ListN.{length, take}
 use lib.Seq.{sets}
-use borrow.Author.Tests.{lt-ltb, le-ltb, ltb-false, not-true, not-false}
-use Rattle.laws.specs.Below.{allBelow, anyBelow, countBelow, selected, tabulate}
-use Rattle.laws.proofs.Logic.{and-left, and-right}
+use borrow.Author.Tests.{lt-ltb, le-ltb, le-leb, ltb-false, not-true, not-false}
+use Rattle.laws.specs.Below.{allBelow, anyBelow, selected, tabulate}
+use Rattle.laws.proofs.Logic.{and-left, and-right, and-intro, cond-true, cond-case}
 use Rattle.laws.proofs.Below.{selected-first, count-first}
 use Rattle.refusal.specs.declared.Refusal.{Refusal}
 use Rattle.refusal.specs.declared.Refusal.the-variants.{BadCabinet, WrongPhase, TooShort, LimitReached}
@@ -36,8 +36,20 @@ use Rattle.cabinet.specs.Fixing.{FixCarried}
 use Rattle.records.specs.declared.CardRecord.{CardRecord}
 use Rattle.records.specs.declared.CardNumbers.{CardNumbers}
 use Rattle.records.specs.Records.{recordAt, filled}
-use Rattle.records.proofs.Filled.{filled-none, filled-all}
 use Rattle.fixing.specs.Lent.{recordOf, recordsAfter, cardsIn, numbersOf, FixLent}
+
+-- ---- a filled list of card records
+-- with no card nothing is written
+filled-none : (h : CardNumbers) (l : List CardRecord) → h .cards ≡ 0 → filled h l ≡ l
+filled-none h l e =
+    ap (λ (k : ℕ). sets l 0 (tabulate k (recordAt h)))
+    (cond-case (λ (k : ℕ). k ≡ 0) (leb (h .cards) 16 && leb (h .cards) (length l)) (λ t. e) (λ t. refl))
+
+-- where every card has a place, every card's record is written
+filled-all : (h : CardNumbers) (l : List CardRecord) (n : ℕ) → h .cards ≡ n → n ≤ 16 → n ≤ length l → filled h l ≡ sets l 0 (tabulate n (recordAt h))
+filled-all h l n e few fit =
+    ap (λ (k : ℕ). sets l 0 (tabulate k (recordAt h)))
+    (ap (λ (k : ℕ). cond (leb k 16 && leb k (length l)) k 0) e ∙ cond-true n 0 (and-intro (le-leb n 16 few) (le-leb n (length l) fit)))
 
 -- ---- lists
 map-append : {A B : Type 0} (f : A → B) (xs ys : List A) → map f (xs ++ ys) ≡ map f xs ++ map f ys
