@@ -7,6 +7,12 @@ use records::CardNumbers;
 use records::CardRecord;
 use recovery::FixReply;
 
+// What fix hands back to a caller whose card records are an array of its own.
+pub struct RecordsAnswer {
+    pub answer: FixAnswer,
+    pub records: [CardRecord; 16],
+}
+
 // What there is to put into the list of card records: the numbers of every card, and of none where fix is refused.
 fn numbers_of(answer: FixAnswer) -> CardNumbers
     ensures { λ r. ⌜ r ≡ numbersOf answer ⌝ }
@@ -41,4 +47,26 @@ pub fn fix<'a, 'b>(
     let numbers = numbers_of(answer);
     records::fill(records, numbers);
     answer
+}
+
+// The answer and the card records together.
+fn with_records(answer: FixAnswer, records: [CardRecord; 16]) -> RecordsAnswer
+    ensures { λ r. ⌜ (r .answer ≡ answer) × (r .records ≡ records) ⌝ }
+{
+    RecordsAnswer {
+        answer: answer,
+        records: records,
+    }
+}
+
+// 9. fix for a caller whose card records are an array by value: it lends them, and hands them back.
+pub fn fix_array<'a>(
+    cabinet: Cabinet,
+    mut records: [CardRecord; 16],
+    list: &'a mut [u32],
+) -> RecordsAnswer
+    ensures { λ r. ⌜ FixLent cabinet records (r .records) (now (list .entry)) (now (list .exit)) (r .answer .stored) (r .answer .line) (r .answer .reply) (r .answer .cabinet) ⌝ }
+{
+    let answer = fix(cabinet, &mut records, list);
+    with_records(answer, records)
 }
