@@ -1,0 +1,76 @@
+-- Laws of a line: its numbers as they are read one after the other, its word, and where the next one begins. Assumes nothing.
+use Prim.Native.Nat.{ℕ, _+_, _-_, _≤_, _<_}
+use mathlib.Core.Path.{_≡_, refl, sym, _∙_, ap, ap₂}
+use mathlib.Core.Bool.{Bool, true, false, cond}
+use mathlib.Core.List.{List}
+use native.Mathlib.Omega.{arith}
+use lib.Dec.{eqb, leb, ltb}
+use lib.ListN.{length, getD, take, drop, length-drop}
+use borrow.Author.Tests.{le-leb, lt-leb, lt-ltb, le-ltb, eq-eqb, ne-eqb}
+use Rattle.decimal.specs.declared.Reading.{Reading}
+use Rattle.decimal.specs.Answers.{readAt}
+use Rattle.words.specs.declared.Figure.{Figure}
+use Rattle.words.specs.declared.Figure.the-variants.{Nothing, Other}
+use Rattle.words.specs.declared.Figures.{Figures}
+use Rattle.words.specs.declared.Spoken.{Spoken}
+use Rattle.words.specs.declared.Spoken.the-variants.{Unreadable}
+use Rattle.words.specs.declared.Heard.the-variants.{Line, End}
+use Rattle.words.specs.Line.{before, asFigure, nextFigure, goOn, figuresAt}
+use Rattle.words.specs.Calls.{sayWith, saysLine, lineEnd, nextLine, heardAt}
+use Rattle.words.proofs.Texts.{before-take, before-length}
+
+module _ (s : List ℕ) (at : ℕ) where
+  pub figure-end : length s ≤ at → Nothing ≡ nextFigure s at
+  figure-end h = rw (le-leb (length s) at h)
+
+  pub figure-other : at < length s → (getD s at 0 ≡ 32 → ⊥) → Other ≡ nextFigure s at
+  figure-other h n = rw (lt-leb (length s) at h, ne-eqb (getD s at 0) 32 n)
+
+  pub figure-read : at < length s → getD s at 0 ≡ 32 → (r q : Reading) → r ≡ readAt s (at + 1) → r ≡ q → asFigure q ≡ nextFigure s at
+  figure-read h e r q p z = ap asFigure (sym z ∙ p) ∙ sym (rw (lt-leb (length s) at h, eq-eqb (getD s at 0) 32 e))
+
+-- what was found at a place, and what was made of it
+pub go-on : (here : Figures) (more : ℕ → ℕ → Figures) {f g k : Figure} {r : Figures} → f ≡ g → f ≡ k → r ≡ goOn k here more → r ≡ goOn g here more
+go-on here more e z p = p ∙ ap (λ (x : Figure). goOn x here more) (sym z ∙ e)
+
+-- ---- whole lines
+
+-- the word and the numbers of a line that is not too long
+pub says-long : (l : List ℕ) → 128 < length l → Unreadable ≡ saysLine l
+says-long l h = rw (lt-ltb 128 (length l) h)
+
+pub says-read : (l : List ℕ) (end : ℕ) {f : Figures} {r : Spoken} → length l ≤ 128 → end ≡ 0 + length (before 32 (drop 0 l)) → f ≡ figuresAt l end → r ≡ sayWith (take (end - 0) (drop 0 l)) f → r ≡ saysLine l
+says-read l end {f} {r} h e g p =
+    p ∙ ap₂ sayWith (ap (λ (k : ℕ). take k l) from-start ∙ before-take 32 l) (g ∙ ap (figuresAt l) at-word)
+    ∙ sym (ap (λ (b : Bool). cond b Unreadable (sayWith (before 32 l) (figuresAt l (length (before 32 l))))) (le-ltb 128 (length l) h))
+  where
+    at-word : end ≡ length (before 32 l)
+    at-word = omega arith
+
+    from-start : end - 0 ≡ length (before 32 l)
+    from-start = omega arith
+
+-- the place where a byte was found is inside the text
+pub found-within : (s : List ℕ) (from b : ℕ) {r : ℕ} → from ≤ length s → r ≡ from + length (before b (drop from s)) → r ≤ length s
+found-within s from b h e = omega (arith, before-length b (drop from s), length-drop from s)
+
+-- a line of a text, and where the next one begins
+pub heard-end : (s : List ℕ) (from : ℕ) → length s ≤ from → End ≡ heardAt s from
+heard-end s from h = rw (le-leb (length s) from h)
+
+module _ (s : List ℕ) (from end : ℕ) {r : Spoken} (h : from < length s) (e : end ≡ from + length (before 10 (drop from s))) (p : r ≡ saysLine (take (end - from) (drop from s))) where
+  line-said : r ≡ saysLine (before 10 (drop from s))
+  line-said =
+      let k : end - from ≡ length (before 10 (drop from s)) = omega arith in
+      p ∙ ap (λ (n : ℕ). saysLine (take n (drop from s))) k ∙ ap saysLine (before-take 10 (drop from s))
+
+  line-heard : (n : ℕ) → n ≡ nextLine s from → Line r n ≡ heardAt s from
+  line-heard n q = ap₂ Line line-said q ∙ sym (ap (λ (b : Bool). cond b End (Line (saysLine (before 10 (drop from s))) (nextLine s from))) (lt-leb (length s) from h))
+
+  pub heard-more : end < length s → Line r (end + 1) ≡ heardAt s from
+  heard-more l =
+      line-heard (end + 1)
+      (ap (λ (k : ℕ). k + 1) e ∙ sym (ap (λ (b : Bool). cond b (lineEnd s from + 1) (lineEnd s from)) (lt-ltb (lineEnd s from) (length s) (omega arith))))
+
+  pub heard-last : length s ≤ end → Line r end ≡ heardAt s from
+  heard-last l = line-heard end (e ∙ sym (ap (λ (b : Bool). cond b (lineEnd s from + 1) (lineEnd s from)) (le-ltb (lineEnd s from) (length s) (omega arith))))

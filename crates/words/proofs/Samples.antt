@@ -1,0 +1,55 @@
+-- The definitions at lines that are written out. Assumes nothing.
+use Prim.Native.Nat.{ℕ}
+use mathlib.Core.Path.{_≡_, refl}
+use mathlib.Core.Bool.{true}
+use mathlib.Core.List.{List, [], _∷_, _++_}
+use Rattle.words.specs.declared.Spoken.the-variants.{Open, Vote, Trim, Fix, Unreadable}
+use Rattle.words.specs.declared.Heard.the-variants.{Line, End}
+use Rattle.words.specs.Calls.{openName, voteName, trimName, fixName, saysLine, heardAt}
+
+-- "open 01 0" is an opening that reads card 0, since leading zeros are digits; "open  1 0", "open 1" and "open 1 0 " are none
+open-zeros : saysLine (openName ++ (32 ∷ 48 ∷ 49 ∷ 32 ∷ 48 ∷ [])) ≡ Open 1 0
+open-zeros = refl
+
+two-spaces : saysLine (openName ++ (32 ∷ 32 ∷ 49 ∷ 32 ∷ 48 ∷ [])) ≡ Unreadable
+two-spaces = refl
+
+missing-word : saysLine (openName ++ (32 ∷ 49 ∷ [])) ≡ Unreadable
+missing-word = refl
+
+last-space : saysLine (openName ++ (32 ∷ 49 ∷ 32 ∷ 48 ∷ 32 ∷ [])) ≡ Unreadable
+last-space = refl
+
+-- "vote 1 0 01" is a yes, and "vote 1 0 2" is unreadable
+vote-yes : saysLine (voteName ++ (32 ∷ 49 ∷ 32 ∷ 48 ∷ 32 ∷ 48 ∷ 49 ∷ [])) ≡ Vote 1 0 true
+vote-yes = refl
+
+vote-two : saysLine (voteName ++ (32 ∷ 49 ∷ 32 ∷ 48 ∷ 32 ∷ 50 ∷ [])) ≡ Unreadable
+vote-two = refl
+
+-- "trim" with a byte 13 after it, and an empty line
+trim-return : saysLine (trimName ++ (13 ∷ [])) ≡ Unreadable
+trim-return = refl
+
+empty-line : saysLine [] ≡ Unreadable
+empty-line = refl
+
+-- "fix 16 776" and "fix 17 0"
+fix-most : saysLine (fixName ++ (32 ∷ 49 ∷ 54 ∷ 32 ∷ 55 ∷ 55 ∷ 54 ∷ [])) ≡ Fix 16 776
+fix-most = refl
+
+fix-over : saysLine (fixName ++ (32 ∷ 49 ∷ 55 ∷ 32 ∷ 48 ∷ [])) ≡ Unreadable
+fix-over = refl
+
+-- two lines, the last with no byte 10
+abbrev two : List ℕ
+two = trimName ++ (10 ∷ trimName)
+
+first-line : heardAt two 0 ≡ Line Trim 5
+first-line = refl
+
+last-line : heardAt two 5 ≡ Line Trim 9
+last-line = refl
+
+no-line : heardAt two 9 ≡ End
+no-line = refl

@@ -1,0 +1,116 @@
+-- Which call a line is, by its word and its numbers, and where the lines of a text begin.
+use Prim.Native.Nat.{ℕ, _+_}
+use mathlib.Core.Bool.{Bool, _&&_, cond}
+use mathlib.Core.List.{List, [], _∷_}
+use lib.Dec.{eqb, leb, ltb}
+use lib.ListN.{length, drop}
+use Rattle.words.specs.declared.Spoken.{Spoken}
+use Rattle.words.specs.declared.Spoken.the-variants.{Fresh, Open, Vote, Take, Withdraw, Store, Trim, Safe, Lose, Fix, Roll, Sheet, Restart, Show, Unreadable}
+use Rattle.words.specs.declared.Heard.{Heard}
+use Rattle.words.specs.declared.Heard.the-variants.{Line, End}
+use Rattle.words.specs.declared.Figures.{Figures}
+use Rattle.words.specs.declared.Figures.the-variants.{Zero, One, Two, Three, Malformed}
+use Rattle.words.specs.Line.{before, same, figuresAt}
+
+-- ---- the names of the calls, as bytes
+
+abbrev pub freshName : List ℕ
+freshName = 102 ∷ 114 ∷ 101 ∷ 115 ∷ 104 ∷ []
+
+abbrev pub openName : List ℕ
+openName = 111 ∷ 112 ∷ 101 ∷ 110 ∷ []
+
+abbrev pub voteName : List ℕ
+voteName = 118 ∷ 111 ∷ 116 ∷ 101 ∷ []
+
+abbrev pub takeName : List ℕ
+takeName = 116 ∷ 97 ∷ 107 ∷ 101 ∷ []
+
+abbrev pub withdrawName : List ℕ
+withdrawName = 119 ∷ 105 ∷ 116 ∷ 104 ∷ 100 ∷ 114 ∷ 97 ∷ 119 ∷ []
+
+abbrev pub storeName : List ℕ
+storeName = 115 ∷ 116 ∷ 111 ∷ 114 ∷ 101 ∷ []
+
+abbrev pub trimName : List ℕ
+trimName = 116 ∷ 114 ∷ 105 ∷ 109 ∷ []
+
+abbrev pub safeName : List ℕ
+safeName = 115 ∷ 97 ∷ 102 ∷ 101 ∷ []
+
+abbrev pub loseName : List ℕ
+loseName = 108 ∷ 111 ∷ 115 ∷ 101 ∷ []
+
+abbrev pub fixName : List ℕ
+fixName = 102 ∷ 105 ∷ 120 ∷ []
+
+abbrev pub rollName : List ℕ
+rollName = 114 ∷ 111 ∷ 108 ∷ 108 ∷ []
+
+abbrev pub sheetName : List ℕ
+sheetName = 115 ∷ 104 ∷ 101 ∷ 101 ∷ 116 ∷ []
+
+abbrev pub restartName : List ℕ
+restartName = 114 ∷ 101 ∷ 115 ∷ 116 ∷ 97 ∷ 114 ∷ 116 ∷ []
+
+abbrev pub showName : List ℕ
+showName = 115 ∷ 104 ∷ 111 ∷ 119 ∷ []
+
+-- ---- the calls, by how many numbers they have
+
+abbrev pub sayBare : List ℕ → Spoken
+sayBare w = cond (same w trimName) Trim (cond (same w restartName) Restart (cond (same w showName) Show Unreadable))
+
+abbrev pub sayOne : List ℕ → ℕ → Spoken
+sayOne w a =
+    cond (same w freshName) (Fresh a)
+    (cond (same w withdrawName) (Withdraw a)
+    (cond (same w safeName) (Safe a)
+    (cond (same w loseName) (Lose a)
+    (cond (same w rollName) (Roll a) Unreadable))))
+
+-- fix, with at most 16 card records and 776 change numbers
+abbrev pub asFix : (records numbers : ℕ) → Spoken
+asFix a b = cond (leb a 16 && leb b 776) (Fix a b) Unreadable
+
+-- sheet, with at most 65536 bytes
+abbrev pub asSheet : (card bytes : ℕ) → Spoken
+asSheet a b = cond (leb b 65536) (Sheet a b) Unreadable
+
+-- a vote, which is 0 or 1
+abbrev pub asVote : (change card yes : ℕ) → Spoken
+asVote a b c = cond (leb c 1) (Vote a b (eqb c 1)) Unreadable
+
+abbrev pub sayTwo : List ℕ → (a b : ℕ) → Spoken
+sayTwo w a b =
+    cond (same w openName) (Open a b)
+    (cond (same w takeName) (Take a b)
+    (cond (same w storeName) (Store a b)
+    (cond (same w fixName) (asFix a b)
+    (cond (same w sheetName) (asSheet a b) Unreadable))))
+
+abbrev pub sayThree : List ℕ → (a b c : ℕ) → Spoken
+sayThree w a b c = cond (same w voteName) (asVote a b c) Unreadable
+
+abbrev pub sayWith : List ℕ → Figures → Spoken
+sayWith w Zero = sayBare w
+sayWith w (One a) = sayOne w a
+sayWith w (Two a b) = sayTwo w a b
+sayWith w (Three a b c) = sayThree w a b c
+sayWith w Malformed = Unreadable
+
+-- what a line of at most 128 bytes says: its word is what stands before the first space
+abbrev pub saysLine : List ℕ → Spoken
+saysLine l = cond (ltb 128 (length l)) Unreadable (sayWith (before 32 l) (figuresAt l (length (before 32 l))))
+
+-- ---- the lines of a text, each ended by byte 10 or by the end of the text
+
+abbrev pub lineEnd : List ℕ → ℕ → ℕ
+lineEnd s from = from + length (before 10 (drop from s))
+
+-- the next line begins after the byte 10, where there is one
+abbrev pub nextLine : List ℕ → ℕ → ℕ
+nextLine s from = cond (ltb (lineEnd s from) (length s)) (lineEnd s from + 1) (lineEnd s from)
+
+abbrev pub heardAt : List ℕ → ℕ → Heard
+heardAt s from = cond (leb (length s) from) End (Line (saysLine (before 10 (drop from s))) (nextLine s from))

@@ -1,0 +1,313 @@
+// What a line of a list of calls says: a word, and numbers after it, each after one space.
+ghost use Prim.Native.Nat.{_+_, _≤_};
+ghost use mathlib.Core.Path.{_≡_};
+ghost use lib.ListN.{length, drop};
+ghost use Rattle.words.specs.Line.{before, same, nextFigure, afterThree, afterTwo, afterOne, figuresAt};
+ghost use Rattle.words.specs.Calls.{asFix, asSheet, asVote, sayBare, sayOne, sayTwo, sayThree, sayWith, saysLine, heardAt};
+use decimal::Reading;
+
+// What a line says: a call with its numbers, or nothing that is a call.
+pub enum Spoken {
+    Fresh(u32),
+    Open {
+        reads: u32,
+        writes: u32,
+    },
+    Vote {
+        change: u32,
+        card: u32,
+        agrees: bool,
+    },
+    Take {
+        change: u32,
+        card: u32,
+    },
+    Withdraw(u32),
+    Store {
+        card: u32,
+        state: u32,
+    },
+    Trim,
+    Safe(u32),
+    Lose(u32),
+    Fix {
+        records: u32,
+        numbers: u32,
+    },
+    Roll(u32),
+    Sheet {
+        card: u32,
+        bytes: u32,
+    },
+    Restart,
+    Show,
+    Unreadable,
+}
+
+// What stands at a place of a text: a line, and the place where the next one begins, or the end.
+pub enum Heard {
+    Line(Spoken, usize),
+    End,
+}
+
+// What stands after a word or a number of a line.
+enum Figure {
+    Value(u32, usize),
+    Nothing,
+    Other,
+}
+
+// The numbers after the first word of a line.
+enum Figures {
+    Zero,
+    One(u32),
+    Two(u32, u32),
+    Three(u32, u32, u32),
+    Malformed,
+}
+
+// The place of the first such byte from `from` on, or the end.
+fn find(s: &[u8], from: usize, b: u8) -> usize
+    requires { ⌜ from ≤ length (now s) ⌝ }
+    ensures { λ r. ⌜ r ≡ from + length (before b (drop from (now (s .entry)))) ⌝ }
+{
+    let mut i = from;
+    while i < s.len() {
+        if s[i] == b {
+            return i;
+        }
+        i += 1;
+    }
+    i
+}
+
+// Whether two texts are the same.
+fn is_same(s: &[u8], t: &[u8]) -> bool
+    ensures { λ r. ⌜ r ≡ same (now (s .entry)) (now (t .entry)) ⌝ }
+{
+    let mut i = 0;
+    while i < s.len() {
+        if t.len() <= i {
+            return false;
+        }
+        if s[i] != t[i] {
+            return false;
+        }
+        i += 1;
+    }
+    t.len() <= i
+}
+
+// A space and a number at a place of a line, or its end.
+fn next_figure(s: &[u8], at: usize) -> Figure
+    ensures { λ r. ⌜ r ≡ nextFigure (now (s .entry)) at ⌝ }
+{
+    if s.len() <= at {
+        return Figure::Nothing;
+    }
+    if s[at] != 32 {
+        return Figure::Other;
+    }
+    let n = decimal::read(s, at + 1);
+    match n {
+        Reading::Number { value, next } => Figure::Value(value, next),
+        Reading::NotANumber => Figure::Other,
+    }
+}
+
+// After three numbers a line ends.
+fn after_three(s: &[u8], at: usize, a: u32, b: u32, c: u32) -> Figures
+    ensures { λ r. ⌜ r ≡ afterThree (now (s .entry)) at a b c ⌝ }
+{
+    let f = next_figure(s, at);
+    match f {
+        Figure::Nothing => Figures::Three(a, b, c),
+        Figure::Value(_, _) => Figures::Malformed,
+        Figure::Other => Figures::Malformed,
+    }
+}
+
+fn after_two(s: &[u8], at: usize, a: u32, b: u32) -> Figures
+    ensures { λ r. ⌜ r ≡ afterTwo (now (s .entry)) at a b ⌝ }
+{
+    let f = next_figure(s, at);
+    match f {
+        Figure::Nothing => Figures::Two(a, b),
+        Figure::Value(c, next) => after_three(s, next, a, b, c),
+        Figure::Other => Figures::Malformed,
+    }
+}
+
+fn after_one(s: &[u8], at: usize, a: u32) -> Figures
+    ensures { λ r. ⌜ r ≡ afterOne (now (s .entry)) at a ⌝ }
+{
+    let f = next_figure(s, at);
+    match f {
+        Figure::Nothing => Figures::One(a),
+        Figure::Value(b, next) => after_two(s, next, a, b),
+        Figure::Other => Figures::Malformed,
+    }
+}
+
+// The numbers of a line from a place on.
+fn figures_at(s: &[u8], at: usize) -> Figures
+    ensures { λ r. ⌜ r ≡ figuresAt (now (s .entry)) at ⌝ }
+{
+    let f = next_figure(s, at);
+    match f {
+        Figure::Nothing => Figures::Zero,
+        Figure::Value(a, next) => after_one(s, next, a),
+        Figure::Other => Figures::Malformed,
+    }
+}
+
+// The calls with no number.
+fn say_bare(word: &[u8]) -> Spoken
+    ensures { λ r. ⌜ r ≡ sayBare (now (word .entry)) ⌝ }
+{
+    if is_same(word, b"trim") {
+        return Spoken::Trim;
+    }
+    if is_same(word, b"restart") {
+        return Spoken::Restart;
+    }
+    if is_same(word, b"show") {
+        return Spoken::Show;
+    }
+    Spoken::Unreadable
+}
+
+// The calls with one number.
+fn say_one(word: &[u8], a: u32) -> Spoken
+    ensures { λ r. ⌜ r ≡ sayOne (now (word .entry)) a ⌝ }
+{
+    if is_same(word, b"fresh") {
+        return Spoken::Fresh(a);
+    }
+    if is_same(word, b"withdraw") {
+        return Spoken::Withdraw(a);
+    }
+    if is_same(word, b"safe") {
+        return Spoken::Safe(a);
+    }
+    if is_same(word, b"lose") {
+        return Spoken::Lose(a);
+    }
+    if is_same(word, b"roll") {
+        return Spoken::Roll(a);
+    }
+    Spoken::Unreadable
+}
+
+// Fix, with at most 16 card records and 776 change numbers.
+fn as_fix(records: u32, numbers: u32) -> Spoken
+    ensures { λ r. ⌜ r ≡ asFix records numbers ⌝ }
+{
+    if 16 < records {
+        return Spoken::Unreadable;
+    }
+    if 776 < numbers {
+        return Spoken::Unreadable;
+    }
+    Spoken::Fix { records, numbers }
+}
+
+// Sheet, with at most 65536 bytes.
+fn as_sheet(card: u32, bytes: u32) -> Spoken
+    ensures { λ r. ⌜ r ≡ asSheet card bytes ⌝ }
+{
+    if 65536 < bytes {
+        return Spoken::Unreadable;
+    }
+    Spoken::Sheet { card, bytes }
+}
+
+// A vote, which is 0 or 1.
+fn as_vote(change: u32, card: u32, yes: u32) -> Spoken
+    ensures { λ r. ⌜ r ≡ asVote change card yes ⌝ }
+{
+    if 1 < yes {
+        return Spoken::Unreadable;
+    }
+    Spoken::Vote {
+        change,
+        card,
+        agrees: yes == 1,
+    }
+}
+
+// The calls with two numbers.
+fn say_two(word: &[u8], a: u32, b: u32) -> Spoken
+    ensures { λ r. ⌜ r ≡ sayTwo (now (word .entry)) a b ⌝ }
+{
+    if is_same(word, b"open") {
+        return Spoken::Open {
+            reads: a,
+            writes: b,
+        };
+    }
+    if is_same(word, b"take") {
+        return Spoken::Take { change: a, card: b };
+    }
+    if is_same(word, b"store") {
+        return Spoken::Store { card: a, state: b };
+    }
+    if is_same(word, b"fix") {
+        return as_fix(a, b);
+    }
+    if is_same(word, b"sheet") {
+        return as_sheet(a, b);
+    }
+    Spoken::Unreadable
+}
+
+// The call with three numbers.
+fn say_three(word: &[u8], a: u32, b: u32, c: u32) -> Spoken
+    ensures { λ r. ⌜ r ≡ sayThree (now (word .entry)) a b c ⌝ }
+{
+    if is_same(word, b"vote") {
+        return as_vote(a, b, c);
+    }
+    Spoken::Unreadable
+}
+
+// The call that a word and the numbers after it are.
+fn say_with(word: &[u8], f: Figures) -> Spoken
+    ensures { λ r. ⌜ r ≡ sayWith (now (word .entry)) f ⌝ }
+{
+    match f {
+        Figures::Zero => say_bare(word),
+        Figures::One(a) => say_one(word, a),
+        Figures::Two(a, b) => say_two(word, a, b),
+        Figures::Three(a, b, c) => say_three(word, a, b, c),
+        Figures::Malformed => Spoken::Unreadable,
+    }
+}
+
+// What a line says, its byte 10 left out.
+pub fn says(line: &[u8]) -> Spoken
+    ensures { λ r. ⌜ r ≡ saysLine (now (line .entry)) ⌝ }
+{
+    if 128 < line.len() {
+        return Spoken::Unreadable;
+    }
+    let end = find(line, 0, 32);
+    let f = figures_at(line, end);
+    say_with(&line[0..end], f)
+}
+
+// What stands at a place of a text.
+pub fn line_at(s: &[u8], from: usize) -> Heard
+    ensures { λ r. ⌜ r ≡ heardAt (now (s .entry)) from ⌝ }
+{
+    if s.len() <= from {
+        return Heard::End;
+    }
+    let end = find(s, from, 10);
+    let said = says(&s[from..end]);
+    if end < s.len() {
+        Heard::Line(said, end + 1)
+    } else {
+        Heard::Line(said, end)
+    }
+}
