@@ -1,0 +1,3 @@
+pub mod Puts
+pub mod Spaced
+pub mod Samples

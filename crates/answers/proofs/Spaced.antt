@@ -1,0 +1,140 @@
+-- Laws of the texts of answers: how they go on. Assumes nothing.
+use Prim.Native.Nat.{ℕ, _+_, _-_, _≤_, _<_, min}
+use mathlib.Core.Path.{_≡_, refl, sym, _∙_, ap, ap₂}
+use mathlib.Core.Bool.{Bool, true, false, cond}
+use mathlib.Core.List.{List, [], _∷_, _++_, append-assoc, append-nil}
+use mathlib.Core.Logic.{by-cases}
+use native.Mathlib.Decide.{decLe}
+use native.Mathlib.Numerals.{add-one}
+use native.Mathlib.Omega.{arith}
+use lib.Dec.{leb}
+use lib.ListN.{length, take, drop, getD, length-take}
+use lib.Seq.{sets, length-sets, take-suc, take-all}
+use borrow.Author.Tests.{le-leb, lt-ltb, le-ltb}
+use Rattle.laws.specs.Below.{selected}
+use Rattle.laws.proofs.Below.{selected-first}
+use Rattle.laws.proofs.Fill.{length-tabulate}
+use Rattle.laws.proofs.Seq.{sets-part}
+use Rattle.protocol.specs.Plan.{CardRow, fixed}
+use Rattle.verdicts.specs.declared.Head.{Head}
+use Rattle.verdicts.specs.Shape.{at, presentOf}
+use Rattle.verdicts.proofs.Limits.{width16}
+use Rattle.recovery.specs.Fix.{rowsOf}
+use Rattle.decimal.specs.declared.Writing.{Writing}
+use Rattle.decimal.specs.Digits.{decimal}
+use Rattle.decimal.specs.Answers.{Wrote, fits}
+use Rattle.decimal.proofs.Digits.{decimal-short}
+use Rattle.answers.specs.Texts.{spaced, lineOf, fixedWord, lostWord, rowsText, rowCount, fixedText, answerText}
+use Rattle.answers.specs.Show.{sessionWord, cardsWord, phaseName, headText, joined}
+
+-- ---- a number's digits
+
+-- a number of 32 bits has at most ten
+pub ten-digits : (n : ℕ) → n ≤ 4294967295 → length (decimal n) ≤ 10
+ten-digits n h = decimal-short 9 n (omega arith)
+
+-- written at the front of ten bytes they stand there
+pub digits-written : (n count : ℕ) (b d : List ℕ) (r : Writing) → n ≤ 4294967295 → length b ≡ 10 → count ≡ length (decimal n) → Wrote b 0 n r d → take (count - 0) (drop 0 d) ≡ decimal n
+digits-written n count b d r h ten q w =
+    ap (λ (k : ℕ). take k d) count-is
+    ∙ ap (take (length (decimal n))) (w .buffer ∙ ap (λ (x : Bool). cond x (sets b 0 (decimal n)) b) (le-leb (0 + length (decimal n)) (length b) fit))
+    ∙ sets-part (decimal n) b 0 fit
+  where
+    count-is : count - 0 ≡ length (decimal n)
+    count-is = omega arith
+
+    fit : 0 + length (decimal n) ≤ length b
+    fit = omega (arith, ten-digits n h)
+
+pub wrote-length : {b : List ℕ} {at n : ℕ} {r : Writing} {d : List ℕ} → Wrote b at n r d → length d ≡ length b
+wrote-length {b} {at} {n} w = ap length (w .buffer) ∙ same (fits (length b) at n)
+  where
+    same : (x : Bool) → length (cond x (sets b at (decimal n)) b) ≡ length b
+    same true = length-sets b at (decimal n)
+    same false = refl
+
+-- ---- numbers, each after a space
+
+pub spaced-append : (ns ms : List ℕ) → spaced (ns ++ ms) ≡ spaced ns ++ spaced ms
+spaced-append [] ms = refl
+spaced-append (n ∷ ns) ms =
+    ap (λ (l : List ℕ). 32 ∷ l) (ap (λ (l : List ℕ). decimal n ++ l) (spaced-append ns ms) ∙ sym (append-assoc (decimal n) (spaced ns) (spaced ms)))
+
+-- one number more
+pub spaced-more : (ns : List ℕ) (i : ℕ) → i < length ns → (spaced (take i ns) ++ (32 ∷ [])) ++ decimal (getD ns i 0) ≡ spaced (take (i + 1) ns)
+spaced-more ns i h =
+    append-assoc (spaced (take i ns)) (32 ∷ []) (decimal (getD ns i 0))
+    ∙ ap (λ (l : List ℕ). spaced (take i ns) ++ (32 ∷ l)) (sym (append-nil (decimal (getD ns i 0))))
+    ∙ sym (ap spaced (ap (λ (k : ℕ). take k ns) (add-one i) ∙ take-suc ns i 0 h) ∙ spaced-append (take i ns) (getD ns i 0 ∷ []))
+
+-- ---- lines
+
+pub line-as : (word ns : List ℕ) → (word ++ spaced ns) ++ (10 ∷ []) ≡ lineOf word ns
+line-as word ns = append-assoc word (spaced ns) (10 ∷ [])
+
+pub head-as : (h : Head) → (((((sessionWord ++ spaced (h .session ∷ [])) ++ (32 ∷ [])) ++ phaseName (h .phase)) ++ (32 ∷ [])) ++ lineOf cardsWord (h .cards ∷ [])) ≡ headText h
+head-as h =
+    append-assoc ((((sessionWord ++ spaced (h .session ∷ [])) ++ (32 ∷ [])) ++ phaseName (h .phase))) (32 ∷ []) (lineOf cardsWord (h .cards ∷ []))
+    ∙ append-assoc ((sessionWord ++ spaced (h .session ∷ [])) ++ (32 ∷ [])) (phaseName (h .phase)) (32 ∷ lineOf cardsWord (h .cards ∷ []))
+    ∙ append-assoc (sessionWord ++ spaced (h .session ∷ [])) (32 ∷ []) (phaseName (h .phase) ++ (32 ∷ lineOf cardsWord (h .cards ∷ [])))
+    ∙ append-assoc sessionWord (spaced (h .session ∷ [])) (32 ∷ (phaseName (h .phase) ++ (32 ∷ lineOf cardsWord (h .cards ∷ []))))
+
+-- ---- lines of the cards that there are
+
+-- a text of a list that is joined from texts of its elements grows by the next one that is selected
+pub selected-more : {A : Type 0} (T : List A → List ℕ) (t : A → List ℕ) → ((xs ys : List A) → T (xs ++ ys) ≡ T xs ++ T ys) → ((x : A) → T (x ∷ []) ≡ t x) → T [] ≡ []
+    → (p : ℕ → Bool) (f : ℕ → A) (i : ℕ) → T (selected i p f) ++ cond (p i) (t (f i)) [] ≡ T (selected (i + 1) p f)
+selected-more {A} T t join one none p f i =
+    sym (ap (λ (k : ℕ). T (selected k p f)) (add-one i) ∙ join (selected i p f) (cond (p i) (f i ∷ []) []) ∙ ap (λ (l : List ℕ). T (selected i p f) ++ l) (last (p i)))
+  where
+    last : (b : Bool) → T (cond b (f i ∷ []) []) ≡ cond b (t (f i)) []
+    last true = one (f i)
+    last false = none
+
+abbrev rowText : CardRow → List ℕ
+rowText r = lineOf (decimal (r .card)) (r .stored ∷ r .line ∷ [])
+
+rows-append : (xs ys : List CardRow) → rowsText (xs ++ ys) ≡ rowsText xs ++ rowsText ys
+rows-append [] ys = refl
+rows-append (x ∷ xs) ys = ap (λ (l : List ℕ). rowText x ++ l) (rows-append xs ys) ∙ sym (append-assoc (rowText x) (rowsText xs) (rowsText ys))
+
+joined-append : (xs ys : List (List ℕ)) → joined (xs ++ ys) ≡ joined xs ++ joined ys
+joined-append [] ys = refl
+joined-append (x ∷ xs) ys = ap (λ (l : List ℕ). x ++ l) (joined-append xs ys) ∙ sym (append-assoc x (joined xs) (joined ys))
+
+pub rows-more : (p : ℕ → Bool) (f : ℕ → CardRow) (i : ℕ) → rowsText (selected i p f) ++ cond (p i) (rowText (f i)) [] ≡ rowsText (selected (i + 1) p f)
+rows-more = selected-more rowsText rowText rows-append (λ x. append-nil (rowText x)) refl
+
+pub joined-more : (p : ℕ → Bool) (f : ℕ → List ℕ) (i : ℕ) → joined (selected i p f) ++ cond (p i) (f i) [] ≡ joined (selected (i + 1) p f)
+joined-more = selected-more joined (λ x. x) joined-append append-nil refl
+
+-- ---- the answer of fix
+
+-- there is a record for each card, of 16 cards at most
+rows-length : (n : ℕ) (stored line : List ℕ) → length (rowsOf n stored line) ≡ rowCount n
+rows-length n stored line =
+    ap (λ (w : ℕ). length (selected w (presentOf n) row)) width16
+    ∙ ap length (selected-first (presentOf n) row 16 (rowCount n) (omega arith) (λ k h. lt-ltb k n (omega arith)) (λ k h l. le-ltb k n (omega arith)))
+    ∙ length-tabulate (rowCount n) row
+  where
+    row : ℕ → CardRow
+    row c = record { card = c; stored = at stored c; line = at line c }
+
+-- the places that hold numbers of changes lost
+pub fixed-as : (n : ℕ) (stored line list : List ℕ) (k count : ℕ) → length list ≡ 776 → count ≡ min k 776
+    → fixedText n stored line (take (count - 0) (drop 0 list)) count ≡ answerText (fixed (rowsOf n stored line) (take k list))
+fixed-as n stored line list k count size e =
+    ap₂ (λ (a b : ℕ). lineOf fixedWord (a ∷ b ∷ []) ++ (rowsText (rowsOf n stored line) ++ lineOf lostWord (take (count - 0) list))) (sym (rows-length n stored line)) long
+    ∙ ap (λ (l : List ℕ). lineOf fixedWord (length (rowsOf n stored line) ∷ length (take k list) ∷ []) ++ (rowsText (rowsOf n stored line) ++ lineOf lostWord l)) same
+  where
+    long : count ≡ length (take k list)
+    long = omega (arith, length-take k list)
+
+    same : take (count - 0) list ≡ take k list
+    same =
+        by-cases (decLe k 776)
+        (λ (h : k ≤ 776). let z : count - 0 ≡ k = omega arith in ap (λ (m : ℕ). take m list) z)
+        (λ (h : k ≤ 776 → ⊥).
+        let a : length list ≤ count - 0 = omega arith in
+        let d : length list ≤ k = omega arith in
+        take-all (count - 0) list a ∙ sym (take-all k list d))

@@ -1,0 +1,27 @@
+-- `answers::put` writes a text after what is written already. Assumes nothing.
+use Rattle.answers.proofs.Puts.{put-from, put-short}
+use borrow.Author.Needs.{needs}
+use Rattle.answers.proofs.put.Statement.{statement}
+use Rattle.answers.proofs.put.Tie as tie
+
+enum-known-w : tie.Need-enum-known-w
+enum-known-w c = search needs
+
+put-at-requires : tie.Need-put-at-requires
+put-at-requires c κs = search needs
+
+enum-told : tie.Need-enum-told
+enum-told c = search needs
+
+same-length : tie.Need-same-length
+same-length c = search needs
+
+returns : tie.Need-returns
+returns c = put-from (c .before .before .before .before .before .w .given .1) (c .before .before .put-at .ensures)
+
+returns-2 : tie.Need-returns-2
+returns-2 c = put-from (c .enum-told .given .1) (put-short _ _)
+
+pub put-spec : {M : Type 1} → statement M
+put-spec =
+    tie.close (tie.spec enum-known-w put-at-requires enum-told same-length returns returns-2)

@@ -1,0 +1,123 @@
+-- The text of each answer: lines, each a word and numbers after it, each after one space.
+use Prim.Native.Nat.{ℕ, min}
+use mathlib.Core.List.{List, [], _∷_, _++_}
+use lib.ListN.{length}
+use Rattle.decimal.specs.Digits.{decimal}
+use Rattle.refusal.specs.declared.Refusal.{Refusal}
+use Rattle.refusal.specs.declared.Refusal.the-variants.{CardCount, NoSuchCard, BothSetsEmpty, TooShort, BadLine, BadCheck, BadHeader, EndOrMore, BadFrame, TwoVectors, SessionsApart, TooLong, WrongPhase, Barred, NoPlace, InHandFull, LimitReached, NotAwaited, AlreadyDecided, StoreOutside, BadCabinet, NotDecided, AlreadyRolled}
+use Rattle.refusal.specs.Number.{numberOf}
+use Rattle.answers.specs.declared.Named.{Named}
+use Rattle.answers.specs.declared.Named.the-variants.{Card, NoCard}
+use Rattle.recovery.specs.Fix.{rowsOf}
+use Rattle.protocol.specs.Plan.{CardRow, Answer, done, opened, safe, unsafe, fixed, written, Reply, accepted, refused}
+
+-- ---- lines
+
+-- numbers, each after a space
+abbrev pub spaced : List ℕ → List ℕ
+spaced [] = []
+spaced (n ∷ ns) = 32 ∷ (decimal n ++ spaced ns)
+
+-- a word, numbers after it, and byte 10
+abbrev pub lineOf : List ℕ → List ℕ → List ℕ
+lineOf word ns = word ++ (spaced ns ++ (10 ∷ []))
+
+-- ---- the words, as bytes
+
+abbrev pub okWord : List ℕ
+okWord = 111 ∷ 107 ∷ []
+
+abbrev pub changeWord : List ℕ
+changeWord = 99 ∷ 104 ∷ 97 ∷ 110 ∷ 103 ∷ 101 ∷ []
+
+abbrev pub safeWord : List ℕ
+safeWord = 115 ∷ 97 ∷ 102 ∷ 101 ∷ []
+
+abbrev pub unsafeWord : List ℕ
+unsafeWord = 117 ∷ 110 ∷ 115 ∷ 97 ∷ 102 ∷ 101 ∷ []
+
+abbrev pub refusedWord : List ℕ
+refusedWord = 114 ∷ 101 ∷ 102 ∷ 117 ∷ 115 ∷ 101 ∷ 100 ∷ []
+
+abbrev pub fixedWord : List ℕ
+fixedWord = 102 ∷ 105 ∷ 120 ∷ 101 ∷ 100 ∷ []
+
+abbrev pub lostWord : List ℕ
+lostWord = 108 ∷ 111 ∷ 115 ∷ 116 ∷ []
+
+abbrev pub sheetWord : List ℕ
+sheetWord = 115 ∷ 104 ∷ 101 ∷ 101 ∷ 116 ∷ []
+
+abbrev pub noneWord : List ℕ
+noneWord = 110 ∷ 111 ∷ 110 ∷ 101 ∷ []
+
+abbrev pub unreadableWord : List ℕ
+unreadableWord = 117 ∷ 110 ∷ 114 ∷ 101 ∷ 97 ∷ 100 ∷ 97 ∷ 98 ∷ 108 ∷ 101 ∷ []
+
+-- ---- the answers
+
+-- before the first cabinet
+abbrev pub noneText : List ℕ
+noneText = lineOf noneWord []
+
+-- a line that is no call
+abbrev pub unreadableText : List ℕ
+unreadableText = lineOf unreadableWord []
+
+-- "21 answers `refused 21 CARD`"
+abbrev pub namedBy : Refusal → Named
+namedBy CardCount = NoCard
+namedBy NoSuchCard = NoCard
+namedBy BothSetsEmpty = NoCard
+namedBy TooShort = NoCard
+namedBy BadLine = NoCard
+namedBy BadCheck = NoCard
+namedBy BadHeader = NoCard
+namedBy EndOrMore = NoCard
+namedBy BadFrame = NoCard
+namedBy TwoVectors = NoCard
+namedBy SessionsApart = NoCard
+namedBy TooLong = NoCard
+namedBy WrongPhase = NoCard
+namedBy (Barred card) = Card card
+namedBy NoPlace = NoCard
+namedBy InHandFull = NoCard
+namedBy LimitReached = NoCard
+namedBy NotAwaited = NoCard
+namedBy AlreadyDecided = NoCard
+namedBy StoreOutside = NoCard
+namedBy BadCabinet = NoCard
+namedBy NotDecided = NoCard
+namedBy AlreadyRolled = NoCard
+
+abbrev pub cardsNamed : Named → List ℕ
+cardsNamed (Card card) = card ∷ []
+cardsNamed NoCard = []
+
+abbrev pub refusedText : Refusal → List ℕ
+refusedText q = lineOf refusedWord (numberOf q ∷ cardsNamed (namedBy q))
+
+-- a line for each card record of fix
+abbrev pub rowsText : List CardRow → List ℕ
+rowsText [] = []
+rowsText (r ∷ rs) = lineOf (decimal (r .card)) (r .stored ∷ r .line ∷ []) ++ rowsText rs
+
+abbrev pub answerText : Answer → List ℕ
+answerText done = lineOf okWord []
+answerText (opened k) = lineOf changeWord (k ∷ [])
+answerText safe = lineOf safeWord []
+answerText unsafe = lineOf unsafeWord []
+answerText (fixed rows lost) = lineOf fixedWord (length rows ∷ length lost ∷ []) ++ (rowsText rows ++ lineOf lostWord lost)
+answerText (written bytes) = lineOf sheetWord (length bytes ∷ []) ++ bytes
+
+abbrev pub replyText : Reply → List ℕ
+replyText (accepted a) = answerText a
+replyText (refused q) = refusedText q
+
+-- of so many cards those that have a record
+abbrev pub rowCount : ℕ → ℕ
+rowCount n = min n 16
+
+-- the text of fix's answer, from the arrays and the list that it is answered in
+abbrev pub fixedText : ℕ → (stored line lost : List ℕ) → ℕ → List ℕ
+fixedText cards stored line lost count = lineOf fixedWord (rowCount cards ∷ count ∷ []) ++ (rowsText (rowsOf cards stored line) ++ lineOf lostWord lost)

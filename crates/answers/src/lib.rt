@@ -1,0 +1,355 @@
+// How the answers to a list of calls are written: lines of text into a lent buffer, cut off where the buffer ends.
+ghost use Prim.Native.Nat.{_-_, _≤_, min};
+ghost use mathlib.Core.Bool.{cond};
+ghost use mathlib.Core.List.{[]};
+ghost use lib.Dec.{ltb};
+ghost use mathlib.Core.Path.{_≡_};
+ghost use lib.ListN.{length, take};
+ghost use lib.Seq.{sets};
+ghost use Rattle.decimal.specs.Digits.{decimal};
+ghost use Rattle.decimal.specs.declared.Writing.the-variants.{Next};
+ghost use Rattle.verdicts.specs.Answers.{replyOf, openReplyOf, safeReplyOf};
+ghost use Rattle.recovery.specs.Fix.{rowsOf, fixReplyOf};
+ghost use Rattle.answers.specs.Put.{Put};
+ghost use Rattle.answers.specs.Texts.{spaced, lineOf, namedBy, rowsText, fixedText, refusedText, replyText, noneText, unreadableText, rowCount};
+ghost use Rattle.answers.specs.Show.{phaseName, headText, cardsText, showText};
+use decimal::Writing;
+use recovery::FixReply;
+use refusal::Refusal;
+use verdicts::Head;
+use verdicts::OpenReply;
+use verdicts::Phase;
+use verdicts::Reply;
+use verdicts::SafeReply;
+
+// The card that a refusal names, where it names one.
+enum Named {
+    Card(u32),
+    NoCard,
+}
+
+// Stores the first bytes of a text.
+fn fill(b: &mut [u8], at: usize, text: &[u8], count: usize)
+    requires { ⌜ (count ≤ length (now b) - at) × (count ≤ length (now text)) ⌝ }
+    ensures { λ _. ⌜ now (b .exit) ≡ sets (now (b .entry)) at (take count (now (text .entry))) ⌝ }
+{
+    let mut i = 0;
+    while i < count {
+        b[at + i] = text[i];
+        i += 1;
+    }
+}
+
+// How many bytes a buffer has from a place on.
+fn room_from(size: usize, at: usize) -> usize
+    ensures { λ r. ⌜ r ≡ size - at ⌝ }
+{
+    if size < at { 0 } else { size - at }
+}
+
+// Writes a text from a place on.
+fn put_at(b: &mut [u8], at: usize, text: &[u8]) -> Writing
+    ensures { λ r. ⌜ Put (now (b .entry)) (Next at) (now (text .entry)) r (now (b .exit)) ⌝ }
+{
+    let room = room_from(b.len(), at);
+    let count = text.len();
+    if room < count {
+        fill(b, at, text, room);
+        return Writing::TooShort;
+    }
+    fill(b, at, text, count);
+    Writing::Next(at + count)
+}
+
+// Writes a text after what is written already.
+fn put(b: &mut [u8], w: Writing, text: &[u8]) -> Writing
+    ensures { λ r. ⌜ Put (now (b .entry)) w (now (text .entry)) r (now (b .exit)) ⌝ }
+{
+    match w {
+        Writing::Next(at) => put_at(b, at, text),
+        Writing::TooShort => Writing::TooShort,
+    }
+}
+
+// Writes a number.
+fn put_number(b: &mut [u8], w: Writing, n: u32) -> Writing
+    ensures { λ r. ⌜ Put (now (b .entry)) w (decimal n) r (now (b .exit)) ⌝ }
+{
+    let mut digits = [0u8; 10];
+    let count = decimal::width(n);
+    decimal::write(&mut digits, 0, n);
+    put(b, w, &digits[0..count])
+}
+
+// Writes numbers, each after a space.
+fn put_numbers(b: &mut [u8], w: Writing, numbers: &[u32]) -> Writing
+    ensures { λ r. ⌜ Put (now (b .entry)) w (spaced (now (numbers .entry))) r (now (b .exit)) ⌝ }
+{
+    let mut at = w;
+    let mut i = 0;
+    while i < numbers.len() {
+        at = put(b, at, b" ");
+        at = put_number(b, at, numbers[i]);
+        i += 1;
+    }
+    at
+}
+
+// Writes a line: a word, and numbers after it.
+fn put_line(b: &mut [u8], w: Writing, word: &[u8], numbers: &[u32]) -> Writing
+    ensures { λ r. ⌜ Put (now (b .entry)) w (lineOf (now (word .entry)) (now (numbers .entry))) r (now (b .exit)) ⌝ }
+{
+    let w = put(b, w, word);
+    let w = put_numbers(b, w, numbers);
+    put(b, w, b"\n")
+}
+
+// Writes a line of numbers alone: a card's, and others after it.
+fn put_row(b: &mut [u8], w: Writing, card: u32, numbers: &[u32]) -> Writing
+    ensures { λ r. ⌜ Put (now (b .entry)) w (lineOf (decimal card) (now (numbers .entry))) r (now (b .exit)) ⌝ }
+{
+    let w = put_number(b, w, card);
+    let w = put_numbers(b, w, numbers);
+    put(b, w, b"\n")
+}
+
+// Before the first cabinet.
+pub fn put_none(b: &mut [u8], w: Writing) -> Writing
+    ensures { λ r. ⌜ Put (now (b .entry)) w noneText r (now (b .exit)) ⌝ }
+{
+    put(b, w, b"none\n")
+}
+
+// A line that is no call.
+pub fn put_unreadable(b: &mut [u8], w: Writing) -> Writing
+    ensures { λ r. ⌜ Put (now (b .entry)) w unreadableText r (now (b .exit)) ⌝ }
+{
+    put(b, w, b"unreadable\n")
+}
+
+// The card that a refusal names.
+fn named_card(q: Refusal) -> Named
+    ensures { λ r. ⌜ r ≡ namedBy q ⌝ }
+{
+    match q {
+        Refusal::CardCount => Named::NoCard,
+        Refusal::NoSuchCard => Named::NoCard,
+        Refusal::BothSetsEmpty => Named::NoCard,
+        Refusal::TooShort => Named::NoCard,
+        Refusal::BadLine => Named::NoCard,
+        Refusal::BadCheck => Named::NoCard,
+        Refusal::BadHeader => Named::NoCard,
+        Refusal::EndOrMore => Named::NoCard,
+        Refusal::BadFrame => Named::NoCard,
+        Refusal::TwoVectors => Named::NoCard,
+        Refusal::SessionsApart => Named::NoCard,
+        Refusal::TooLong => Named::NoCard,
+        Refusal::WrongPhase => Named::NoCard,
+        Refusal::Barred(card) => Named::Card(card),
+        Refusal::NoPlace => Named::NoCard,
+        Refusal::InHandFull => Named::NoCard,
+        Refusal::LimitReached => Named::NoCard,
+        Refusal::NotAwaited => Named::NoCard,
+        Refusal::AlreadyDecided => Named::NoCard,
+        Refusal::StoreOutside => Named::NoCard,
+        Refusal::BadCabinet => Named::NoCard,
+        Refusal::NotDecided => Named::NoCard,
+        Refusal::AlreadyRolled => Named::NoCard,
+    }
+}
+
+// A refusal, and after 21 the card.
+pub fn put_refusal(b: &mut [u8], w: Writing, q: Refusal) -> Writing
+    ensures { λ r. ⌜ Put (now (b .entry)) w (refusedText q) r (now (b .exit)) ⌝ }
+{
+    let n = refusal::number(q);
+    let named = named_card(q);
+    match named {
+        Named::Card(card) => {
+            let both = [n, card];
+            put_line(b, w, b"refused", &both)
+        }
+        Named::NoCard => {
+            let alone = [n];
+            put_line(b, w, b"refused", &alone)
+        }
+    }
+}
+
+// The answer of a call that answers nothing but acceptance.
+pub fn put_reply(b: &mut [u8], w: Writing, r: Reply) -> Writing
+    ensures { λ x. ⌜ Put (now (b .entry)) w (replyText (replyOf r)) x (now (b .exit)) ⌝ }
+{
+    match r {
+        Reply::Done => put(b, w, b"ok\n"),
+        Reply::Refused(q) => put_refusal(b, w, q),
+    }
+}
+
+// The answer of open.
+pub fn put_open(b: &mut [u8], w: Writing, r: OpenReply) -> Writing
+    ensures { λ x. ⌜ Put (now (b .entry)) w (replyText (openReplyOf r)) x (now (b .exit)) ⌝ }
+{
+    match r {
+        OpenReply::Opened(k) => {
+            let change = [k];
+            put_line(b, w, b"change", &change)
+        }
+        OpenReply::NotOpened(q) => put_refusal(b, w, q),
+    }
+}
+
+// The answer of safe.
+pub fn put_safe(b: &mut [u8], w: Writing, r: SafeReply) -> Writing
+    ensures { λ x. ⌜ Put (now (b .entry)) w (replyText (safeReplyOf r)) x (now (b .exit)) ⌝ }
+{
+    match r {
+        SafeReply::Safe => put(b, w, b"safe\n"),
+        SafeReply::Unsafe => put(b, w, b"unsafe\n"),
+        SafeReply::Unknown(q) => put_refusal(b, w, q),
+    }
+}
+
+// The line of a card that the cabinet has.
+fn put_card(b: &mut [u8], w: Writing, cards: u32, card: u32, numbers: &[u32]) -> Writing
+    ensures { λ x. ⌜ Put (now (b .entry)) w (cond (ltb card cards) (lineOf (decimal card) (now (numbers .entry))) []) x (now (b .exit)) ⌝ }
+{
+    if card < cards {
+        return put_row(b, w, card, numbers);
+    }
+    w
+}
+
+// The lines of fix's card records.
+fn put_rows(b: &mut [u8], w: Writing, cards: u32, stored: [u32; 16], line: [u32; 16]) -> Writing
+    ensures { λ x. ⌜ Put (now (b .entry)) w (rowsText (rowsOf cards stored line)) x (now (b .exit)) ⌝ }
+{
+    let mut at = w;
+    let mut c: u32 = 0;
+    while c < 16 {
+        let i = c as usize;
+        let row = [stored[i], line[i]];
+        at = put_card(b, at, cards, c, &row);
+        c += 1;
+    }
+    at
+}
+
+// How many card records there are.
+fn row_count(cards: u32) -> u32
+    ensures { λ r. ⌜ r ≡ rowCount cards ⌝ }
+{
+    if cards < 16 { cards } else { 16 }
+}
+
+// An accepted fix, with the numbers of the changes lost.
+fn put_fixed(
+    b: &mut [u8],
+    w: Writing,
+    cards: u32,
+    stored: [u32; 16],
+    line: [u32; 16],
+    lost: &[u32],
+    count: u32,
+) -> Writing
+    ensures { λ x. ⌜ Put (now (b .entry)) w (fixedText cards stored line (now (lost .entry)) count) x (now (b .exit)) ⌝ }
+{
+    let counts = [row_count(cards), count];
+    let w = put_line(b, w, b"fixed", &counts);
+    let w = put_rows(b, w, cards, stored, line);
+    put_line(b, w, b"lost", lost)
+}
+
+// How many numbers of changes lost there are.
+fn lost_count(k: usize) -> usize
+    ensures { λ r. ⌜ r ≡ min k 776 ⌝ }
+{
+    if k < 776 { k } else { 776 }
+}
+
+// The answer of fix: the first places of the list hold the numbers of the changes lost.
+pub fn put_fix(
+    b: &mut [u8],
+    w: Writing,
+    cards: u32,
+    stored: [u32; 16],
+    line: [u32; 16],
+    list: [u32; 776],
+    r: FixReply,
+) -> Writing
+    ensures { λ x. ⌜ Put (now (b .entry)) w (replyText (fixReplyOf cards stored line list r)) x (now (b .exit)) ⌝ }
+{
+    match r {
+        FixReply::Fixed(k) => {
+            let count = lost_count(k);
+            put_fixed(b, w, cards, stored, line, &list[0..count], count as u32)
+        }
+        FixReply::NotFixed(q) => put_refusal(b, w, q),
+    }
+}
+
+// The word of a phase.
+fn put_phase(b: &mut [u8], w: Writing, phase: Phase) -> Writing
+    ensures { λ x. ⌜ Put (now (b .entry)) w (phaseName phase) x (now (b .exit)) ⌝ }
+{
+    match phase {
+        Phase::Up => put(b, w, b"up"),
+        Phase::Down => put(b, w, b"down"),
+        Phase::Rolling => put(b, w, b"rolling"),
+    }
+}
+
+// The first line of show.
+fn put_head(b: &mut [u8], w: Writing, head: Head) -> Writing
+    ensures { λ x. ⌜ Put (now (b .entry)) w (headText head) x (now (b .exit)) ⌝ }
+{
+    let session = [head.session];
+    let cards = [head.cards];
+    let phase = head.phase;
+    let w = put(b, w, b"session");
+    let w = put_numbers(b, w, &session);
+    let w = put(b, w, b" ");
+    let w = put_phase(b, w, phase);
+    let w = put(b, w, b" ");
+    put_line(b, w, b"cards", &cards)
+}
+
+// The lines of the cards.
+fn put_cards(
+    b: &mut [u8],
+    w: Writing,
+    cards: u32,
+    base: [u32; 16],
+    stored: [u32; 16],
+    held: [u32; 16],
+    reached: [u32; 16],
+) -> Writing
+    ensures { λ x. ⌜ Put (now (b .entry)) w (cardsText cards base stored held reached) x (now (b .exit)) ⌝ }
+{
+    let mut at = w;
+    let mut c: u32 = 0;
+    while c < 16 {
+        let i = c as usize;
+        let row = [base[i], stored[i], held[i], reached[i]];
+        at = put_card(b, at, cards, c, &row);
+        c += 1;
+    }
+    at
+}
+
+// What a cabinet is: session, phase, number of cards, and the four numbers of each card.
+pub fn put_show(
+    b: &mut [u8],
+    w: Writing,
+    head: Head,
+    base: [u32; 16],
+    stored: [u32; 16],
+    held: [u32; 16],
+    reached: [u32; 16],
+) -> Writing
+    ensures { λ x. ⌜ Put (now (b .entry)) w (showText head base stored held reached) x (now (b .exit)) ⌝ }
+{
+    let cards = head.cards;
+    let w = put_head(b, w, head);
+    put_cards(b, w, cards, base, stored, held, reached)
+}
