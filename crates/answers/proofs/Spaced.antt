@@ -9,7 +9,7 @@ use native.Mathlib.Numerals.{add-one}
 use native.Mathlib.Omega.{arith}
 use lib.Dec.{leb}
 use lib.ListN.{length, take, drop, getD, length-take}
-use lib.Seq.{sets, length-sets, take-suc, take-all}
+use lib.Seq.{sets, length-sets, take-suc, take-all, take-take}
 use borrow.Author.Tests.{le-leb, lt-ltb, le-ltb}
 use Rattle.laws.specs.Below.{selected}
 use Rattle.laws.proofs.Below.{selected-first}
@@ -120,21 +120,34 @@ rows-length n stored line =
     row : ℕ → CardRow
     row c = record { card = c; stored = at stored c; line = at line c }
 
--- the places that hold numbers of changes lost
-pub fixed-as : (n : ℕ) (stored line list : List ℕ) (k count : ℕ) → length list ≡ 776 → count ≡ min k 776
-    → fixedText n stored line (take (count - 0) (drop 0 list)) count ≡ answerText (fixed (rowsOf n stored line) (take k list))
-fixed-as n stored line list k count size e =
-    ap₂ (λ (a b : ℕ). lineOf fixedWord (a ∷ b ∷ []) ++ (rowsText (rowsOf n stored line) ++ lineOf lostWord (take (count - 0) list))) (sym (rows-length n stored line)) long
-    ∙ ap (λ (l : List ℕ). lineOf fixedWord (length (rowsOf n stored line) ∷ length (take k list) ∷ []) ++ (rowsText (rowsOf n stored line) ++ lineOf lostWord l)) same
+-- as many places of a list as there are, and of these as many as are asked for
+taken-twice : (list : List ℕ) (k places some count : ℕ) → length list ≡ 776 → some ≡ min k places → count ≡ min some 776 → take (count - 0) list ≡ take k (take places list)
+taken-twice list k places some count size e q = within ∙ inner
   where
-    long : count ≡ length (take k list)
-    long = omega (arith, length-take k list)
-
-    same : take (count - 0) list ≡ take k list
-    same =
-        by-cases (decLe k 776)
-        (λ (h : k ≤ 776). let z : count - 0 ≡ k = omega arith in ap (λ (m : ℕ). take m list) z)
-        (λ (h : k ≤ 776 → ⊥).
+    within : take (count - 0) list ≡ take some list
+    within =
+        by-cases (decLe some 776)
+        (λ (h : some ≤ 776). let z : count - 0 ≡ some = omega arith in ap (λ (m : ℕ). take m list) z)
+        (λ (h : some ≤ 776 → ⊥).
         let a : length list ≤ count - 0 = omega arith in
-        let d : length list ≤ k = omega arith in
-        take-all (count - 0) list a ∙ sym (take-all k list d))
+        let d : length list ≤ some = omega arith in
+        take-all (count - 0) list a ∙ sym (take-all some list d))
+
+    inner : take some list ≡ take k (take places list)
+    inner =
+        by-cases (decLe k places)
+        (λ (h : k ≤ places). let z : some ≡ k = omega arith in ap (λ (m : ℕ). take m list) z ∙ sym (take-take k places list h))
+        (λ (h : k ≤ places → ⊥).
+        let z : some ≡ places = omega arith in
+        let d : length (take places list) ≤ k = omega (arith, length-take places list) in
+        ap (λ (m : ℕ). take m list) z ∙ sym (take-all k (take places list) d))
+
+-- the places that hold numbers of changes lost
+pub fixed-as : (n : ℕ) (stored line list : List ℕ) (k places some count : ℕ) → length list ≡ 776 → some ≡ min k places → count ≡ min some 776
+    → fixedText n stored line (take (count - 0) (drop 0 list)) count ≡ answerText (fixed (rowsOf n stored line) (take k (take places list)))
+fixed-as n stored line list k places some count size e q =
+    ap₂ (λ (a b : ℕ). lineOf fixedWord (a ∷ b ∷ []) ++ (rowsText (rowsOf n stored line) ++ lineOf lostWord (take (count - 0) list))) (sym (rows-length n stored line)) long
+    ∙ ap (λ (l : List ℕ). lineOf fixedWord (length (rowsOf n stored line) ∷ length (take k (take places list)) ∷ []) ++ (rowsText (rowsOf n stored line) ++ lineOf lostWord l)) (taken-twice list k places some count size e q)
+  where
+    long : count ≡ length (take k (take places list))
+    long = omega (arith, length-take k (take places list), length-take places list)

@@ -260,14 +260,14 @@ fn put_fixed(
     put_line(b, w, b"lost", lost)
 }
 
-// How many numbers of changes lost there are.
-fn lost_count(k: usize) -> usize
-    ensures { λ r. ⌜ r ≡ min k 776 ⌝ }
+// The lesser of two numbers.
+fn least(a: usize, b: usize) -> usize
+    ensures { λ r. ⌜ r ≡ min a b ⌝ }
 {
-    if k < 776 { k } else { 776 }
+    if a < b { a } else { b }
 }
 
-// The answer of fix: the first places of the list hold the numbers of the changes lost.
+// The answer of fix, which was lent so many places of the list: the first of them hold the numbers of the changes lost.
 pub fn put_fix(
     b: &mut [u8],
     w: Writing,
@@ -275,13 +275,15 @@ pub fn put_fix(
     stored: [u32; 16],
     line: [u32; 16],
     list: [u32; 776],
+    places: usize,
     r: FixReply,
 ) -> Writing
-    ensures { λ x. ⌜ Put (now (b .entry)) w (replyText (fixReplyOf cards stored line list r)) x (now (b .exit)) ⌝ }
+    ensures { λ x. ⌜ Put (now (b .entry)) w (replyText (fixReplyOf cards stored line (take places list) r)) x (now (b .exit)) ⌝ }
 {
     match r {
         FixReply::Fixed(k) => {
-            let count = lost_count(k);
+            let some = least(k, places);
+            let count = least(some, 776);
             put_fixed(b, w, cards, stored, line, &list[0..count], count as u32)
         }
         FixReply::NotFixed(q) => put_refusal(b, w, q),

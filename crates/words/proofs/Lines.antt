@@ -6,7 +6,8 @@ use mathlib.Core.List.{List}
 use native.Mathlib.Omega.{arith}
 use lib.Dec.{eqb, leb, ltb}
 use lib.ListN.{length, getD, take, drop, length-drop}
-use borrow.Author.Tests.{le-leb, lt-leb, lt-ltb, le-ltb, eq-eqb, ne-eqb}
+use borrow.Author.Tests.{le-leb, lt-leb, leb-false, lt-ltb, le-ltb, ltb-true, ltb-false, eq-eqb, ne-eqb}
+use Rattle.laws.proofs.Logic.{test}
 use Rattle.decimal.specs.declared.Reading.{Reading}
 use Rattle.decimal.specs.Answers.{readAt}
 use Rattle.words.specs.declared.Figure.{Figure}
@@ -14,6 +15,7 @@ use Rattle.words.specs.declared.Figure.the-variants.{Nothing, Other}
 use Rattle.words.specs.declared.Figures.{Figures}
 use Rattle.words.specs.declared.Spoken.{Spoken}
 use Rattle.words.specs.declared.Spoken.the-variants.{Unreadable}
+use Rattle.words.specs.declared.Heard.{Heard}
 use Rattle.words.specs.declared.Heard.the-variants.{Line, End}
 use Rattle.words.specs.Line.{before, asFigure, nextFigure, goOn, figuresAt}
 use Rattle.words.specs.Calls.{sayWith, saysLine, lineEnd, nextLine, heardAt}
@@ -74,3 +76,20 @@ module _ (s : List ℕ) (from end : ℕ) {r : Spoken} (h : from < length s) (e :
 
   pub heard-last : length s ≤ end → Line r end ≡ heardAt s from
   heard-last l = line-heard end (e ∙ sym (ap (λ (b : Bool). cond b (lineEnd s from + 1) (lineEnd s from)) (le-ltb (lineEnd s from) (length s) (omega arith))))
+
+-- the next line begins further on, and at the end at the latest
+pub heard-forward : (s : List ℕ) (from : ℕ) {r : Spoken} {n : ℕ} → Line r n ≡ heardAt s from → (from < n) × (n ≤ length s)
+heard-forward s from {r} {n} e =
+    test (leb (length s) from)
+    (λ q. let z : Line r n ≡ End = e ∙ ap (λ (b : Bool). cond b End here) q in let k : _≡_ {A = ℕ} 0 1 = cc in absurd (omega arith))
+    (λ q.
+    let z : Line r n ≡ here = e ∙ ap (λ (b : Bool). cond b End here) q in
+    let k : n ≡ nextLine s from = cc in
+    let l : from < length s = leb-false (length s) from q in
+    let w : lineEnd s from ≤ length s = found-within s from 10 (omega arith) refl in
+    test (ltb (lineEnd s from) (length s))
+    (λ p. let m : n ≡ lineEnd s from + 1 = k ∙ ap (λ (b : Bool). cond b (lineEnd s from + 1) (lineEnd s from)) p in (omega arith, omega (arith, ltb-true (lineEnd s from) (length s) p)))
+    (λ p. let m : n ≡ lineEnd s from = k ∙ ap (λ (b : Bool). cond b (lineEnd s from + 1) (lineEnd s from)) p in (omega (arith, ltb-false (lineEnd s from) (length s) p), omega arith)))
+  where
+    here : Heard
+    here = Line (saysLine (before 10 (drop from s))) (nextLine s from)

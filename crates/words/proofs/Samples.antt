@@ -3,12 +3,13 @@ use Prim.Native.Nat.{ℕ}
 use mathlib.Core.Path.{_≡_, refl}
 use mathlib.Core.Bool.{true}
 use mathlib.Core.List.{List, [], _∷_, _++_}
-use Rattle.words.specs.declared.Spoken.the-variants.{Open, Vote, Trim, Fix, Unreadable}
+use Rattle.words.specs.declared.Spoken.the-variants.{Asks, Unreadable}
+use Rattle.words.specs.declared.Request.the-variants.{Open, Vote, Trim, Fix}
 use Rattle.words.specs.declared.Heard.the-variants.{Line, End}
 use Rattle.words.specs.Calls.{openName, voteName, trimName, fixName, saysLine, heardAt}
 
 -- "open 01 0" is an opening that reads card 0, since leading zeros are digits; "open  1 0", "open 1" and "open 1 0 " are none
-open-zeros : saysLine (openName ++ (32 ∷ 48 ∷ 49 ∷ 32 ∷ 48 ∷ [])) ≡ Open 1 0
+open-zeros : saysLine (openName ++ (32 ∷ 48 ∷ 49 ∷ 32 ∷ 48 ∷ [])) ≡ Asks (Open 1 0)
 open-zeros = refl
 
 two-spaces : saysLine (openName ++ (32 ∷ 32 ∷ 49 ∷ 32 ∷ 48 ∷ [])) ≡ Unreadable
@@ -21,7 +22,7 @@ last-space : saysLine (openName ++ (32 ∷ 49 ∷ 32 ∷ 48 ∷ 32 ∷ [])) ≡ 
 last-space = refl
 
 -- "vote 1 0 01" is a yes, and "vote 1 0 2" is unreadable
-vote-yes : saysLine (voteName ++ (32 ∷ 49 ∷ 32 ∷ 48 ∷ 32 ∷ 48 ∷ 49 ∷ [])) ≡ Vote 1 0 true
+vote-yes : saysLine (voteName ++ (32 ∷ 49 ∷ 32 ∷ 48 ∷ 32 ∷ 48 ∷ 49 ∷ [])) ≡ Asks (Vote 1 0 true)
 vote-yes = refl
 
 vote-two : saysLine (voteName ++ (32 ∷ 49 ∷ 32 ∷ 48 ∷ 32 ∷ 50 ∷ [])) ≡ Unreadable
@@ -35,7 +36,7 @@ empty-line : saysLine [] ≡ Unreadable
 empty-line = refl
 
 -- "fix 16 776" and "fix 17 0"
-fix-most : saysLine (fixName ++ (32 ∷ 49 ∷ 54 ∷ 32 ∷ 55 ∷ 55 ∷ 54 ∷ [])) ≡ Fix 16 776
+fix-most : saysLine (fixName ++ (32 ∷ 49 ∷ 54 ∷ 32 ∷ 55 ∷ 55 ∷ 54 ∷ [])) ≡ Asks (Fix 16 776)
 fix-most = refl
 
 fix-over : saysLine (fixName ++ (32 ∷ 49 ∷ 55 ∷ 32 ∷ 48 ∷ [])) ≡ Unreadable
@@ -45,10 +46,10 @@ fix-over = refl
 abbrev two : List ℕ
 two = trimName ++ (10 ∷ trimName)
 
-first-line : heardAt two 0 ≡ Line Trim 5
+first-line : heardAt two 0 ≡ Line (Asks Trim) 5
 first-line = refl
 
-last-line : heardAt two 5 ≡ Line Trim 9
+last-line : heardAt two 5 ≡ Line (Asks Trim) 9
 last-line = refl
 
 no-line : heardAt two 9 ≡ End

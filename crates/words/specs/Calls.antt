@@ -5,7 +5,8 @@ use mathlib.Core.List.{List, [], _∷_}
 use lib.Dec.{eqb, leb, ltb}
 use lib.ListN.{length, drop}
 use Rattle.words.specs.declared.Spoken.{Spoken}
-use Rattle.words.specs.declared.Spoken.the-variants.{Fresh, Open, Vote, Take, Withdraw, Store, Trim, Safe, Lose, Fix, Roll, Sheet, Restart, Show, Unreadable}
+use Rattle.words.specs.declared.Spoken.the-variants.{Fresh, Asks, Unreadable}
+use Rattle.words.specs.declared.Request.the-variants.{Open, Vote, Take, Withdraw, Store, Trim, Safe, Lose, Fix, Roll, Sheet, Restart, Show}
 use Rattle.words.specs.declared.Heard.{Heard}
 use Rattle.words.specs.declared.Heard.the-variants.{Line, End}
 use Rattle.words.specs.declared.Figures.{Figures}
@@ -59,33 +60,33 @@ showName = 115 ∷ 104 ∷ 111 ∷ 119 ∷ []
 -- ---- the calls, by how many numbers they have
 
 abbrev pub sayBare : List ℕ → Spoken
-sayBare w = cond (same w trimName) Trim (cond (same w restartName) Restart (cond (same w showName) Show Unreadable))
+sayBare w = cond (same w trimName) (Asks Trim) (cond (same w restartName) (Asks Restart) (cond (same w showName) (Asks Show) Unreadable))
 
 abbrev pub sayOne : List ℕ → ℕ → Spoken
 sayOne w a =
     cond (same w freshName) (Fresh a)
-    (cond (same w withdrawName) (Withdraw a)
-    (cond (same w safeName) (Safe a)
-    (cond (same w loseName) (Lose a)
-    (cond (same w rollName) (Roll a) Unreadable))))
+    (cond (same w withdrawName) (Asks (Withdraw a))
+    (cond (same w safeName) (Asks (Safe a))
+    (cond (same w loseName) (Asks (Lose a))
+    (cond (same w rollName) (Asks (Roll a)) Unreadable))))
 
 -- fix, with at most 16 card records and 776 change numbers
 abbrev pub asFix : (records numbers : ℕ) → Spoken
-asFix a b = cond (leb a 16 && leb b 776) (Fix a b) Unreadable
+asFix a b = cond (leb a 16 && leb b 776) (Asks (Fix a b)) Unreadable
 
 -- sheet, with at most 65536 bytes
 abbrev pub asSheet : (card bytes : ℕ) → Spoken
-asSheet a b = cond (leb b 65536) (Sheet a b) Unreadable
+asSheet a b = cond (leb b 65536) (Asks (Sheet a b)) Unreadable
 
 -- a vote, which is 0 or 1
 abbrev pub asVote : (change card yes : ℕ) → Spoken
-asVote a b c = cond (leb c 1) (Vote a b (eqb c 1)) Unreadable
+asVote a b c = cond (leb c 1) (Asks (Vote a b (eqb c 1))) Unreadable
 
 abbrev pub sayTwo : List ℕ → (a b : ℕ) → Spoken
 sayTwo w a b =
-    cond (same w openName) (Open a b)
-    (cond (same w takeName) (Take a b)
-    (cond (same w storeName) (Store a b)
+    cond (same w openName) (Asks (Open a b))
+    (cond (same w takeName) (Asks (Take a b))
+    (cond (same w storeName) (Asks (Store a b))
     (cond (same w fixName) (asFix a b)
     (cond (same w sheetName) (asSheet a b) Unreadable))))
 

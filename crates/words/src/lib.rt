@@ -6,9 +6,8 @@ ghost use Rattle.words.specs.Line.{before, same, nextFigure, afterThree,
 ghost use Rattle.words.specs.Calls.{asFix, asSheet, asVote, sayBare, sayOne, sayTwo, sayThree, sayWith, saysLine, heardAt};
 use decimal::Reading;
 
-// What a line says: a call with its numbers, or nothing that is a call.
-pub enum Spoken {
-    Fresh(u32),
+// A call on the present cabinet, with its numbers.
+pub enum Request {
     Open {
         reads: u32,
         writes: u32,
@@ -41,6 +40,12 @@ pub enum Spoken {
     },
     Restart,
     Show,
+}
+
+// What a line says: a fresh cabinet of so many cards, a call on the present one, or neither.
+pub enum Spoken {
+    Fresh(u32),
+    Asks(Request),
     Unreadable,
 }
 
@@ -166,13 +171,13 @@ fn say_bare(word: &[u8]) -> Spoken
     ensures { λ r. ⌜ r ≡ sayBare (now (word .entry)) ⌝ }
 {
     if is_same(word, b"trim") {
-        return Spoken::Trim;
+        return Spoken::Asks(Request::Trim);
     }
     if is_same(word, b"restart") {
-        return Spoken::Restart;
+        return Spoken::Asks(Request::Restart);
     }
     if is_same(word, b"show") {
-        return Spoken::Show;
+        return Spoken::Asks(Request::Show);
     }
     Spoken::Unreadable
 }
@@ -185,16 +190,16 @@ fn say_one(word: &[u8], a: u32) -> Spoken
         return Spoken::Fresh(a);
     }
     if is_same(word, b"withdraw") {
-        return Spoken::Withdraw(a);
+        return Spoken::Asks(Request::Withdraw(a));
     }
     if is_same(word, b"safe") {
-        return Spoken::Safe(a);
+        return Spoken::Asks(Request::Safe(a));
     }
     if is_same(word, b"lose") {
-        return Spoken::Lose(a);
+        return Spoken::Asks(Request::Lose(a));
     }
     if is_same(word, b"roll") {
-        return Spoken::Roll(a);
+        return Spoken::Asks(Request::Roll(a));
     }
     Spoken::Unreadable
 }
@@ -209,7 +214,7 @@ fn as_fix(records: u32, numbers: u32) -> Spoken
     if 776 < numbers {
         return Spoken::Unreadable;
     }
-    Spoken::Fix { records, numbers }
+    Spoken::Asks(Request::Fix { records, numbers })
 }
 
 // Sheet, with at most 65536 bytes.
@@ -219,7 +224,7 @@ fn as_sheet(card: u32, bytes: u32) -> Spoken
     if 65536 < bytes {
         return Spoken::Unreadable;
     }
-    Spoken::Sheet { card, bytes }
+    Spoken::Asks(Request::Sheet { card, bytes })
 }
 
 // A vote, which is 0 or 1.
@@ -229,11 +234,11 @@ fn as_vote(change: u32, card: u32, yes: u32) -> Spoken
     if 1 < yes {
         return Spoken::Unreadable;
     }
-    Spoken::Vote {
+    Spoken::Asks(Request::Vote {
         change,
         card,
         agrees: yes == 1,
-    }
+    })
 }
 
 // The calls with two numbers.
@@ -241,16 +246,16 @@ fn say_two(word: &[u8], a: u32, b: u32) -> Spoken
     ensures { λ r. ⌜ r ≡ sayTwo (now (word .entry)) a b ⌝ }
 {
     if is_same(word, b"open") {
-        return Spoken::Open {
+        return Spoken::Asks(Request::Open {
             reads: a,
             writes: b,
-        };
+        });
     }
     if is_same(word, b"take") {
-        return Spoken::Take { change: a, card: b };
+        return Spoken::Asks(Request::Take { change: a, card: b });
     }
     if is_same(word, b"store") {
-        return Spoken::Store { card: a, state: b };
+        return Spoken::Asks(Request::Store { card: a, state: b });
     }
     if is_same(word, b"fix") {
         return as_fix(a, b);

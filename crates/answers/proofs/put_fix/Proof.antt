@@ -1,5 +1,6 @@
 -- `answers::put_fix` writes the answer of fix. Assumes nothing.
-use mathlib.Core.Path.{sym, _∙_, ap, refl}
+use mathlib.Core.Path.{sym, _∙_, ap}
+use lib.ListN.{take}
 use Rattle.recovery.specs.declared.FixReply.{FixReply}
 use Rattle.recovery.specs.Fix.{fixReplyOf}
 use Rattle.answers.specs.Texts.{replyText}
@@ -12,8 +13,11 @@ use Rattle.answers.proofs.put_fix.Tie as tie
 enum-known-r : tie.Need-enum-known-r
 enum-known-r c = search needs
 
-lost-count-requires : tie.Need-lost-count-requires
-lost-count-requires c κs = search needs
+least-requires : tie.Need-least-requires
+least-requires c κs = search needs
+
+least-requires-2 : tie.Need-least-requires-2
+least-requires-2 c κs = search needs
 
 sub-put-fixed : tie.Need-sub-put-fixed
 sub-put-fixed c = search needs
@@ -40,24 +44,25 @@ same-length : tie.Need-same-length
 same-length c = search needs
 
 returns : tie.Need-returns
-returns c = let a = c .before .before .before .before .before .before .before .before .before .before .before .args in
+returns c = let a = c .before .before .before .before .before .before .before .before .before .before .before .before .args in
     put-as
-    (fixed-as (a .cards) (a .stored) (a .line) (a .t6) _ (c .before .before .before .before .before .before .lost-count .result) (search needs) (c .before .before .before .before .before .before .lost-count .ensures)
-    ∙ ap (λ (x : FixReply). replyText (fixReplyOf (a .cards) (a .stored) (a .line) (a .t6) x)) (sym (c .before .before .before .before .before .before .before .before .r .given .1)))
+    (fixed-as (a .cards) (a .stored) (a .line) (a .t6) _ (a .places) (c .before .before .before .before .before .before .before .least .result) (c .before .before .before .before .before .before .least2 .result) (search needs) (c .before .before .before .before .before .before .before .least .ensures) (c .before .before .before .before .before .before .least2 .ensures)
+    ∙ ap (λ (x : FixReply). replyText (fixReplyOf (a .cards) (a .stored) (a .line) (take (a .places) (a .t6)) x)) (sym (c .before .before .before .before .before .before .before .before .before .r .given .1)))
     (c .before .before .put-fixed .ensures)
 
 same-length-2 : tie.Need-same-length-2
 same-length-2 c = search needs
 
 returns-2 : tie.Need-returns-2
-returns-2 c = let a = c .before .before .before .before .before .before .before .before .args in put-as (ap (λ (x : FixReply). replyText (fixReplyOf (a .cards) (a .stored) (a .line) (a .t6) x)) (sym (c .before .before .before .before .before .r2 .given .1))) (c .before .before .put-refusal .ensures)
+returns-2 c = let a = c .before .before .before .before .before .before .before .before .args in put-as (ap (λ (x : FixReply). replyText (fixReplyOf (a .cards) (a .stored) (a .line) (take (a .places) (a .t6)) x)) (sym (c .before .before .before .before .before .r2 .given .1))) (c .before .before .put-refusal .ensures)
 
 pub put-fix-spec : {M : Type 1} → statement M
 put-fix-spec =
     tie.close
     (tie.spec
     enum-known-r
-    lost-count-requires
+    least-requires
+    least-requires-2
     sub-put-fixed
     part-put-fixed-start
     part-put-fixed-end
