@@ -3,3 +3,4 @@ pub mod Walk
 pub mod Round
 pub mod Lay
 pub mod Read
+pub mod Short

@@ -28,18 +28,13 @@ use Rattle.frame.proofs.Passed.{header-passed, header-within, frame-passed, hea
 use Rattle.frame.proofs.Round.{Sound, header-back, header-rest, header-accepted, header-again, frame-back, frame-rest, frame-accepted, frame-again, Steady, header-altered, frame-altered, header-untouched, frame-untouched, header-room, frame-room}
 use Rattle.sheet.specs.Pages.{Page, framesBytes, pageBytes, pagesBytes, Frames, withFrame, readFrames, framesOf, Sheets, withSheet, readSheet, ended, moreSheets, readSheets}
 use Rattle.sheet.proofs.Walk.{accepts-or}
-use Rattle.sheet.specs.Allowed.{framesAllowed, Formed, Allowed, AllAllowed}
+use Rattle.sheet.specs.Allowed.{framesAllowed, Formed, Allowed, AllAllowed, lastOf}
 
 -- ---- written, then read
 
 -- frames put before what was read
 abbrev pub before : List Frame → Frames → Frames
 before frs r = record { frames = frs ++ r .frames; verdict = r .verdict; rest = r .rest }
-
--- the frame that is the last before a place
-abbrev pub lastOf : Frame → List Frame → Frame
-lastOf last [] = last
-lastOf last (fr ∷ frs) = lastOf fr frs
 
 module _ (f : Format) (s : Sound f) (start : Sums) (p : start .first < 256) (q : start .second < 256) (card n : ℕ) where
   -- frames that are written read back, and the reading goes on behind them
@@ -76,7 +71,7 @@ page-frames f s due first p rest a =
     ∙ (λ i. record { frames = append-nil (p .frames) i; verdict = Accepted; rest = rest }))
 
 -- a sheet within the limits reads back, and the reading goes on behind it
-sheet-back :
+pub sheet-back :
     (f : Format) → Sound f → (due first : ℕ) (p : Page) (rest : List ℕ) (next : ℕ → List ℕ → Sheets) → Allowed f due first p → readSheet f due first next (pageBytes f p ++ rest) ≡ withSheet Accepted Accepted (p .header) (record { frames = p .frames; verdict = Accepted; rest = rest }) (pageBytes f p ++ rest) (next (p .header .cards) rest)
 sheet-back f s due first p rest next a =
     let h = p .header in

@@ -1,13 +1,16 @@
 -- Sheets and read-outs within the limits: those that refusals 7 and 9 let pass.
-use Prim.Native.Nat.{ℕ, _+_, _-_, _^_, _<_}
+use Prim.Native.Nat.{ℕ, _+_, _^_, _<_}
 use mathlib.Core.Path.{_≡_}
-use mathlib.Core.Bool.{Bool, true, _&&_, cond}
-use mathlib.Core.List.{List, [], _∷_}
+use mathlib.Core.Bool.{Bool, true, _&&_}
+use mathlib.Core.List.{List, [], _∷_, _++_}
 use lib.ListN.{length}
+use Rattle.refusal.specs.declared.Refusal.{Refusal}
+use Rattle.frame.specs.declared.Verdict.the-variants.{Refused}
+use Rattle.frame.specs.declared.Header.{Header}
 use Rattle.frame.specs.declared.Frame.{Frame}
 use Rattle.frame.specs.Format.{Format}
-use Rattle.frame.specs.Lines.{headerAllowed, frameAllowed, noFrame}
-use Rattle.sheet.specs.Pages.{Page}
+use Rattle.frame.specs.Lines.{startOf, headerLine, headerAllowed, frameAllowed, frameVerdict, noFrame}
+use Rattle.sheet.specs.Pages.{Page, framesBytes}
 
 -- frames that refusal 9 lets pass, from a state on; `last` is the frame before
 abbrev pub framesAllowed : Format → ℕ → ℕ → ℕ → Frame → List Frame → Bool
@@ -31,3 +34,23 @@ pub record Allowed (f : Format) (due first : ℕ) (p : Page) : Type 0 where
 abbrev pub AllAllowed : Format → ℕ → ℕ → List Page → Type 0
 AllAllowed f due first [] = Unit {0}
 AllAllowed f due first (p ∷ ps) = Allowed f due first p × AllAllowed f (due + 1) first ps
+
+-- ---- "header count 3 over two frames"
+
+-- the frame that is the last before a place
+abbrev pub lastOf : Frame → List Frame → Frame
+lastOf last [] = last
+lastOf last (fr ∷ frs) = lastOf fr frs
+
+-- a header with one frame less than it declares, all within the limits; what stands behind them is refused
+pub record Short (f : Format) (due first : ℕ) (h : Header) (frs : List Frame) (rest : List ℕ) (r : Refusal) : Type 0 where
+  pub header : headerAllowed f due first h ≡ true
+  pub session : h .session < 16 ^ 8
+  pub count : h .count ≡ length frs + 1
+  pub formed : Formed (h .cards) frs
+  pub frames : framesAllowed f (h .card) (h .cards) (h .base + 1) noFrame frs ≡ true
+  pub next : frameVerdict f (startOf f h) (h .card) (h .cards) (h .base + 1 + length frs) (lastOf noFrame frs) rest ≡ Refused r
+
+-- their bytes
+abbrev pub shortBytes : Format → Header → List Frame → List ℕ → List ℕ
+shortBytes f h frs rest = headerLine f h ++ (framesBytes f (startOf f h) (h .cards) (h .base + 1) frs ++ rest)

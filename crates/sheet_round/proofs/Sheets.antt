@@ -149,10 +149,10 @@ record Read (card : ℕ) (input : List ℕ) : Type 0 where
   sheet : sheetReadOf card input .sheet ≡ sheetOf page
 
 -- what the reader answers by the test of the length, and by the verdict and the pages read
-abbrev answer : Bool → Verdict → List Page → SheetRead
+abbrev pub answer : Bool → Verdict → List Page → SheetRead
 answer long v ps = cond long (answered (Refused TooLong) noSheet) (answered v (firstOf ps))
 
-answer-accepted : (long : Bool) (v : Verdict) (ps : List Page) → answer long v ps .verdict ≡ Accepted → (long ≡ false) × (v ≡ Accepted)
+pub answer-accepted : (long : Bool) (v : Verdict) (ps : List Page) → answer long v ps .verdict ≡ Accepted → (long ≡ false) × (v ≡ Accepted)
 answer-accepted true v ps e = let z : _≡_ {A = ℕ} 0 1 = cc in absurd (omega arith)
 answer-accepted false (Refused r) ps e = let z : _≡_ {A = ℕ} 0 1 = cc in absurd (omega arith)
 answer-accepted false Accepted ps e = (refl, refl)
