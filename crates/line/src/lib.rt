@@ -110,13 +110,15 @@ fn check_number(s: Sums) -> u32
 
 // What stands at `at`, where a line of n digits before its check is due.
 pub fn shape_at(s: &[u8], at: usize, n: usize) -> Line
-    requires { ⌜ n < 65536 ⌝ }
     ensures { λ r. ⌜ r ≡ shapeOf n (drop at (now (s .entry))) ⌝ }
 {
     if s.len() <= at {
         return Line::Fault(Refusal::EndOrMore);
     }
-    if s.len() - at < n + 5 {
+    if s.len() - at < 5 {
+        return Line::Fault(Refusal::BadLine);
+    }
+    if s.len() - at - 5 < n {
         return Line::Fault(Refusal::BadLine);
     }
     if !all_digits(s, at, n + 4) {
