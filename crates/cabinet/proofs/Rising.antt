@@ -1,20 +1,19 @@
 -- In a cabinet that passes 28 the change numbers of each card rise with its states. Assumes nothing.
-use Prim.Native.Nat.{ℕ, zero, suc, _+_, _-_, _≤_, _<_}
-use mathlib.Core.Path.{_≡_, refl, sym, _∙_, ap}
-use mathlib.Core.Bool.{Bool, true, false, not, _&&_, _||_, cond}
-use mathlib.Core.List.{List}
+use Prim.Native.Nat.{ℕ, suc, _+_, _-_, _≤_, _<_}
+use mathlib.Core.Path.{_≡_, _∙_, ap}
+use mathlib.Core.Bool.{Bool, true, not, _&&_, _||_, cond}
 use mathlib.Core.Logic.{⊎-elim}
 use native.Mathlib.Omega.{arith}
 use lib.Dec.{eqb, leb, ltb}
 use borrow.Author.Tests.{lt-ltb, le-leb, ltb-true, eqb-true, eqb-false}
-use Rattle.laws.specs.Below.{allBelow, tabulate}
+use Rattle.laws.specs.Below.{allBelow}
 use Rattle.laws.proofs.Logic.{test, clash, and-left, and-right, and-intro, or-elim, not-true, cond-true, cond-false}
 use Rattle.laws.proofs.Below.{all-at}
 use Rattle.laws.proofs.Fill.{getD-tabulate}
 use Rattle.merge.specs.Merge.{maker, CardRises, Rises}
 use Rattle.protocol.specs.Model.{Model}
 use Rattle.protocol.specs.Sound.{sound, entriesSound, numbersSound, lineSound, frameSound, risesSound, framesSound}
-use Rattle.verdicts.specs.Shape.{limits16, at, ringMaker, inHand, makerInHand}
+use Rattle.verdicts.specs.Shape.{limits16, at, ringMaker, makerInHand}
 use Rattle.recovery.specs.Lost.{endsOf}
 use Rattle.cabinet.specs.declared.Cabinet.{Cabinet}
 use Rattle.cabinet.specs.View.{view}

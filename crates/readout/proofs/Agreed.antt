@@ -1,7 +1,7 @@
 -- One merge over the sheets' frames finds a change with two vectors on two sheets, where the change numbers rise. Assumes nothing.
-use Prim.Native.Nat.{ℕ, zero, suc, _+_, _*_, _-_, _%_, _≤_, _<_}
+use Prim.Native.Nat.{ℕ, suc, _+_, _*_, _-_, _%_, _≤_, _<_}
 use mathlib.Core.Path.{_≡_, refl, sym, _∙_, ap, ap₂, subst}
-use mathlib.Core.Bool.{Bool, true, false, not, _&&_, cond}
+use mathlib.Core.Bool.{Bool, true, false, not, cond}
 use mathlib.Core.List.{List, []}
 use mathlib.Core.Logic.{by-cases}
 use native.Mathlib.Decide.{decLt, ℕ-discrete}
@@ -9,13 +9,12 @@ use native.Mathlib.Omega.{arith}
 use lib.Dec.{eqb, ltb}
 use lib.ListN.{getD}
 use borrow.Author.Tests.{lt-ltb, le-ltb, eq-eqb, eqb-true, ltb-true}
-use Rattle.laws.specs.Below.{allBelow, anyBelow, firstBelow, tabulate}
+use Rattle.laws.specs.Below.{anyBelow}
 use Rattle.laws.proofs.Logic.{test, clash, fails, and-intro, and-left, and-right, not-true, not-intro, cond-true, cond-false}
 use Rattle.laws.proofs.Below.{Found, all-at, all-intro, any-intro, any-elim, first-below, first-passes}
 use Rattle.laws.proofs.Fill.{getD-tabulate}
-use Rattle.merge.specs.Merge.{at, maker, headNumber, headNumbers, leastOf, allPast, Rises, cardAhead, ahead, NextOf, Passed}
+use Rattle.merge.specs.Merge.{at, maker, headNumbers, leastOf, allPast, Rises, cardAhead, ahead, NextOf, Passed}
 use Rattle.merge.proofs.Walk.{head-is, head-at, walk-start, walk-next, walk-past, walk-low}
-use Rattle.sheet.specs.declared.Readout.{Readout}
 use Rattle.readout.specs.Joint.{frameAt, differ, differsIn, twoVectors}
 use Rattle.readout.specs.Heads.{endsOf, headPlace, sameEntries, headDiffers, firstWith, headsDiffer, listsRead}
 

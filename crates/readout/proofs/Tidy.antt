@@ -1,22 +1,20 @@
 -- The change numbers of a card rise in every read-out whose lines are accepted. Assumes nothing.
 use Prim.Native.Nat.{ℕ, zero, suc, _+_, _*_, _-_, _%_, _≤_, _<_}
 use mathlib.Core.Path.{_≡_, refl, sym, _∙_, ap, subst}
-use mathlib.Core.Bool.{Bool, true, false, _&&_, cond}
-use mathlib.Core.List.{List, [], _∷_}
+use mathlib.Core.Bool.{Bool, true, _&&_, cond}
+use mathlib.Core.List.{List}
 use mathlib.Core.Logic.{by-cases}
-use native.Mathlib.Decide.{decLt, ℕ-discrete}
+use native.Mathlib.Decide.{ℕ-discrete}
 use native.Mathlib.Omega.{arith}
 use lib.Dec.{eqb, ltb}
-use lib.ListN.{length, drop, getD, set, replicate, length-set, length-replicate, getD-replicate}
+use lib.ListN.{length, drop, set, replicate, length-set, length-replicate}
 use lib.Seq.{getD-set-same, getD-set-other}
 use borrow.Author.Tests.{ltb-true}
-use Rattle.laws.specs.Below.{tabulate}
 use Rattle.laws.proofs.Logic.{test, and-left, and-right, cond-true, cond-false}
 use Rattle.laws.proofs.Fill.{getD-tabulate}
-use Rattle.merge.specs.Merge.{at, maker, CardRises, Rises}
+use Rattle.merge.specs.Merge.{at, maker, CardRises}
 use Rattle.line.specs.declared.Sums.{Sums}
-use Rattle.frame.specs.declared.Verdict.{Verdict}
-use Rattle.frame.specs.declared.Verdict.the-variants.{Accepted, Refused}
+use Rattle.frame.specs.declared.Verdict.the-variants.{Accepted}
 use Rattle.frame.specs.declared.Header.{Header}
 use Rattle.frame.specs.declared.Frame.{Frame}
 use Rattle.frame.specs.Format.{format}
@@ -24,7 +22,7 @@ use Rattle.frame.specs.Lines.{startOf, headerDigits, headerIn, headerVerdict, f
 use Rattle.frame.proofs.Passed.{header-within, Header-in-limits, frame-passed}
 use Rattle.sheet.specs.declared.Readout.{Readout}
 use Rattle.sheet.specs.declared.Reading.{Reading}
-use Rattle.sheet.specs.Pages.{Page, Frames, readFrames, framesOf, Sheets, readSheet, moreSheets, readSheets}
+use Rattle.sheet.specs.Pages.{Page, readFrames, framesOf, Sheets, readSheet, moreSheets, readSheets}
 use Rattle.sheet.specs.Walk.{placeOf, noReadout, layHeader, layFrame, layFrames, layPage, layPages, laid, readingOf}
 use Rattle.sheet.proofs.Round.{with-accepted, with-both}
 use Rattle.readout.specs.Heads.{endsOf, Orderly}

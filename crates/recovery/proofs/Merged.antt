@@ -1,13 +1,11 @@
 -- One turn of the merge that counts and writes the changes lost. What it met is right where the numbers rise; that it ends, and keeps
 -- the length of the list, asks nothing of them. Assumes nothing.
-use Prim.Native.Nat.{ℕ, zero, suc, _+_, _-_, _≤_, _<_, zero-le}
+use Prim.Native.Nat.{ℕ, _+_, _-_, _≤_, _<_, zero-le}
 use mathlib.Core.Path.{_≡_, refl, sym, _∙_, ap, subst}
 use mathlib.Core.Bool.{Bool}
 use mathlib.Core.List.{List}
 use native.Mathlib.Omega.{arith}
 use lib.ListN.{length, set, length-set}
-use lib.Dec.{eqb}
-use Rattle.verdicts.specs.Shape.{at}
 use Rattle.merge.specs.Merge.{NextOf, Rises, Passed, headNumbers, allPast}
 use Rattle.merge.proofs.Walk.{walk-start}
 use Rattle.recovery.specs.Lost.{Counted, Written, endsOf, nextLost, lostBy}

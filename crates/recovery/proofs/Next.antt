@@ -1,6 +1,6 @@
 -- The number of the change lost that comes next in the merge is the least above those met. Assumes nothing.
-use Prim.Native.Nat.{ℕ, zero, suc, _+_, _-_, _≤_, _<_, zero-le}
-use mathlib.Core.Path.{_≡_, refl, sym, _∙_, ap, ap₂, subst}
+use Prim.Native.Nat.{ℕ, suc, _+_, _-_, _<_}
+use mathlib.Core.Path.{_≡_, refl, sym, _∙_, ap, subst}
 use mathlib.Core.Bool.{Bool, true, false, not, _&&_, _||_, cond}
 use mathlib.Core.List.{List}
 use mathlib.Core.Logic.{by-cases}
@@ -8,8 +8,8 @@ use native.Mathlib.Decide.{decLt}
 use native.Mathlib.Omega.{arith}
 use lib.Dec.{eqb, ltb}
 use borrow.Author.Tests.{lt-ltb, le-ltb, eq-eqb, ne-eqb}
-use Rattle.laws.specs.Below.{anyBelow, tabulate}
-use Rattle.laws.proofs.Logic.{test, fails, clash, or-left}
+use Rattle.laws.specs.Below.{anyBelow}
+use Rattle.laws.proofs.Logic.{fails, clash, or-left}
 use Rattle.laws.proofs.Fill.{any-same, getD-tabulate}
 use Rattle.verdicts.specs.Shape.{at}
 use Rattle.merge.specs.Merge.{NextOf, Rises, Passed, maker, headNumbers, leastOf, allPast, cardAhead, ahead}

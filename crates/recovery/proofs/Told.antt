@@ -1,5 +1,5 @@
 -- The lost changes of the model are those that the code finds, and what fix answers by its checks. Assumes nothing.
-use Prim.Native.Nat.{ℕ, zero, suc, _+_, _*_, _-_, _%_, _≤_, _<_, zero-le}
+use Prim.Native.Nat.{ℕ, zero, suc, _+_, _*_, _-_, _%_, _≤_, _<_}
 use mathlib.Core.Path.{_≡_, refl, sym, _∙_, ap, ap₂, subst}
 use mathlib.Core.Bool.{Bool, true, false, not, _&&_, _||_, cond}
 use mathlib.Core.List.{List, [], _∷_, _++_}
@@ -7,10 +7,10 @@ use mathlib.Core.Logic.{⊎-elim}
 use native.Mathlib.Omega.{arith}
 use lib.ListN.{length, take, drop, length-append}
 use lib.Seq.{sets, sets-eq, take-at}
-use lib.Dec.{eqb, leb, ltb}
-use borrow.Author.Tests.{lt-ltb, le-leb, ltb-true, ltb-false, ne-eqb, eqb-true}
+use lib.Dec.{eqb, ltb}
+use borrow.Author.Tests.{lt-ltb, le-leb, ltb-false, eqb-true}
 use Rattle.laws.specs.Below.{anyBelow, countBelow, greatest, selected, occurs, one-if}
-use Rattle.laws.proofs.Logic.{test, clash, fails, and-intro, and-left, and-right, or-elim, cond-true, cond-case}
+use Rattle.laws.proofs.Logic.{test, clash, fails, and-intro, and-right, or-elim, cond-true, cond-case}
 use Rattle.laws.proofs.Below.{any-elim, Found, greatest-above, any-same, count-same}
 use Rattle.bits.specs.Member.{member}
 use Rattle.bits.specs.Sets.{below, cut}
@@ -18,8 +18,8 @@ use Rattle.refusal.specs.declared.Refusal.{Refusal}
 use Rattle.refusal.specs.declared.Refusal.the-variants.{BadCabinet, TooShort}
 use Rattle.history.specs.Line.{climb}
 use Rattle.protocol.specs.Model.{Model, isCard}
-use Rattle.protocol.specs.Edit.{Edit, fix}
-use Rattle.protocol.specs.Plan.{CardRow, Answer, fixed, Check, _⇒_, Plan, checked, accepted, refused}
+use Rattle.protocol.specs.Edit.{fix}
+use Rattle.protocol.specs.Plan.{CardRow, fixed, Check, _⇒_, Plan, accepted, refused}
 use Rattle.protocol.specs.Plan as plan
 use Rattle.protocol.specs.Calls.{lines, lineOf, isLost, frameAbove, cardRows, fixChecks}
 use Rattle.verdicts.specs.declared.Head.{Head}
@@ -30,11 +30,10 @@ use Rattle.verdicts.specs.Answers.{firstFailing, after28, next}
 use Rattle.verdicts.proofs.Limits.{width16, inHand48, places8}
 use Rattle.verdicts.proofs.Held.{at-list}
 use Rattle.verdicts.proofs.Checks.{done-plan, refused-plan}
-use Rattle.recovery.specs.declared.FixReply.{FixReply}
 use Rattle.recovery.specs.declared.FixReply.the-variants.{Fixed, NotFixed}
 use Rattle.merge.specs.Merge.{maker, CardRises, Rises}
 use Rattle.recovery.specs.Lost.{Rising, Counted, Written, endsOf, framedBy, endedBy, lostBy}
-use Rattle.recovery.specs.Fix.{rowsOf, fixReplyOf, listAfter, linesAfter, butLast, FixTold, fixPlanFor}
+use Rattle.recovery.specs.Fix.{rowsOf, listAfter, linesAfter, butLast, FixTold, fixPlanFor}
 use Rattle.recovery.proofs.Rise.{those, rising-once, rising-one}
 
 -- ---- some list has each lost change once: none is above the greatest numbers that stand in the arrays

@@ -6,19 +6,15 @@ use Rattle.merge.proofs.card_past.Tie as tie
 use Rattle.merge.proofs.card_past.Reads as reads
 use Rattle.merge.proofs.card_past.Lts as lts
 
--- src/lib.rt:63:24
 add-result : tie.Need-add-result
 add-result c = search needs
 
--- src/lib.rt:59:1
 returns : tie.Need-returns
 returns c = let a : _ = c .before .before .args in past-head (a .passed) (a .end) (a .head) (a .k) (c .before .if1 .taken) (c .if2 .taken)
 
--- src/lib.rt:59:1
 returns-2 : tie.Need-returns-2
 returns-2 c = let a : _ = c .before .before .args in past-other (a .passed) (a .end) (a .head) (a .k) (c .before .if1 .taken) (c .if2 .left)
 
--- src/lib.rt:59:1
 returns-3 : tie.Need-returns-3
 returns-3 c = let a : _ = c .before .args in past-end (a .passed) (a .end) (a .head) (a .k) (c .if1 .left)
 

@@ -7,35 +7,27 @@ use Rattle.merge.proofs.head_number.Tie as tie
 use Rattle.merge.proofs.head_number.Reads as reads
 use Rattle.merge.proofs.head_number.Lts as lts
 
--- src/lib.rt:23:17
 add-x : tie.Need-add-x
 add-x c = search needs
 
--- src/lib.rt:24:16
 mul-result : tie.Need-mul-result
 mul-result c = search needs
 
--- src/lib.rt:24:25
 cast-result : tie.Need-cast-result
 cast-result c = search needs
 
--- src/lib.rt:24:16
 add-result : tie.Need-add-result
 add-result c = search needs
 
--- src/lib.rt:24:9
 mul-result-2 : tie.Need-mul-result-2
 mul-result-2 c = search needs
 
--- src/lib.rt:24:9
 element-copy-out-result : tie.Need-element-copy-out-result
 element-copy-out-result c = search needs
 
--- src/lib.rt:18:1
 returns : tie.Need-returns
 returns c = let a : _ = c .before .before .args in head-there (maker (a .makers .now) (a .c)) (a .passed) (a .end) (c .before .if1 .taken)
 
--- src/lib.rt:18:1
 returns-2 : tie.Need-returns-2
 returns-2 c = let a : _ = c .before .args in head-none (maker (a .makers .now) (a .c)) (a .passed) (a .end) (c .if1 .left)
 

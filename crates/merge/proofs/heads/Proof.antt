@@ -16,51 +16,39 @@ Inv-loop makers passed ends out₀ c₀ out c = FilledSoFar 0 16 (λ i. headNumb
 abbrev μ-loop : tie.MeasureT-loop
 μ-loop makers passed ends out₀ c₀ out c = 16 - c
 
--- src/lib.rt:64:5
 loop-holds : tie.Need-loop-holds Inv-loop μ-loop
 loop-holds c = filled-none refl
 
--- src/lib.rt:65:38
 mul-head-number : tie.Need-mul-head-number Inv-loop μ-loop
 mul-head-number c = search needs
 
--- src/lib.rt:65:38
 array-read-head-number : tie.Need-array-read-head-number Inv-loop μ-loop
 array-read-head-number c = search needs
 
--- src/lib.rt:65:49
 mul-head-number-2 : tie.Need-mul-head-number-2 Inv-loop μ-loop
 mul-head-number-2 c = search needs
 
--- src/lib.rt:65:49
 array-read-head-number-2 : tie.Need-array-read-head-number-2 Inv-loop μ-loop
 array-read-head-number-2 c = search needs
 
--- src/lib.rt:65:13
 head-number-requires : tie.Need-head-number-requires Inv-loop μ-loop
 head-number-requires c κs = search needs
 
--- src/lib.rt:66:9
 mul-out : tie.Need-mul-out Inv-loop μ-loop
 mul-out c = search needs
 
--- src/lib.rt:66:9
 array-write-out : tie.Need-array-write-out Inv-loop μ-loop
 array-write-out c = search needs
 
--- src/lib.rt:67:9
 add-c : tie.Need-add-c Inv-loop μ-loop
 add-c c = search needs
 
--- src/lib.rt:64:5
 loop-less : tie.Need-loop-less Inv-loop μ-loop
 loop-less c = search needs
 
--- src/lib.rt:64:5
 loop-again : tie.Need-loop-again Inv-loop μ-loop
 loop-again c = filled-more (c .before .before .loop .inv) (c .before .loop-test .taken) (c .head-number .ensures)
 
--- src/lib.rt:59:1
 returns : tie.Need-returns Inv-loop μ-loop
 returns c = filled-done (c .before .loop .inv) (c .loop-test .left) refl
 

@@ -16,35 +16,27 @@ Inv-loop heads best₀ c₀ best c = LeastSoFar 16 (at heads) best c
 abbrev μ-loop : tie.MeasureT-loop
 μ-loop heads best₀ c₀ best c = 16 - c
 
--- src/lib.rt:50:5
 loop-holds : tie.Need-loop-holds Inv-loop μ-loop
 loop-holds c = least-none
 
--- src/lib.rt:51:30
 mul-lesser : tie.Need-mul-lesser Inv-loop μ-loop
 mul-lesser c = search needs
 
--- src/lib.rt:51:30
 array-read-lesser : tie.Need-array-read-lesser Inv-loop μ-loop
 array-read-lesser c = search needs
 
--- src/lib.rt:51:13
 lesser-requires : tie.Need-lesser-requires Inv-loop μ-loop
 lesser-requires c κs = search needs
 
--- src/lib.rt:53:9
 add-c : tie.Need-add-c Inv-loop μ-loop
 add-c c = search needs
 
--- src/lib.rt:50:5
 loop-less : tie.Need-loop-less Inv-loop μ-loop
 loop-less c = search needs
 
--- src/lib.rt:50:5
 loop-again : tie.Need-loop-again Inv-loop μ-loop
 loop-again c = least-more (c .before .before .loop .inv) (c .before .loop-test .taken) refl (c .lesser .ensures)
 
--- src/lib.rt:45:1
 returns : tie.Need-returns Inv-loop μ-loop
 returns c = least-done (c .before .loop .inv) (c .loop-test .left)
 

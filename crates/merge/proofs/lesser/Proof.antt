@@ -1,26 +1,21 @@
 -- `merge::lesser` tells the lesser number. Assumes nothing.
 use borrow.Author.Tests.{eq-eqb, ne-eqb, lt-ltb, le-ltb}
-use borrow.Author.Needs.{needs}
 use Rattle.merge.proofs.lesser.Statement.{statement}
 use Rattle.merge.proofs.lesser.Tie as tie
 use Rattle.merge.proofs.lesser.Reads as reads
 use Rattle.merge.proofs.lesser.Lts as lts
 
--- src/lib.rt:7:1
 returns : tie.Need-returns
 returns c = let a : _ = c .before .args in rw (eq-eqb (a .a) 0 (c .if1 .taken))
 
--- src/lib.rt:7:1
 returns-2 : tie.Need-returns-2
 returns-2 c = let a : _ = c .before .before .args in rw (ne-eqb (a .a) 0 (c .before .if1 .left), eq-eqb (a .b) 0 (c .if2 .taken))
 
--- src/lib.rt:7:1
 returns-3 : tie.Need-returns-3
 returns-3 c =
     let a : _ = c .before .before .before .args in
     rw (ne-eqb (a .a) 0 (c .before .before .if1 .left), ne-eqb (a .b) 0 (c .before .if2 .left), lt-ltb (a .a) (a .b) (c .if3 .taken))
 
--- src/lib.rt:7:1
 returns-4 : tie.Need-returns-4
 returns-4 c =
     let a : _ = c .before .before .before .args in

@@ -16,59 +16,45 @@ Inv-loop k passed ends heads out₀ c₀ out c = FilledSoFar 0 16 (λ i. cardPas
 abbrev μ-loop : tie.MeasureT-loop
 μ-loop k passed ends heads out₀ c₀ out c = 16 - c
 
--- src/lib.rt:75:5
 loop-holds : tie.Need-loop-holds Inv-loop μ-loop
 loop-holds c = filled-none refl
 
--- src/lib.rt:76:27
 mul-card-past : tie.Need-mul-card-past Inv-loop μ-loop
 mul-card-past c = search needs
 
--- src/lib.rt:76:27
 array-read-card-past : tie.Need-array-read-card-past Inv-loop μ-loop
 array-read-card-past c = search needs
 
--- src/lib.rt:76:38
 mul-card-past-2 : tie.Need-mul-card-past-2 Inv-loop μ-loop
 mul-card-past-2 c = search needs
 
--- src/lib.rt:76:38
 array-read-card-past-2 : tie.Need-array-read-card-past-2 Inv-loop μ-loop
 array-read-card-past-2 c = search needs
 
--- src/lib.rt:76:47
 mul-card-past-3 : tie.Need-mul-card-past-3 Inv-loop μ-loop
 mul-card-past-3 c = search needs
 
--- src/lib.rt:76:47
 array-read-card-past-3 : tie.Need-array-read-card-past-3 Inv-loop μ-loop
 array-read-card-past-3 c = search needs
 
--- src/lib.rt:76:13
 card-past-requires : tie.Need-card-past-requires Inv-loop μ-loop
 card-past-requires c κs = search needs
 
--- src/lib.rt:77:9
 mul-out : tie.Need-mul-out Inv-loop μ-loop
 mul-out c = search needs
 
--- src/lib.rt:77:9
 array-write-out : tie.Need-array-write-out Inv-loop μ-loop
 array-write-out c = search needs
 
--- src/lib.rt:78:9
 add-c : tie.Need-add-c Inv-loop μ-loop
 add-c c = search needs
 
--- src/lib.rt:75:5
 loop-less : tie.Need-loop-less Inv-loop μ-loop
 loop-less c = search needs
 
--- src/lib.rt:75:5
 loop-again : tie.Need-loop-again Inv-loop μ-loop
 loop-again c = filled-more (c .before .before .loop .inv) (c .before .loop-test .taken) (c .card-past .ensures)
 
--- src/lib.rt:70:1
 returns : tie.Need-returns Inv-loop μ-loop
 returns c = filled-done (c .before .loop .inv) (c .loop-test .left) refl
 

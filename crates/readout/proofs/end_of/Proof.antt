@@ -8,15 +8,12 @@ use Rattle.readout.proofs.end_of.Tie as tie
 use Rattle.readout.proofs.end_of.Reads as reads
 use Rattle.readout.proofs.end_of.Lts as lts
 
--- src/lib.rt:71:16
 add-result : tie.Need-add-result
 add-result c = search needs
 
--- src/lib.rt:67:1
 returns : tie.Need-returns
 returns c = let a : _ = c .before .args in sym (cond-true (a .base + a .count) 0 (c .if1 .taken))
 
--- src/lib.rt:67:1
 returns-2 : tie.Need-returns-2
 returns-2 c = let a : _ = c .before .args in sym (cond-false (a .base + a .count) 0 (c .if1 .left))
 

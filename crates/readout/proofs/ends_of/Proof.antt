@@ -18,51 +18,39 @@ Inv-loop n bases counts out₀ c₀ out c = FilledSoFar 0 16 (λ i. cond (ltb i 
 abbrev μ-loop : tie.MeasureT-loop
 μ-loop n bases counts out₀ c₀ out c = 16 - c
 
--- src/lib.rt:81:5
 loop-holds : tie.Need-loop-holds Inv-loop μ-loop
 loop-holds c = filled-none refl
 
--- src/lib.rt:82:40
 mul-end-of : tie.Need-mul-end-of Inv-loop μ-loop
 mul-end-of c = search needs
 
--- src/lib.rt:82:40
 array-read-end-of : tie.Need-array-read-end-of Inv-loop μ-loop
 array-read-end-of c = search needs
 
--- src/lib.rt:82:50
 mul-end-of-2 : tie.Need-mul-end-of-2 Inv-loop μ-loop
 mul-end-of-2 c = search needs
 
--- src/lib.rt:82:50
 array-read-end-of-2 : tie.Need-array-read-end-of-2 Inv-loop μ-loop
 array-read-end-of-2 c = search needs
 
--- src/lib.rt:82:13
 end-of-requires : tie.Need-end-of-requires Inv-loop μ-loop
 end-of-requires c κs = c .before .before .pre (c .before .loop .c) (c .loop-test .taken)
 
--- src/lib.rt:83:9
 mul-out : tie.Need-mul-out Inv-loop μ-loop
 mul-out c = search needs
 
--- src/lib.rt:83:9
 array-write-out : tie.Need-array-write-out Inv-loop μ-loop
 array-write-out c = search needs
 
--- src/lib.rt:84:9
 add-c : tie.Need-add-c Inv-loop μ-loop
 add-c c = search needs
 
--- src/lib.rt:81:5
 loop-less : tie.Need-loop-less Inv-loop μ-loop
 loop-less c = search needs
 
--- src/lib.rt:81:5
 loop-again : tie.Need-loop-again Inv-loop μ-loop
 loop-again c = filled-more (c .before .before .loop .inv) (c .before .loop-test .taken) (c .end-of .ensures)
 
--- src/lib.rt:75:1
 returns : tie.Need-returns Inv-loop μ-loop
 returns c = filled-done (c .before .loop .inv) (c .loop-test .left) refl
 

@@ -18,35 +18,27 @@ Inv-loop k heads c₀ c = NoneSoFar 16 (λ i. eqb (at heads i) k) c
 abbrev μ-loop : tie.MeasureT-loop
 μ-loop k heads c₀ c = 16 - c
 
--- src/lib.rt:117:5
 loop-holds : tie.Need-loop-holds Inv-loop μ-loop
 loop-holds c = search-none
 
--- src/lib.rt:118:12
 mul-if1 : tie.Need-mul-if1 Inv-loop μ-loop
 mul-if1 c = search needs
 
--- src/lib.rt:118:12
 array-read-if1 : tie.Need-array-read-if1 Inv-loop μ-loop
 array-read-if1 c = search needs
 
--- src/lib.rt:119:13
 returns : tie.Need-returns Inv-loop μ-loop
 returns c = sym (search-found (c .before .before .loop .inv) (c .before .loop-test .taken) refl (eq-eqb _ _ (c .if1 .taken)))
 
--- src/lib.rt:121:9
 add-c : tie.Need-add-c Inv-loop μ-loop
 add-c c = search needs
 
--- src/lib.rt:117:5
 loop-less : tie.Need-loop-less Inv-loop μ-loop
 loop-less c = search needs
 
--- src/lib.rt:117:5
 loop-again : tie.Need-loop-again Inv-loop μ-loop
 loop-again c = search-more (c .before .before .loop .inv) (c .before .loop-test .taken) (ne-eqb _ _ (c .if1 .left))
 
--- src/lib.rt:113:1
 returns-2 : tie.Need-returns-2 Inv-loop μ-loop
 returns-2 c = let e : 16 ≡ c .before .loop .c = let i : _ = c .before .loop .inv .within in let l : _ = c .loop-test .left in omega arith in e ∙ sym (search-done (c .before .loop .inv) (c .loop-test .left) refl)
 

@@ -1,7 +1,7 @@
 -- `readout::head_differs` tells a head of the same change with another vector. Assumes nothing.
 use Prim.Native.Nat.{ℕ}
-use mathlib.Core.Path.{_≡_, refl, sym, _∙_, ap, ap₂}
-use mathlib.Core.Bool.{Bool, not, _&&_}
+use mathlib.Core.Path.{_∙_, ap}
+use mathlib.Core.Bool.{not}
 use borrow.Author.Tests.{eq-eqb, ne-eqb}
 use Rattle.readout.specs.Heads.{sameEntries}
 use borrow.Author.Needs.{needs}
@@ -12,21 +12,17 @@ use Rattle.readout.proofs.head_differs.Lts as lts
 use Rattle.readout.proofs.head_place.Reads as head-place-reads
 use Rattle.readout.proofs.same_entries.Reads as same-entries-reads
 
--- src/lib.rt:140:13
 head-place-requires : tie.Need-head-place-requires
 head-place-requires c κs = search needs
 
--- src/lib.rt:141:10
 same-entries-requires : tie.Need-same-entries-requires
 same-entries-requires c κs = search needs
 
--- src/lib.rt:127:1
 returns : tie.Need-returns
 returns c =
     let a : _ = c .before .before .before .args in
     rw (eq-eqb (a .head) (a .k) (c .before .before .if1 .taken)) (ap not (c .same-entries .ensures ∙ ap (λ (q : ℕ). sameEntries (a .entries .now) (a .n) q (a .p)) (c .before .head-place .ensures .0)))
 
--- src/lib.rt:127:1
 returns-2 : tie.Need-returns-2
 returns-2 c = let a : _ = c .before .args in rw (ne-eqb (a .head) (a .k) (c .if1 .left))
 

@@ -9,31 +9,24 @@ use Rattle.readout.proofs.first_with.Reads as first-with-reads
 use Rattle.readout.proofs.head_place.Reads as head-place-reads
 use Rattle.readout.proofs.some_differs.Reads as some-differs-reads
 
--- src/lib.rt:180:9
 first-with-requires : tie.Need-first-with-requires
 first-with-requires c κs = search needs
 
--- src/lib.rt:182:35
 mul-head-place : tie.Need-mul-head-place
 mul-head-place c = search needs
 
--- src/lib.rt:182:35
 array-read-head-place : tie.Need-array-read-head-place
 array-read-head-place c = search needs
 
--- src/lib.rt:182:13
 head-place-requires : tie.Need-head-place-requires
 head-place-requires c κs = search needs
 
--- src/lib.rt:183:9
 some-differs-requires : tie.Need-some-differs-requires
 some-differs-requires c κs = search needs
 
--- src/lib.rt:170:1
 returns : tie.Need-returns
 returns c = let a : _ = c .before .before .before .before .args in compared-some (a .entries .now) (a .heads) (a .t3) (a .n) (a .k) (c .before .before .before .first-with .ensures) (c .before .before .if1 .taken) (c .before .head-place .ensures .0) (c .some-differs .ensures)
 
--- src/lib.rt:170:1
 returns-2 : tie.Need-returns-2
 returns-2 c = let a : _ = c .before .before .args in compared-none (a .entries .now) (a .heads) (a .t3) (a .n) (a .k) (c .before .first-with .ensures) (c .if1 .left)
 

@@ -1,5 +1,5 @@
 -- `readout::joint_verdict` judges the sheets beside each other, in the order 11, 24, 10. Assumes nothing.
-use mathlib.Core.Path.{_≡_, refl, sym, _∙_}
+use mathlib.Core.Path.{refl, sym, _∙_}
 use native.Mathlib.Omega.{arith}
 use borrow.Author.Tests.{eq-eqb, ne-eqb}
 use Rattle.readout.specs.Heads.{listsRead}
@@ -14,44 +14,36 @@ use Rattle.readout.proofs.lowest.Reads as lowest-reads
 use Rattle.readout.proofs.sessions_apart.Reads as sessions-apart-reads
 use Rattle.readout.proofs.two_vectors.Reads as two-vectors-reads
 
--- src/lib.rt:237:32
 before-requires : tie.Need-before-requires
 before-requires c κs = search needs
 
--- src/lib.rt:237:9
 lowest-requires : tie.Need-lowest-requires
 lowest-requires c κs = omega (arith, c .before2 .ensures, c .before .pre .0)
 
--- src/lib.rt:238:8
 sessions-apart-requires : tie.Need-sessions-apart-requires
 sessions-apart-requires c κs = search needs
 
--- src/lib.rt:239:9
 returns : tie.Need-returns
 returns c =
     let a : _ = c .before .before .before .before .args in
     let r = listsRead (a .changes .now) (a .entries .now) (a .sessions) (a .bases) (a .counts) in
     joint-tests r (a .n) (c .before .before .before .before2 .ensures) (c .before .before .lowest .ensures) (sym (c .if1 .taken) ∙ c .before .sessions-apart .ensures) refl refl
 
--- src/lib.rt:242:9
 returns-2 : tie.Need-returns-2
 returns-2 c =
     let a : _ = c .before .before .before .before .before .args in
     let r = listsRead (a .changes .now) (a .entries .now) (a .sessions) (a .bases) (a .counts) in
     joint-tests r (a .n) (c .before .before .before .before .before2 .ensures) (c .before .before .before .lowest .ensures) (sym (c .before .if1 .left) ∙ c .before .before .sessions-apart .ensures) (eq-eqb _ _ (c .if2 .taken)) refl
 
--- src/lib.rt:244:8
 two-vectors-requires : tie.Need-two-vectors-requires
 two-vectors-requires c κs = c .before .before .before .before .before .pre
 
--- src/lib.rt:245:9
 returns-3 : tie.Need-returns-3
 returns-3 c =
     let a : _ = c .before .before .before .before .before .before .before .args in
     let r = listsRead (a .changes .now) (a .entries .now) (a .sessions) (a .bases) (a .counts) in
     joint-tests r (a .n) (c .before .before .before .before .before .before .before2 .ensures) (c .before .before .before .before .before .lowest .ensures) (sym (c .before .before .before .if1 .left) ∙ c .before .before .before .before .sessions-apart .ensures) (ne-eqb _ _ (c .before .before .if2 .left)) (sym (c .if3 .taken) ∙ c .before .two-vectors .ensures ∙ two-lists (a .changes .now) (a .entries .now) (a .sessions) (a .bases) (a .counts) (a .n))
 
--- src/lib.rt:226:1
 returns-4 : tie.Need-returns-4
 returns-4 c =
     let a : _ = c .before .before .before .before .before .before .before .args in

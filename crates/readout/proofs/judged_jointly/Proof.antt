@@ -1,6 +1,6 @@
 -- `readout::judged_jointly` gives the read-out, or zeros where it is refused. Assumes nothing.
-use Prim.Native.Nat.{ℕ, min}
-use mathlib.Core.Path.{_≡_, refl, sym, _∙_, ap, subst}
+use Prim.Native.Nat.{ℕ}
+use mathlib.Core.Path.{sym, _∙_, ap, subst}
 use native.Mathlib.Omega.{arith}
 use Rattle.frame.specs.declared.Verdict.{Verdict}
 use Rattle.readout.specs.Heads.{Orderly}
@@ -15,36 +15,29 @@ use Rattle.readout.proofs.joint_verdict.Reads as joint-verdict-reads
 use Rattle.readout.proofs.least.Reads as least-reads
 use Rattle.readout.proofs.no_readout.Reads as no-readout-reads
 
--- src/lib.rt:274:9
 least-requires : tie.Need-least-requires
 least-requires c κs = search needs
 
--- src/lib.rt:275:9
 joint-verdict-requires : tie.Need-joint-verdict-requires
 joint-verdict-requires c κs =
     let r = c .before .before .before .before .before .before .before .args .t1 in
     let e = c .before .before .before .least .ensures in
     (omega (arith, e), subst (λ (n : ℕ). Orderly (r .changes) (r .bases) (r .counts) n) (sym e) (c .before .before .before .before .before .before .before .pre))
 
--- src/lib.rt:278:22
 enum-told : tie.Need-enum-told
 enum-told c = search needs
 
--- src/lib.rt:281:26
 enum-known-v : tie.Need-enum-known-v
 enum-known-v c = search needs
 
--- src/lib.rt:281:32
 no-readout-requires : tie.Need-no-readout-requires
 no-readout-requires c κs = search needs
 
--- src/lib.rt:267:1
 returns : tie.Need-returns
 returns c =
     let r = c .before .before .before .before .before .before .before .before .before .before .args .t1 in
     ap (λ (v : Verdict). joined v r) (sym (c .enum-told .given .1) ∙ c .before .before .joint-verdict .ensures ∙ joint-lists r (c .before .before .before .before .before .before .least .result) ∙ ap (jointVerdict r) (c .before .before .before .before .before .before .least .ensures))
 
--- src/lib.rt:267:1
 returns-2 : tie.Need-returns-2
 returns-2 c =
     let r = c .before .before .before .before .before .before .before .before .before .before .before .before .args .t1 in

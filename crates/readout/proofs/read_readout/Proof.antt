@@ -1,12 +1,8 @@
 -- `readout::read_readout` reads a joined read-out. Assumes nothing.
-use Prim.Native.Nat.{ℕ}
 use Rattle.frame.specs.declared.Verdict.{Verdict}
-use Rattle.sheet.specs.declared.Readout.{Readout}
-use Rattle.sheet.specs.Walk.{noReadout}
-use mathlib.Core.Path.{_≡_, refl, sym, _∙_, ap}
+use mathlib.Core.Path.{sym, _∙_, ap}
 use borrow.Author.Needs.{needs}
-use native.Mathlib.Omega.{arith}
-use Rattle.readout.specs.Joint.{jointVerdict, joined, lined, readoutOf}
+use Rattle.readout.specs.Joint.{joined, lined}
 use Rattle.readout.proofs.Turns.{long-read, lines-read}
 use Rattle.readout.proofs.Tidy.{reading-orderly}
 use Rattle.readout.proofs.read_readout.Statement.{statement}

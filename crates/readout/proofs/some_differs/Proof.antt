@@ -17,47 +17,36 @@ Inv-loop entries k p n heads passed other₀ other = NoneSoFar 16 (headDiffers e
 abbrev μ-loop : tie.MeasureT-loop
 μ-loop entries k p n heads passed other₀ other = 16 - other
 
--- src/lib.rt:160:5
 loop-holds : tie.Need-loop-holds Inv-loop μ-loop
 loop-holds c = search-none
 
--- src/lib.rt:161:34
 mul-head-differs : tie.Need-mul-head-differs Inv-loop μ-loop
 mul-head-differs c = search needs
 
--- src/lib.rt:161:34
 array-read-head-differs : tie.Need-array-read-head-differs Inv-loop μ-loop
 array-read-head-differs c = search needs
 
--- src/lib.rt:161:55
 mul-head-differs-2 : tie.Need-mul-head-differs-2 Inv-loop μ-loop
 mul-head-differs-2 c = search needs
 
--- src/lib.rt:161:55
 array-read-head-differs-2 : tie.Need-array-read-head-differs-2 Inv-loop μ-loop
 array-read-head-differs-2 c = search needs
 
--- src/lib.rt:161:12
 head-differs-requires : tie.Need-head-differs-requires Inv-loop μ-loop
 head-differs-requires c κs = search needs
 
--- src/lib.rt:162:13
 returns : tie.Need-returns Inv-loop μ-loop
 returns c = none-stop (c .before .before .before .loop .inv) (omega (arith, c .before .before .loop-test .taken)) (c .before .head-differs .ensures) (c .if1 .taken)
 
--- src/lib.rt:164:9
 add-other : tie.Need-add-other Inv-loop μ-loop
 add-other c = search needs
 
--- src/lib.rt:160:5
 loop-less : tie.Need-loop-less Inv-loop μ-loop
 loop-less c = search needs
 
--- src/lib.rt:160:5
 loop-again : tie.Need-loop-again Inv-loop μ-loop
 loop-again c = none-more (c .before .before .before .loop .inv) (omega (arith, c .before .before .loop-test .taken)) (c .before .head-differs .ensures) (c .if1 .left)
 
--- src/lib.rt:148:1
 returns-2 : tie.Need-returns-2 Inv-loop μ-loop
 returns-2 c = none-end (c .before .loop .inv) (omega (arith, c .loop-test .left))
 

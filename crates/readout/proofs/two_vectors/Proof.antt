@@ -1,5 +1,5 @@
 -- `readout::two_vectors` merges the sheets' frames and compares the vectors of each change. The invariant: frames of one change up to k have one vector. Assumes nothing.
-use Prim.Native.Nat.{ℕ, _-_, _<_}
+use Prim.Native.Nat.{ℕ, _-_}
 use mathlib.Core.Path.{sym, subst}
 use mathlib.Core.List.{List}
 use native.Mathlib.Omega.{arith}
@@ -22,60 +22,48 @@ Inv-loop changes entries n cards ends passed₀ heads₀ k₀ x₀ passed heads 
 abbrev μ-loop : tie.MeasureT-loop
 μ-loop changes entries n cards ends passed₀ heads₀ k₀ x₀ passed heads k x = 4294967296 - k
 
--- src/lib.rt:201:9
 ends-of-requires : tie.Need-ends-of-requires Inv-loop μ-loop
 ends-of-requires c κs = c .pre .1 .states
 
--- src/lib.rt:203:9
 heads-requires : tie.Need-heads-requires Inv-loop μ-loop
 heads-requires c κs = search needs
 
--- src/lib.rt:205:9
 least-requires : tie.Need-least-requires Inv-loop μ-loop
 least-requires c κs = search needs
 
--- src/lib.rt:206:5
 loop-holds : tie.Need-loop-holds Inv-loop μ-loop
 loop-holds c =
     let s : _ = c .before .before .before in
     let e : _ = c .before .before .ends-of in
     looked-none (s .args .changes .now) (s .args .entries .now) (s .args .bases) (e .result) (s .args .n) (subst (λ (l : List ℕ). Rises (s .args .changes .now) (s .args .bases) l) (sym (e .ensures)) (s .pre .1 .rises)) (c .before .heads .ensures) (c .least .ensures) (search needs)
 
--- src/lib.rt:207:12
 heads-differ-requires : tie.Need-heads-differ-requires Inv-loop μ-loop
 heads-differ-requires c κs = search needs
 
--- src/lib.rt:208:13
 returns : tie.Need-returns Inv-loop μ-loop
 returns c =
     let s : _ = c .before .before .before .before .before .before .before in
     let e : _ = c .before .before .before .before .before .before .ends-of in
     looked-found (s .args .changes .now) (s .args .entries .now) (s .args .bases) (e .result) (s .args .n) (subst (λ (l : List ℕ). Rises (s .args .changes .now) (s .args .bases) l) (sym (e .ensures)) (s .pre .1 .rises)) (c .before .before .before .loop .inv) (c .before .before .loop-test .taken) (s .args .counts) (e .ensures) (c .before .heads-differ .ensures) (c .if1 .taken)
 
--- src/lib.rt:211:13
 past-requires : tie.Need-past-requires Inv-loop μ-loop
 past-requires c κs = search needs
 
--- src/lib.rt:213:13
 heads-requires-2 : tie.Need-heads-requires-2 Inv-loop μ-loop
 heads-requires-2 c κs = search needs
 
--- src/lib.rt:215:13
 least-requires-2 : tie.Need-least-requires-2 Inv-loop μ-loop
 least-requires-2 c κs = search needs
 
--- src/lib.rt:206:5
 loop-less : tie.Need-loop-less Inv-loop μ-loop
 loop-less c = let s : _ = c .before .before .before .before .before .before .loop .inv in omega (arith, s .fits, c .before .before .before .before .before .loop-test .taken)
 
--- src/lib.rt:206:5
 loop-again : tie.Need-loop-again Inv-loop μ-loop
 loop-again c =
     let s : _ = c .before .before .before .before .before .before .before .before .before .before in
     let e : _ = c .before .before .before .before .before .before .before .before .before .ends-of in
     looked-more (s .args .changes .now) (s .args .entries .now) (s .args .bases) (e .result) (s .args .n) (subst (λ (l : List ℕ). Rises (s .args .changes .now) (s .args .bases) l) (sym (e .ensures)) (s .pre .1 .rises)) (c .before .before .before .before .before .before .loop .inv) (c .before .before .before .before .before .loop-test .taken) (c .before .before .before .before .heads-differ .ensures) (c .before .before .before .if1 .left) (c .before .before .past .ensures) (c .before .heads2 .ensures) (c .least2 .ensures) (search needs)
 
--- src/lib.rt:190:1
 returns-2 : tie.Need-returns-2 Inv-loop μ-loop
 returns-2 c =
     let s : _ = c .before .before .before .before .before in

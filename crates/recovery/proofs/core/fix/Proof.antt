@@ -1,23 +1,8 @@
 use lib.ListN.{replicate}
 use Rattle.verdicts.proofs.Held.{zero-listed}
 use Rattle.recovery.proofs.Told.{line-rises, early-told, short-told, fixed-told, foundLine}
-use Rattle.verdicts.specs.declared.Reply.the-variants.{Done, Refused}
-use Prim.Native.Nat.{ℕ, zero, suc, _+_, _*_, _-_, _/_, _%_, _^_, _≤_, _<_, max}
-use mathlib.Core.Path.{_≡_, refl, sym, _∙_, ap, ap₂}
-use mathlib.Core.Bool.{Bool, true, false, not, _&&_, _||_, cond}
-use mathlib.Core.List.{List, [], _∷_, _++_}
-use mathlib.Core.Logic.{⊎-elim, by-cases, inl, inr}
-use native.Mathlib.Numerals.{add-one}
-use native.Mathlib.Omega.{arith}
-use lib.ListN.{length, getD, set, List·getD-eq-default}
-use lib.Dec.{leb, ltb, eqb}
-use borrow.Author.Tests.{eq-eqb, ne-eqb, lt-ltb, le-ltb, le-leb, lt-leb, ltb-true, leb-true}
-use Rattle.laws.specs.Below.{allBelow, anyBelow, tabulate}
-use Rattle.laws.proofs.Logic.{test, clash, cond-true, cond-false, and-intro, and-left, and-right}
-use Rattle.laws.proofs.Fill.{AnySoFar, any-none, any-more, any-done, any-same, all-same, FilledSoFar, filled-none, filled-more, filled-done}
-use Rattle.history.specs.Line.{orphan, climb, lineFrom}
-use Rattle.verdicts.specs.Shape.{limits16, at, listOf, setOf, ringFrame, ringPlace, headModel, modelOf}
-use Rattle.verdicts.proofs.Limits.{width16, places8, greatestNumber32}
+use Prim.Native.Nat.{_-_, _/_}
+use mathlib.Core.Path.{refl, sym, _∙_}
 use borrow.Author.Needs.{needs}
 use Rattle.recovery.proofs.core.fix.Statement.{statement}
 use Rattle.recovery.proofs.core.fix.Tie as tie
@@ -29,31 +14,24 @@ use Rattle.recovery.proofs.lines.Reads as lines-reads
 use Rattle.recovery.proofs.lost.count_lost.Reads as count-lost-reads
 use Rattle.recovery.proofs.lost.write_lost.Reads as write-lost-reads
 
--- src/core.rt:58:9
 fix-reply-requires : tie.Need-fix-reply-requires
 fix-reply-requires c κs = search needs
 
--- src/core.rt:61:17
 enum-told : tie.Need-enum-told
 enum-told c = search needs
 
--- src/core.rt:61:17
 lines-requires : tie.Need-lines-requires
 lines-requires c κs = search needs
 
--- src/core.rt:62:17
 count-lost-requires : tie.Need-count-lost-requires
 count-lost-requires c κs = search needs
 
--- src/core.rt:63:17
 is-short-requires : tie.Need-is-short-requires
 is-short-requires c κs = search needs
 
--- src/core.rt:70:17
 write-lost-requires : tie.Need-write-lost-requires
 write-lost-requires c κs = search needs
 
--- src/core.rt:77:24
 enum-known-first : tie.Need-enum-known-first
 enum-known-first c = search needs
 

@@ -1,5 +1,5 @@
 -- `recovery::lost::count_lost` counts the changes lost. The invariant: those up to k are met and counted. Assumes nothing.
-use Prim.Native.Nat.{ℕ, _-_, _<_}
+use Prim.Native.Nat.{_-_}
 use native.Mathlib.Omega.{arith}
 use Rattle.recovery.proofs.Next.{lostTo}
 use Rattle.recovery.proofs.Merged.{Counting, counting-none, counting-more, counting-done}
@@ -19,53 +19,42 @@ Inv-loop makers ended cards ends passed₀ heads₀ count₀ k₀ x₀ passed he
 abbrev μ-loop : tie.MeasureT-loop
 μ-loop makers ended cards ends passed₀ heads₀ count₀ k₀ x₀ passed heads count k x = 4294967296 - k
 
--- src/lost.rt:71:9
 ends-of-requires : tie.Need-ends-of-requires Inv-loop μ-loop
 ends-of-requires c κs = search needs
 
--- src/lost.rt:73:9
 heads-requires : tie.Need-heads-requires Inv-loop μ-loop
 heads-requires c κs = search needs
 
--- src/lost.rt:76:9
 next-lost-requires : tie.Need-next-lost-requires Inv-loop μ-loop
 next-lost-requires c κs = search needs
 
--- src/lost.rt:77:5
 loop-holds : tie.Need-loop-holds Inv-loop μ-loop
 loop-holds c =
     let a : _ = c .before .before .before .args in
     let e : _ = c .before .before .ends-of in
     counting-none (a .makers .now) (a .line) (e .result) (a .ended) (c .before .heads .ensures) (c .next-lost .ensures) (search needs)
 
--- src/lost.rt:78:9
 add-count : tie.Need-add-count Inv-loop μ-loop
 add-count c = let s : _ = c .before .loop .inv .stands in omega (arith, s .few, s .fits)
 
--- src/lost.rt:80:13
 past-requires : tie.Need-past-requires Inv-loop μ-loop
 past-requires c κs = search needs
 
--- src/lost.rt:82:13
 heads-requires-2 : tie.Need-heads-requires-2 Inv-loop μ-loop
 heads-requires-2 c κs = search needs
 
--- src/lost.rt:84:13
 next-lost-requires-2 : tie.Need-next-lost-requires-2 Inv-loop μ-loop
 next-lost-requires-2 c κs = search needs
 
--- src/lost.rt:77:5
 loop-less : tie.Need-loop-less Inv-loop μ-loop
 loop-less c = let s : _ = c .before .before .before .before .loop .inv .stands in omega (arith, s .fits, c .before .before .before .loop-test .taken)
 
--- src/lost.rt:77:5
 loop-again : tie.Need-loop-again Inv-loop μ-loop
 loop-again c =
     let a : _ = c .before .before .before .before .before .before .before .before .args in
     let e : _ = c .before .before .before .before .before .before .before .ends-of in
     counting-more (a .makers .now) (a .line) (e .result) (a .ended) (c .before .before .before .before .loop .inv) (c .before .before .before .loop-test .taken) (c .before .before .past .ensures) (c .before .heads2 .ensures) (c .next-lost2 .ensures) (search needs)
 
--- src/lost.rt:62:1
 returns : tie.Need-returns Inv-loop μ-loop
 returns c =
     let a : _ = c .before .before .before .before .before .args in

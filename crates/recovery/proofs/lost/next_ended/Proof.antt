@@ -17,39 +17,30 @@ Inv-loop k ended best₀ p₀ best p = LeastSoFar 8 (λ i. numberAbove (at ended
 abbrev μ-loop : tie.MeasureT-loop
 μ-loop k ended best₀ p₀ best p = 8 - p
 
--- src/lost.rt:22:5
 loop-holds : tie.Need-loop-holds Inv-loop μ-loop
 loop-holds c = least-none
 
--- src/lost.rt:23:30
 mul-number-above : tie.Need-mul-number-above Inv-loop μ-loop
 mul-number-above c = search needs
 
--- src/lost.rt:23:30
 array-read-number-above : tie.Need-array-read-number-above Inv-loop μ-loop
 array-read-number-above c = search needs
 
--- src/lost.rt:23:13
 number-above-requires : tie.Need-number-above-requires Inv-loop μ-loop
 number-above-requires c κs = search needs
 
--- src/lost.rt:24:13
 lesser-requires : tie.Need-lesser-requires Inv-loop μ-loop
 lesser-requires c κs = search needs
 
--- src/lost.rt:26:9
 add-p : tie.Need-add-p Inv-loop μ-loop
 add-p c = search needs
 
--- src/lost.rt:22:5
 loop-less : tie.Need-loop-less Inv-loop μ-loop
 loop-less c = search needs
 
--- src/lost.rt:22:5
 loop-again : tie.Need-loop-again Inv-loop μ-loop
 loop-again c = least-more (c .before .before .before .loop .inv) (c .before .before .loop-test .taken) (c .before .number-above .ensures) (c .lesser .ensures)
 
--- src/lost.rt:17:1
 returns : tie.Need-returns Inv-loop μ-loop
 returns c = least-done (c .before .loop .inv) (c .loop-test .left)
 

@@ -1,5 +1,5 @@
 -- `recovery::lost::next_lost` is the lesser of what comes next at the heads and among the changes ended. Assumes nothing.
-use mathlib.Core.Path.{_≡_, _∙_, ap₂}
+use mathlib.Core.Path.{_∙_, ap₂}
 use Rattle.merge.specs.Merge.{lesser}
 use borrow.Author.Needs.{needs}
 use Rattle.recovery.proofs.lost.next_lost.Statement.{statement}
@@ -10,19 +10,15 @@ use Rattle.merge.proofs.least.Reads as least-reads
 use Rattle.merge.proofs.lesser.Reads as lesser-reads
 use Rattle.recovery.proofs.lost.next_ended.Reads as next-ended-reads
 
--- src/lost.rt:56:9
 least-requires : tie.Need-least-requires
 least-requires c κs = search needs
 
--- src/lost.rt:57:9
 next-ended-requires : tie.Need-next-ended-requires
 next-ended-requires c κs = search needs
 
--- src/lost.rt:58:5
 lesser-requires : tie.Need-lesser-requires
 lesser-requires c κs = search needs
 
--- src/lost.rt:53:1
 returns : tie.Need-returns
 returns c = c .lesser .ensures ∙ ap₂ lesser (c .before .before .least .ensures) (c .before .next-ended .ensures)
 

@@ -1,5 +1,5 @@
 -- `recovery::lost::write_lost` writes the changes lost. The invariant: those up to k are met and stand at the beginning of the list. Assumes nothing.
-use Prim.Native.Nat.{ℕ, _-_, _<_}
+use Prim.Native.Nat.{_-_}
 use native.Mathlib.Omega.{arith}
 use Rattle.recovery.proofs.Next.{lostTo}
 use Rattle.recovery.proofs.Merged.{Writing, writing-none, writing-more, writing-done}
@@ -20,61 +20,48 @@ Inv-loop list₀ makers ended cards ends passed₀ heads₀ n₀ k₀ x₀ list 
 abbrev μ-loop : tie.MeasureT-loop
 μ-loop list₀ makers ended cards ends passed₀ heads₀ n₀ k₀ x₀ list passed heads n k x = 4294967296 - k
 
--- src/lost.rt:110:9
 ends-of-requires : tie.Need-ends-of-requires Inv-loop μ-loop
 ends-of-requires c κs = search needs
 
--- src/lost.rt:112:9
 heads-requires : tie.Need-heads-requires Inv-loop μ-loop
 heads-requires c κs = search needs
 
--- src/lost.rt:115:9
 next-lost-requires : tie.Need-next-lost-requires Inv-loop μ-loop
 next-lost-requires c κs = search needs
 
--- src/lost.rt:116:5
 loop-holds : tie.Need-loop-holds Inv-loop μ-loop
 loop-holds c =
     let a : _ = c .before .before .before .before .args in
     let e : _ = c .before .before .ends-of in
     writing-none (a .makers .now) (a .line) (e .result) (a .ended) (c .before .heads .ensures) (c .next-lost .ensures) (search needs)
 
--- src/lost.rt:117:9
 put-requires : tie.Need-put-requires Inv-loop μ-loop
 put-requires c κs = search needs
 
--- src/lost.rt:118:9
 add-n : tie.Need-add-n Inv-loop μ-loop
 add-n c = let s : _ = c .before .before .before .before .before .loop .inv .stands in omega (arith, s .few, s .fits, c .before .before .before .before .loop-test .taken)
 
--- src/lost.rt:120:13
 past-requires : tie.Need-past-requires Inv-loop μ-loop
 past-requires c κs = search needs
 
--- src/lost.rt:122:13
 heads-requires-2 : tie.Need-heads-requires-2 Inv-loop μ-loop
 heads-requires-2 c κs = search needs
 
--- src/lost.rt:124:13
 next-lost-requires-2 : tie.Need-next-lost-requires-2 Inv-loop μ-loop
 next-lost-requires-2 c κs = search needs
 
--- src/lost.rt:116:5
 loop-less : tie.Need-loop-less Inv-loop μ-loop
 loop-less c = let s : _ = c .before .before .before .before .before .before .before .before .loop .inv .stands in omega (arith, s .fits, c .before .before .before .before .before .before .before .loop-test .taken)
 
--- src/lost.rt:116:5
 loop-again : tie.Need-loop-again Inv-loop μ-loop
 loop-again c =
     let a : _ = c .before .before .before .before .before .before .before .before .before .before .before .before .before .args in
     let e : _ = c .before .before .before .before .before .before .before .before .before .before .before .ends-of in
     writing-more (a .makers .now) (a .line) (e .result) (a .ended) (c .before .before .before .before .before .before .before .before .loop .inv) (c .before .before .before .before .before .before .before .loop-test .taken) (c .before .before .before .before .before .put .ensures) (c .before .before .past .ensures) (c .before .heads2 .ensures) (c .next-lost2 .ensures) (search needs)
 
--- src/lost.rt:100:1
 same-length : tie.Need-same-length Inv-loop μ-loop
 same-length c = c .before .loop .inv .long
 
--- src/lost.rt:100:1
 returns : tie.Need-returns Inv-loop μ-loop
 returns c =
     let a : _ = c .before .before .before .before .before .before .args in
