@@ -1,12 +1,9 @@
-// Reads records from standard input, each a length of four bytes and as many bytes of a joined read-out, restarts from
-// each, and prints what document 01 has the line program print: card, stored and line of each card and the session after
-// recovery, or the refusal. The records and what is to be printed were made by bench/restart/readouts.py from document 01
+// Reads records from standard input, each a length of four bytes and as many bytes of a joined read-out, and prints for
+// each what the line program prints. The records and what is to be printed were made by bench/restart/readouts.py from document 01
 // alone: `python3 bench/restart/readouts.py crates/restart_check`.
 ghost use Prim.Native.Nat.{_<_};
-use cabinet::Cabinet;
 use libc::STDIN_FILENO;
 use libc::STDOUT_FILENO;
-use verdicts::Reply;
 
 fn wide(b: u8) -> usize
     ensures { λ r. ⌜ r < 256 ⌝ }
@@ -14,42 +11,16 @@ fn wide(b: u8) -> usize
     b as usize
 }
 
-fn say(n: u32, end: &[u8]) {
-    io::print_decimal(STDOUT_FILENO, n as u64);
-    io::write_all(STDOUT_FILENO, end);
-}
-
-// The line of each card, and the session after recovery.
-fn show(c: Cabinet) {
-    let head = c.head;
-    let mut i: u32 = 0;
-    while i < 16 {
-        if i < head.cards {
-            let k = i as usize;
-            say(i, b" ");
-            say(c.stored[k], b" ");
-            say(c.line[k], b"\n");
-        }
-        i += 1;
+fn print(text: &[u8], n: usize) {
+    if n <= text.len() {
+        io::write_all(STDOUT_FILENO, &text[..n]);
     }
-    io::write_all(STDOUT_FILENO, b"session ");
-    io::print_decimal(STDOUT_FILENO, head.session as u64 + 1);
-    io::write_all(STDOUT_FILENO, b"\n");
 }
 
 fn answer(bytes: &[u8]) {
-    let a = restart::restart(bytes);
-    let r = a.reply;
-    match r {
-        Reply::Done => {
-            let c = a.cabinet;
-            show(c);
-        }
-        Reply::Refused(q) => {
-            io::write_all(STDOUT_FILENO, b"refused ");
-            say(refusal::number(q), b"\n");
-        }
-    }
+    let t = report::line_text(bytes);
+    let text = t.bytes;
+    print(&text, t.length);
 }
 
 // Reads a read-out of n bytes and prints what comes of it; false where there are fewer.
