@@ -1,0 +1,23 @@
+-- `trace::step` reads a line and does what it says. Assumes nothing.
+use mathlib.Core.Path.{sym}
+use Rattle.words.specs.declared.Spoken.{Spoken}
+use Rattle.trace.specs.Steps.{Steps}
+use Rattle.trace.proofs.Laws.{told-for}
+use borrow.Author.Needs.{needs}
+use Rattle.trace.proofs.step.Statement.{statement}
+use Rattle.trace.proofs.step.Tie as tie
+
+says-requires : tie.Need-says-requires
+says-requires c κs = search needs
+
+obey-requires : tie.Need-obey-requires
+obey-requires c κs = search needs
+
+same-length : tie.Need-same-length
+same-length c = search needs
+
+returns : tie.Need-returns
+returns c = told-for (λ (x : Spoken). Steps x (c .before .before .before .before .before .before .before .args .r) (c .before .before .obey .result .replay)) (sym (c .before .before .before .before .says .ensures)) (c .before .before .obey .ensures)
+
+pub step-spec : {M : Type 1} → statement M
+step-spec = tie.close (tie.spec says-requires obey-requires same-length returns)
