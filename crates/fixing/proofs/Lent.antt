@@ -15,7 +15,7 @@ use Rattle.refusal.specs.declared.Refusal.{Refusal}
 use Rattle.refusal.specs.declared.Refusal.the-variants.{BadCabinet, WrongPhase, TooShort, LimitReached}
 use Rattle.protocol.specs.Model.{Model, isDown}
 use Rattle.protocol.specs.Edit.{Edit, fix}
-use Rattle.protocol.specs.Plan.{CardRow, Answer, fixed, Check, _⇒_, Plan, checked, accepted, refused}
+use Rattle.protocol.specs.Plan.{CardRow, Answer, fixed, Check, _⇒_, Plan, checked, accepted}
 use Rattle.protocol.specs.Plan as plan
 use Rattle.protocol.specs.Sound.{sound, sessionSound, cardsSound, cardSound, placeSound}
 use Rattle.protocol.specs.Calls.{lines, cardRows, fixChecks, fixPlan}

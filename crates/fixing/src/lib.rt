@@ -24,13 +24,13 @@ fn numbers_of(answer: FixAnswer) -> CardNumbers
     match reply {
         FixReply::Fixed(_) => CardNumbers {
             cards: cards as usize,
-            stored: stored,
-            line: line,
+            first: stored,
+            second: line,
         },
         FixReply::NotFixed(_) => CardNumbers {
             cards: 0,
-            stored: stored,
-            line: line,
+            first: stored,
+            second: line,
         },
     }
 }

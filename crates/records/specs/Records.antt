@@ -11,7 +11,7 @@ use Rattle.records.specs.declared.CardNumbers.{CardNumbers}
 
 -- the record of card c: (card, stored, line)
 abbrev pub recordAt : CardNumbers → ℕ → CardRecord
-recordAt a c = record { card = c; stored = getD (a .stored) c 0; line = getD (a .line) c 0 }
+recordAt a c = record { card = c; stored = getD (a .first) c 0; line = getD (a .second) c 0 }
 
 -- how many places are written: one for each card where all have a place, else none
 abbrev pub placesUsed : CardNumbers → ℕ → ℕ

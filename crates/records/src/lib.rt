@@ -2,7 +2,6 @@
 ghost use mathlib.Core.Path.{_≡_};
 ghost use Prim.Native.Nat.{_<_};
 ghost use Rattle.records.specs.Records.{recordAt, placesUsed, filled};
-ghost use lib.ListN.{length};
 
 // One card's numbers as call 9 answers them.
 pub struct CardRecord {
@@ -11,11 +10,11 @@ pub struct CardRecord {
     pub line: u32,
 }
 
-// The whole answer by card: so many cards, the stored number and the line of each.
+// So many cards, and two numbers of each: of fix, the stored number and the line.
 pub struct CardNumbers {
     pub cards: usize,
-    pub stored: [u32; 16],
-    pub line: [u32; 16],
+    pub first: [u32; 16],
+    pub second: [u32; 16],
 }
 
 // One card's record.
@@ -25,8 +24,8 @@ fn record_of(numbers: CardNumbers, card: usize) -> CardRecord
 {
     CardRecord {
         card: card as u32,
-        stored: numbers.stored[card],
-        line: numbers.line[card],
+        stored: numbers.first[card],
+        line: numbers.second[card],
     }
 }
 

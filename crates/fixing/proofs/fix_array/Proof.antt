@@ -1,7 +1,7 @@
 -- `fixing::fix_array` meets its contract: a walk of its MIR, by hand. The array of card records lies in a local of its own; it is
 -- lent as a slice for a lifetime that the walk makes, and taken back at the slice's last list. Assumes nothing.
 use mathlib.Core.Path.{_≡_, refl, sym, _∙_, subst}
-use Prim.Native.Nat.{ℕ, _<_, _^_}
+use Prim.Native.Nat.{ℕ}
 use mathlib.Core.List.{List, [], _∷_}
 use lib.Dec.{lit<}
 use lib.ListN.{length}
@@ -26,7 +26,7 @@ use types.Tokens.{lft-new, lft-end}
 use sound.WpLaws.{FmC, fmOf, WpFn-mono}
 use denote.RattleType.{RattleType, owns}
 use denote.Laws.{Is, shows}
-use denote.Memory.{cellAt, partAt, mem, shares, pointee, partOf}
+use denote.Memory.{cellAt, mem, shares, pointee, partOf}
 use denote.Array.{Array, array-vals, array-tells, array-lawful, array-makes}
 use denote.ArrayMemory.{array-apart, array-whole}
 use denote.Builtin.{u32, ArrayOf}

@@ -1,8 +1,7 @@
-use mathlib.Core.Path.{_≡_, sym, ap}
+use mathlib.Core.Path.{sym, ap}
 use Prim.Native.Nat.{ℕ}
 use borrow.Author.Needs.{needs}
 use Rattle.recovery.specs.declared.FixReply.{FixReply}
-use Rattle.records.specs.declared.CardNumbers.{CardNumbers}
 use Rattle.fixing.specs.Lent.{cardsIn}
 use Rattle.fixing.proofs.numbers_of.Statement.{statement}
 use Rattle.fixing.proofs.numbers_of.Tie as tie
@@ -23,11 +22,11 @@ enum-told-2 c = search needs
 
 -- src/lib.rt:11:1
 returns : tie.Need-returns
-returns c = let a : _ = c .before .before .before .before .args .answer in ap (λ (k : ℕ). record { cards = k; stored = a .stored; line = a .line }) (sym (ap (λ (r : FixReply). cardsIn r (a .cabinet .head .cards)) (c .enum-told .given .1)))
+returns c = let a : _ = c .before .before .before .before .args .answer in ap (λ (k : ℕ). record { cards = k; first = a .stored; second = a .line }) (sym (ap (λ (r : FixReply). cardsIn r (a .cabinet .head .cards)) (c .enum-told .given .1)))
 
 -- src/lib.rt:11:1
 returns-2 : tie.Need-returns-2
-returns-2 c = let a : _ = c .before .before .before .before .args .answer in ap (λ (k : ℕ). record { cards = k; stored = a .stored; line = a .line }) (sym (ap (λ (r : FixReply). cardsIn r (a .cabinet .head .cards)) (c .enum-told2 .given .1)))
+returns-2 c = let a : _ = c .before .before .before .before .args .answer in ap (λ (k : ℕ). record { cards = k; first = a .stored; second = a .line }) (sym (ap (λ (r : FixReply). cardsIn r (a .cabinet .head .cards)) (c .enum-told2 .given .1)))
 
 pub numbers-of-spec : {M : Type 1} → statement M
 numbers-of-spec = tie.close (tie.spec enum-told cast-t7 enum-told-2 returns returns-2)
