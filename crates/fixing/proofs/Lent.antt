@@ -115,47 +115,53 @@ module _ (s : Cabinet) (records : List CardRecord) (list listNow : List ℕ) (a 
       filled-none (numbersOf a) records (ap (λ (r : FixReply). cardsIn r (a .cabinet .head .cards)) d)
       ∙ ap (λ (x : plan.Reply). recordsAfter x records) (told-reply (NotFixed q) d)
 
-  lent-fixed : (k : ℕ) → a .reply ≡ Fixed k → filled (numbersOf a) records ≡ recordsAfter (made .reply) records
-  lent-fixed k d =
-      filled-all (numbersOf a) records n (ap (λ (r : FixReply). cardsIn r (a .cabinet .head .cards)) d ∙ cards) (let w : _ = width16 in omega (arith, few, w)) fit
-      ∙ ap (λ (l : List CardRecord). sets records 0 l) (sym (map-tabulate recordOf n row) ∙ sym (ap (map recordOf) (rows-first n few row)))
-      ∙ ap (λ (x : plan.Reply). recordsAfter x records) (told-reply (Fixed k) d)
-    where
-      row : ℕ → CardRow
-      row c = record { card = c; stored = at (a .stored) c; line = at (a .line) c }
+  -- where fix is accepted
+  module _ (k : ℕ) (d : a .reply ≡ Fixed k) where
+    abbrev row : ℕ → CardRow
+    row c = record { card = c; stored = at (a .stored) c; line = at (a .line) c }
 
-      off : firstFailing checks ≡ Done
-      off = none-fails checks answered (fixed (rowsOf n (a .stored) (a .line)) (take k listNow)) (fix (lines limits16 (view s)) ∷ []) (told-reply (Fixed k) d)
+    off : firstFailing checks ≡ Done
+    off = none-fails checks answered (fixed (rowsOf n (a .stored) (a .line)) (take k listNow)) (fix (lines limits16 (view s)) ∷ []) (told-reply (Fixed k) d)
 
-      wrong : Bool
-      wrong = not (isDown (view s .phase))
+    abbrev wrong : Bool
+    wrong = not (isDown (view s .phase))
 
-      late : Bool
-      late = leb (limits16 .greatestNumber) (view s .session)
+    abbrev late : Bool
+    late = leb (limits16 .greatestNumber) (view s .session)
 
-      short : Bool
-      short = ltb (length records) (length (cardRows limits16 (view s)))
+    abbrev short : Bool
+    short = ltb (length records) (length (cardRows limits16 (view s)))
 
-      missing : Bool
-      missing = ltb (length list) (length (t .told .lost))
+    abbrev missing : Bool
+    missing = ltb (length list) (length (t .told .lost))
 
-      whole : Passes (not (sound limits16 (view s))) (wrong ⇒ WrongPhase ∷ late ⇒ LimitReached ∷ (short || missing) ⇒ TooShort ∷ [])
-      whole = passes (not (sound limits16 (view s))) BadCabinet (wrong ⇒ WrongPhase ∷ late ⇒ LimitReached ∷ (short || missing) ⇒ TooShort ∷ []) off
+    whole : Passes (not (sound limits16 (view s))) (wrong ⇒ WrongPhase ∷ late ⇒ LimitReached ∷ (short || missing) ⇒ TooShort ∷ [])
+    whole = passes (not (sound limits16 (view s))) BadCabinet (wrong ⇒ WrongPhase ∷ late ⇒ LimitReached ∷ (short || missing) ⇒ TooShort ∷ []) off
 
-      enough : Passes (short || missing) []
-      enough = passes (short || missing) TooShort [] (passes late LimitReached ((short || missing) ⇒ TooShort ∷ []) (passes wrong WrongPhase (late ⇒ LimitReached ∷ (short || missing) ⇒ TooShort ∷ []) (whole .after) .after) .after)
+    enough : Passes (short || missing) []
+    enough = passes (short || missing) TooShort [] (passes late LimitReached ((short || missing) ⇒ TooShort ∷ []) (passes wrong WrongPhase (late ⇒ LimitReached ∷ (short || missing) ⇒ TooShort ∷ []) (whole .after) .after) .after)
 
-      few : n ≤ limits16 .width
-      few = few-cards s (not-false (sound limits16 (view s)) (whole .here))
+    -- the cabinet has at most 16 cards, and the list a place for each
+    pub few : n ≤ limits16 .width
+    few = few-cards s (not-false (sound limits16 (view s)) (whole .here))
 
-      fit : n ≤ length records
-      fit =
-          let l : length (cardRows limits16 (view s)) ≤ length records = ltb-false (length records) (length (cardRows limits16 (view s))) (or-out short missing (enough .here)) in
-          let e : length (cardRows limits16 (view s)) ≡ n = rows-long n few _ in
-          omega (arith, l, e)
+    pub fit : n ≤ length records
+    fit =
+        let l : length (cardRows limits16 (view s)) ≤ length records = ltb-false (length records) (length (cardRows limits16 (view s))) (or-out short missing (enough .here)) in
+        let e : length (cardRows limits16 (view s)) ≡ n = rows-long n few _ in
+        omega (arith, l, e)
 
-      cards : a .cabinet .head .cards ≡ n
-      cards = ap (λ (c : Cabinet). c .head .cards) (t .cabinet) ∙ ap (λ (p : Plan). applyAll (p .edits) s .head .cards) (done-plan checks answered (fix (lines limits16 (view s)) ∷ []) off)
+    cards : a .cabinet .head .cards ≡ n
+    cards = ap (λ (c : Cabinet). c .head .cards) (t .cabinet) ∙ ap (λ (p : Plan). applyAll (p .edits) s .head .cards) (done-plan checks answered (fix (lines limits16 (view s)) ∷ []) off)
+
+    -- the list holds each card's record at the card's own place
+    pub in-place : recordsAfter (made .reply) records ≡ sets records 0 (tabulate n (λ c. recordOf (row c)))
+    in-place =
+        sym (ap (λ (x : plan.Reply). recordsAfter x records) (told-reply (Fixed k) d))
+        ∙ ap (λ (l : List CardRecord). sets records 0 l) (ap (map recordOf) (rows-first n few row) ∙ map-tabulate recordOf n row)
+
+    lent-fixed : filled (numbersOf a) records ≡ recordsAfter (made .reply) records
+    lent-fixed = filled-all (numbersOf a) records n (ap (λ (r : FixReply). cardsIn r (a .cabinet .head .cards)) d ∙ cards) (let w : _ = width16 in omega (arith, few, w)) fit ∙ sym in-place
 
   lent : (r : FixReply) → a .reply ≡ r → filled (numbersOf a) records ≡ recordsAfter (made .reply) records
   lent (Fixed k) d = lent-fixed k d
