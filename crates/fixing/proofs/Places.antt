@@ -1,5 +1,5 @@
 -- Place by place, what fix leaves in the lists that the caller lent. Assumes nothing.
-use Prim.Native.Nat.{ℕ, _+_, _≤_, _<_}
+use Prim.Native.Nat.{ℕ, _≤_, _<_}
 use mathlib.Core.Path.{_≡_, refl, sym, _∙_, ap}
 use mathlib.Core.Bool.{true, false}
 use mathlib.Core.List.{List, [], _∷_}
@@ -16,7 +16,6 @@ use Rattle.protocol.specs.Plan.{Answer, fixed, Check, _⇒_, checked, refused}
 use Rattle.protocol.specs.Plan as plan
 use Rattle.protocol.specs.Calls.{lines, cardRows, fixChecks}
 use Rattle.verdicts.specs.Shape.{limits16, at}
-use Rattle.recovery.specs.declared.FixReply.{FixReply}
 use Rattle.recovery.specs.declared.FixReply.the-variants.{Fixed, NotFixed}
 use Rattle.recovery.specs.Fix.{listAfter}
 use Rattle.cabinet.specs.declared.Cabinet.{Cabinet}
