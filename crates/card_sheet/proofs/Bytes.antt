@@ -11,9 +11,9 @@ use borrow.Author.Tests.{le-leb, lt-ltb, eq-eqb, ne-eqb}
 use Rattle.laws.specs.Below.{tabulate}
 use Rattle.laws.proofs.Logic.{and-intro, cond-case, cond-true, not-intro}
 use Rattle.laws.proofs.Fill.{length-tabulate, getD-tabulate}
-use Rattle.line.specs.declared.Sums.{Sums}
-use Rattle.line.specs.Digits.{digits, written}
-use Rattle.line.specs.Line.{lineOf}
+use Rattle.digits.specs.declared.Sums.{Sums}
+use Rattle.digits.specs.Digits.{digits, written}
+use Rattle.digits.specs.Line.{lineOf}
 use Rattle.frame.specs.declared.Frame.{Frame}
 use Rattle.frame.specs.declared.Header.{Header}
 use Rattle.frame.specs.Format.{format, entryOf}

@@ -15,10 +15,10 @@ use Rattle.refusal.specs.declared.Refusal.the-variants.{BadCheck, BadHeader, Ba
 use Rattle.laws.specs.Below.{allBelow}
 use Rattle.laws.proofs.Below.{all-at, all-intro}
 use Rattle.laws.proofs.Logic.{same-test, and-left, and-right, clash}
-use Rattle.line.specs.declared.Sums.{Sums}
-use Rattle.line.specs.declared.Line.the-variants.{Whole, Fault}
-use Rattle.line.specs.Digits.{number, numbers}
-use Rattle.line.specs.Line.{checked, shapeOf}
+use Rattle.digits.specs.declared.Sums.{Sums}
+use Rattle.digits.specs.declared.Line.the-variants.{Whole, Fault}
+use Rattle.digits.specs.Digits.{number, numbers}
+use Rattle.digits.specs.Line.{checked, shapeOf}
 use Rattle.frame.specs.declared.Verdict.{Verdict}
 use Rattle.frame.specs.declared.Verdict.the-variants.{Accepted, Refused}
 use Rattle.frame.specs.declared.Header.{Header}

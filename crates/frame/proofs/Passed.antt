@@ -10,11 +10,11 @@ use borrow.Author.Tests.{leb-true, ltb-true, eqb-true, eqb-false}
 use Rattle.refusal.specs.declared.Refusal.{Refusal}
 use Rattle.refusal.specs.declared.Refusal.the-variants.{BadHeader, BadFrame}
 use Rattle.laws.proofs.Logic.{test, and-left, and-right, not-true}
-use Rattle.line.specs.declared.Sums.{Sums}
-use Rattle.line.specs.declared.Line.{Line}
-use Rattle.line.specs.declared.Line.the-variants.{Whole, Fault}
-use Rattle.line.specs.Line.{checked, shaped, shapeOf}
-use Rattle.line.proofs.Lines.{whole-shaped, shaped-whole}
+use Rattle.digits.specs.declared.Sums.{Sums}
+use Rattle.digits.specs.declared.Line.{Line}
+use Rattle.digits.specs.declared.Line.the-variants.{Whole, Fault}
+use Rattle.digits.specs.Line.{checked, shaped, shapeOf}
+use Rattle.digits.proofs.Lines.{whole-shaped, shaped-whole}
 use Rattle.frame.specs.declared.Verdict.{Verdict}
 use Rattle.frame.specs.declared.Verdict.the-variants.{Accepted, Refused}
 use Rattle.frame.specs.declared.Header.{Header}

@@ -7,11 +7,11 @@ use native.Mathlib.Omega.{arith}
 use lib.ListN.{length, take, drop, getD, replicate, length-append, length-map, length-replicate}
 use lib.Seq.{sets, drop-cons}
 use Rattle.laws.proofs.Seq.{sets-append, sets-part}
-use Rattle.line.specs.declared.Sums.{Sums}
-use Rattle.line.specs.Digits.{digits, written}
-use Rattle.line.specs.Line.{summed, checkOf, lineOf}
-use Rattle.line.proofs.Digits.{digits-length, written-length, written-all, total}
-use Rattle.line.proofs.Lines.{line-length}
+use Rattle.digits.specs.declared.Sums.{Sums}
+use Rattle.digits.specs.Digits.{digits, written}
+use Rattle.digits.specs.Line.{summed, checkOf, lineOf}
+use Rattle.digits.proofs.Digits.{digits-length, written-length, written-all, total}
+use Rattle.digits.proofs.Lines.{line-length}
 use Rattle.frame.specs.declared.Header.{Header}
 use Rattle.frame.specs.declared.Frame.{Frame}
 use Rattle.frame.specs.Format.{format, entryOf}

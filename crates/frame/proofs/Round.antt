@@ -13,11 +13,11 @@ use Rattle.laws.specs.Below.{allBelow}
 use Rattle.laws.proofs.Below.{all-at}
 use Rattle.laws.proofs.Logic.{test, and-left, and-right, and-intro}
 use Rattle.refusal.specs.declared.Refusal.the-variants.{BadHeader, BadFrame}
-use Rattle.line.specs.declared.Sums.{Sums}
-use Rattle.line.specs.Digits.{number, numbers, written, digits, allDigits}
-use Rattle.line.specs.Line.{added, summed, checkOf, lineOf, shaped, checked, shapeOf}
-use Rattle.line.proofs.Digits.{total, Fitting, written-length, written-all, numbers-written, written-numbers, number-take}
-use Rattle.line.proofs.Lines.{whole-shaped, shaped-whole, line-take, line-rest, line-length, line-shaped, line-checked, line-bytes, body-all, body-length, shape, altered}
+use Rattle.digits.specs.declared.Sums.{Sums}
+use Rattle.digits.specs.Digits.{number, numbers, written, digits, allDigits}
+use Rattle.digits.specs.Line.{added, summed, checkOf, lineOf, shaped, checked, shapeOf}
+use Rattle.digits.proofs.Digits.{total, Fitting, written-length, written-all, numbers-written, written-numbers, number-take}
+use Rattle.digits.proofs.Lines.{whole-shaped, shaped-whole, line-take, line-rest, line-length, line-shaped, line-checked, line-bytes, body-all, body-length, shape, altered}
 use Rattle.frame.specs.declared.Verdict.the-variants.{Accepted}
 use Rattle.frame.specs.declared.Header.{Header}
 use Rattle.frame.specs.declared.Frame.{Frame}

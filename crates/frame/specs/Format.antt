@@ -2,7 +2,7 @@
 use Prim.Native.Nat.{ℕ, zero, suc, _+_, _-_, _^_}
 use mathlib.Core.Bool.{Bool, cond}
 use lib.Dec.{eqb}
-use Rattle.line.specs.declared.Sums.{Sums}
+use Rattle.digits.specs.declared.Sums.{Sums}
 
 pub record Format : Type 0 where
   -- digits of a state number, and so of an entry

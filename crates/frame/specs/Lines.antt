@@ -7,11 +7,11 @@ use lib.ListN.{length, take, drop, getD, replicate}
 use lib.Seq.{sets}
 use Rattle.refusal.specs.declared.Refusal.{Refusal}
 use Rattle.refusal.specs.declared.Refusal.the-variants.{BadCheck, BadHeader, BadFrame}
-use Rattle.line.specs.declared.Sums.{Sums}
-use Rattle.line.specs.declared.Line.{Line}
-use Rattle.line.specs.declared.Line.the-variants.{Whole, Fault}
-use Rattle.line.specs.Digits.{number, numbers, written}
-use Rattle.line.specs.Line.{lineOf, checked, shapeOf}
+use Rattle.digits.specs.declared.Sums.{Sums}
+use Rattle.digits.specs.declared.Line.{Line}
+use Rattle.digits.specs.declared.Line.the-variants.{Whole, Fault}
+use Rattle.digits.specs.Digits.{number, numbers, written}
+use Rattle.digits.specs.Line.{lineOf, checked, shapeOf}
 use Rattle.laws.specs.Below.{allBelow}
 use Rattle.frame.specs.declared.Verdict.{Verdict}
 use Rattle.frame.specs.declared.Verdict.the-variants.{Accepted, Refused}

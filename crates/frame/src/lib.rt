@@ -6,13 +6,13 @@ ghost use lib.ListN.{length, take, drop, replicate};
 ghost use lib.Seq.{sets};
 ghost use lib.Dec.{eqb};
 ghost use mathlib.Core.Bool.{_||_};
-ghost use Rattle.line.specs.Digits.{written};
-ghost use Rattle.line.specs.Line.{shapeOf};
-ghost use Rattle.line.specs.declared.Line.the-variants.{Whole};
+ghost use Rattle.digits.specs.Digits.{written};
+ghost use Rattle.digits.specs.Line.{shapeOf};
+ghost use Rattle.digits.specs.declared.Line.the-variants.{Whole};
 ghost use Rattle.frame.specs.Format.{format, dependency, entryOf};
 ghost use Rattle.frame.specs.Lines.{headerIn, headerAllowed, headerVerdict, headerOr, headerTold, headerLine, entriesIn, entriesAllowed, frameIn, frameAllowed, frameVerdict, frameReadOf, padded, noFrame, entryAllowed, frameTold, frameLine};
-use line::Line;
-use line::Sums;
+use digits::Line;
+use digits::Sums;
 use refusal::Refusal;
 
 // The limits of document 01, and the number that says none in a sheet.
@@ -110,11 +110,11 @@ fn header_in(s: &[u8], at: usize) -> Header
     requires { ⌜ at + 20 ≤ length (now s) ⌝ }
     ensures { λ r. ⌜ r ≡ headerIn format (drop at (now (s .entry))) ⌝ }
 {
-    let session = line::number_at(s, at, 8);
-    let card = line::number_at(s, at + 8, 2);
-    let cards = line::number_at(s, at + 10, 2);
-    let base = line::number_at(s, at + 12, 4);
-    let count = line::number_at(s, at + 16, 4);
+    let session = digits::number_at(s, at, 8);
+    let card = digits::number_at(s, at + 8, 2);
+    let cards = digits::number_at(s, at + 10, 2);
+    let base = digits::number_at(s, at + 12, 4);
+    let count = digits::number_at(s, at + 16, 4);
     Header {
         session,
         card,
@@ -165,7 +165,7 @@ pub fn header_allowed(h: Header, due: u32, first: u32) -> bool
 pub fn header_at(s: &[u8], at: usize, due: u32, first: u32) -> HeaderLine
     ensures { λ r. ⌜ r ≡ headerOr (headerVerdict format due first (drop at (now (s .entry)))) (headerIn format (drop at (now (s .entry)))) ⌝ }
 {
-    let line = line::shape_at(s, at, 20);
+    let line = digits::shape_at(s, at, 20);
     match line {
         Line::Fault(r) => HeaderLine::Fault(r),
         Line::Whole => header_judged(s, at, due, first),
@@ -179,7 +179,7 @@ fn header_judged(s: &[u8], at: usize, due: u32, first: u32) -> HeaderLine
 {
     let h = header_in(s, at);
     let start = start_of(h.card, h.session);
-    if !line::check_at(s, at, 20, start) {
+    if !digits::check_at(s, at, 20, start) {
         return HeaderLine::Fault(Refusal::BadCheck);
     }
     if !header_allowed(h, due, first) {
@@ -196,7 +196,7 @@ fn entries_at(s: &[u8], at: usize, n: usize) -> [u32; 16]
     let mut entries = [0u32; 16];
     let mut j = 0;
     while j < n {
-        entries[j] = held(line::number_at(s, at + j * 4, 4));
+        entries[j] = held(digits::number_at(s, at + j * 4, 4));
         j += 1;
     }
     entries
@@ -269,7 +269,7 @@ pub fn frame_at(
     requires { ⌜ n ≤ 16 ⌝ }
     ensures { λ r. ⌜ r ≡ frameReadOf (frameVerdict format start card n state last (drop at (now (s .entry)))) (frameIn format n (drop at (now (s .entry)))) ⌝ }
 {
-    let line = line::shape_at(s, at, 12 + n as usize * 4);
+    let line = digits::shape_at(s, at, 12 + n as usize * 4);
     match line {
         Line::Fault(r) => frame_refused(r),
         Line::Whole => frame_judged(s, at, start, card, n, state, last),
@@ -290,11 +290,11 @@ fn frame_judged(
     ensures { λ r. ⌜ r ≡ frameReadOf (frameVerdict format start card n state last (drop at (now (s .entry)))) (frameIn format n (drop at (now (s .entry)))) ⌝ }
 {
     let cards = n as usize;
-    if !line::check_at(s, at, 12 + cards * 4, start) {
+    if !digits::check_at(s, at, 12 + cards * 4, start) {
         return frame_refused(Refusal::BadCheck);
     }
-    let told = line::number_at(s, at, 4);
-    let change = line::number_at(s, at + 4, 8);
+    let told = digits::number_at(s, at, 4);
+    let change = digits::number_at(s, at + 4, 8);
     let entries = entries_at(s, at + 12, cards);
     if !frame_allowed(card, n, state, last, told, Frame { change, entries }) {
         return frame_refused(Refusal::BadFrame);
@@ -310,13 +310,13 @@ pub fn put_header(b: &mut [u8], at: usize, h: Header)
     requires { ⌜ at + 25 ≤ length (now b) ⌝ }
     ensures { λ r. ⌜ now (b .exit) ≡ sets (now (b .entry)) at (headerLine format h) ⌝ }
 {
-    line::put_number(b, at, 8, h.session);
-    line::put_number(b, at + 8, 2, h.card);
-    line::put_number(b, at + 10, 2, h.cards);
-    line::put_number(b, at + 12, 4, h.base);
-    line::put_number(b, at + 16, 4, h.count);
+    digits::put_number(b, at, 8, h.session);
+    digits::put_number(b, at + 8, 2, h.card);
+    digits::put_number(b, at + 10, 2, h.cards);
+    digits::put_number(b, at + 12, 4, h.base);
+    digits::put_number(b, at + 16, 4, h.count);
     let start = start_of(h.card, h.session);
-    line::end_line(b, at, 20, start);
+    digits::end_line(b, at, 20, start);
 }
 
 // Writes the first n of a frame's entries from `at` on.
@@ -326,7 +326,7 @@ fn put_entries(b: &mut [u8], at: usize, n: usize, entries: [u32; 16])
 {
     let mut j = 0;
     while j < n {
-        line::put_number(b, at + j * 4, 4, entry_of(entries[j]));
+        digits::put_number(b, at + j * 4, 4, entry_of(entries[j]));
         j += 1;
     }
 }
@@ -336,9 +336,9 @@ pub fn put_frame(b: &mut [u8], at: usize, start: Sums, n: usize, state: u32, nex
     requires { ⌜ (n ≤ 16) × (at + n * 4 + 17 ≤ length (now b)) ⌝ }
     ensures { λ r. ⌜ now (b .exit) ≡ sets (now (b .entry)) at (frameLine format start n state next) ⌝ }
 {
-    line::put_number(b, at, 4, state);
-    line::put_number(b, at + 4, 8, next.change);
+    digits::put_number(b, at, 4, state);
+    digits::put_number(b, at + 4, 8, next.change);
     let entries = next.entries;
     put_entries(b, at + 12, n, entries);
-    line::end_line(b, at, 12 + n * 4, start);
+    digits::end_line(b, at, 12 + n * 4, start);
 }

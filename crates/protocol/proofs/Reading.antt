@@ -14,10 +14,10 @@ use Rattle.laws.specs.Below.{allBelow, anyBelow, tabulate}
 use Rattle.laws.proofs.Logic.{test, clash, fails, and-left, and-right, and-intro, or-left, or-right, or-elim, not-true, not-intro, cond-case}
 use Rattle.laws.proofs.Below.{Found, any-elim, all-at, all-intro, search-below}
 use Rattle.laws.proofs.Fill.{length-tabulate, getD-tabulate, tabulate-same}
-use Rattle.line.specs.declared.Sums.{Sums}
-use Rattle.line.specs.Digits.{written}
-use Rattle.line.proofs.Digits.{total, written-length, written-all}
-use Rattle.line.proofs.Lines.{line-length}
+use Rattle.digits.specs.declared.Sums.{Sums}
+use Rattle.digits.specs.Digits.{written}
+use Rattle.digits.proofs.Digits.{total, written-length, written-all}
+use Rattle.digits.proofs.Lines.{line-length}
 use Rattle.frame.specs.declared.Verdict.{Verdict}
 use Rattle.frame.specs.declared.Verdict.the-variants.{Accepted, Refused}
 use Rattle.frame.specs.declared.Header.{Header}

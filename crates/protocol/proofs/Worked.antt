@@ -5,8 +5,8 @@ use mathlib.Core.List.{List, [], _∷_, map}
 use Rattle.frame.specs.declared.Verdict.the-variants.{Accepted}
 use Rattle.frame.specs.Format.{format}
 use Rattle.laws.specs.Below.{tabulate}
-use Rattle.line.specs.Digits.{isNumeral, isLetter, isDigit, digit, digitValue}
-use Rattle.line.specs.Line.{checkOf, lineOf, shaped, checked, shapeOf}
+use Rattle.digits.specs.Digits.{isNumeral, isLetter, isDigit, digit, digitValue}
+use Rattle.digits.specs.Line.{checkOf, lineOf, shaped, checked, shapeOf}
 use Rattle.frame.specs.Format.{dependency, entryOf}
 use Rattle.frame.specs.Lines.{headerLine, headerIn, headerAllowed, headerVerdict, frameLine, stateIn, entriesIn, frameIn, entriesAllowed, frameAllowed, frameVerdict, padded}
 use Rattle.sheet.specs.Pages.{readSheets}

@@ -3,7 +3,7 @@ use Prim.Native.Nat.{ℕ, zero, suc}
 use mathlib.Core.Bool.{Bool, true}
 use mathlib.Core.List.{List, [], _∷_, _++_, map}
 use Rattle.laws.specs.Below.{tabulate}
-use Rattle.line.specs.Digits.{digit}
+use Rattle.digits.specs.Digits.{digit}
 use Rattle.history.specs.Samples.{among}
 use Rattle.protocol.specs.Model.{Model}
 use Rattle.protocol.specs.Plan.{CardRow, fixed, Reply, accepted}

@@ -10,8 +10,8 @@ use lib.Dec.{eqb, leb, ltb}
 use lib.ListN.{length, take, drop, getD, length-drop}
 use borrow.Author.Tests.{eq-eqb, eqb-true}
 use Rattle.laws.proofs.Logic.{and-left, and-right, and-intro, or-elim}
-use Rattle.line.specs.declared.Sums.{Sums}
-use Rattle.line.proofs.Digits.{number-take}
+use Rattle.digits.specs.declared.Sums.{Sums}
+use Rattle.digits.proofs.Digits.{number-take}
 use Rattle.frame.specs.declared.Verdict.{Verdict}
 use Rattle.frame.specs.declared.Verdict.the-variants.{Accepted, Refused}
 use Rattle.frame.specs.declared.Header.{Header}

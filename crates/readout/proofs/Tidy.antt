@@ -13,7 +13,7 @@ use borrow.Author.Tests.{ltb-true}
 use Rattle.laws.proofs.Logic.{test, and-left, and-right, cond-true, cond-false}
 use Rattle.laws.proofs.Fill.{getD-tabulate}
 use Rattle.merge.specs.Merge.{at, maker, CardRises}
-use Rattle.line.specs.declared.Sums.{Sums}
+use Rattle.digits.specs.declared.Sums.{Sums}
 use Rattle.frame.specs.declared.Verdict.the-variants.{Accepted}
 use Rattle.frame.specs.declared.Header.{Header}
 use Rattle.frame.specs.declared.Frame.{Frame}

@@ -5,7 +5,7 @@ use mathlib.Core.Bool.{true, false}
 use mathlib.Core.List.{List, [], _∷_}
 use lib.ListN.{length, drop}
 use Rattle.laws.proofs.Logic.{and-intro}
-use Rattle.line.specs.declared.Sums.{Sums}
+use Rattle.digits.specs.declared.Sums.{Sums}
 use Rattle.frame.specs.declared.Verdict.the-variants.{Accepted}
 use Rattle.frame.specs.declared.Frame.{Frame}
 use Rattle.frame.specs.Format.{Format}

@@ -15,9 +15,9 @@ use borrow.Author.Tests.{eqb-true, eq-eqb}
 use Rattle.refusal.specs.declared.Refusal.{Refusal}
 use Rattle.refusal.specs.declared.Refusal.the-variants.{BadLine, BadCheck, BadFrame, EndOrMore}
 use Rattle.laws.proofs.Logic.{test, and-left, and-right}
-use Rattle.line.specs.declared.Sums.{Sums}
-use Rattle.line.specs.declared.Line.the-variants.{Whole, Fault}
-use Rattle.line.specs.Line.{shaped, checked, shapeOf}
+use Rattle.digits.specs.declared.Sums.{Sums}
+use Rattle.digits.specs.declared.Line.the-variants.{Whole, Fault}
+use Rattle.digits.specs.Line.{shaped, checked, shapeOf}
 use Rattle.frame.specs.declared.Verdict.{Verdict}
 use Rattle.frame.specs.declared.Verdict.the-variants.{Accepted, Refused}
 use Rattle.frame.specs.declared.Header.{Header}

@@ -11,8 +11,8 @@ use lib.Seq.{sets, drop-drop, length-sets}
 use borrow.Author.Tests.{eq-eqb, ne-eqb, eqb-true}
 use Rattle.refusal.specs.declared.Refusal.{Refusal}
 use Rattle.laws.proofs.Logic.{test, or-elim, cond-case}
-use Rattle.line.specs.declared.Sums.{Sums}
-use Rattle.line.proofs.Lines.{whole-room}
+use Rattle.digits.specs.declared.Sums.{Sums}
+use Rattle.digits.proofs.Lines.{whole-room}
 use Rattle.frame.specs.declared.Verdict.{Verdict}
 use Rattle.frame.specs.declared.Verdict.the-variants.{Accepted, Refused}
 use Rattle.frame.specs.declared.Header.{Header}

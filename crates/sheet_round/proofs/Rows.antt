@@ -14,8 +14,8 @@ use native.Mathlib.Nat.{not-suc-le-zero}
 use Rattle.laws.specs.Below.{allBelow}
 use Rattle.laws.proofs.Below.{all-same}
 use Rattle.laws.proofs.Seq.{sets-part}
-use Rattle.line.specs.declared.Sums.{Sums}
-use Rattle.line.specs.Digits.{digits, written}
+use Rattle.digits.specs.declared.Sums.{Sums}
+use Rattle.digits.specs.Digits.{digits, written}
 use Rattle.frame.specs.declared.Frame.{Frame}
 use Rattle.frame.specs.Format.{format, entryOf}
 use Rattle.frame.specs.Lines.{padded, noFrame, frameLine, entryAllowed, entriesAllowed, frameAllowed}

@@ -11,7 +11,7 @@ use Rattle.refusal.specs.declared.Refusal.the-variants.{TooShort, BadHeader, Ba
 use Rattle.frame.specs.declared.Verdict.the-variants.{Accepted, Refused}
 use native.Mathlib.Nat.{mul-le-mul-right, suc-mul, zero-mul}
 use Rattle.laws.proofs.Seq.{left, left-step, left-all, left-none, sets-append}
-use Rattle.line.specs.declared.Sums.{Sums}
+use Rattle.digits.specs.declared.Sums.{Sums}
 use Rattle.frame.specs.declared.Frame.{Frame}
 use Rattle.frame.specs.Format.{format}
 use Rattle.frame.specs.Lines.{startOf, frameLine, headerLine, headerAllowed, frameAllowed, noFrame}

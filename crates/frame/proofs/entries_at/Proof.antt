@@ -5,7 +5,7 @@ use borrow.Author.Needs.{needs}
 use native.Mathlib.Omega.{arith}
 use lib.ListN.{length, take, drop, length-set, length-drop}
 use lib.Seq.{sets}
-use Rattle.line.proofs.Digits.{number-take}
+use Rattle.digits.proofs.Digits.{number-take}
 use Rattle.frame.specs.Format.{format, dependency}
 use Rattle.frame.specs.Lines.{entriesIn, padded}
 use Rattle.frame.proofs.Judged.{entries-step, entries-none, entries-start}
@@ -14,7 +14,7 @@ use Rattle.frame.proofs.entries_at.Tie as tie
 use Rattle.frame.proofs.entries_at.Reads as reads
 use Rattle.frame.proofs.entries_at.Lts as lts
 use Rattle.frame.proofs.held.Reads as held-reads
-use Rattle.line.proofs.number_at.Reads as number-at-reads
+use Rattle.digits.proofs.number_at.Reads as number-at-reads
 
 abbrev Inv-loop : tie.InvT-loop
 Inv-loop s at n entries₀ j₀ entries j = (j ≤ n) × (length entries ≡ 16) × (sets entries j (entriesIn format (n - j) (drop (at + j * 4) s)) ≡ padded (entriesIn format n (drop at s)))

@@ -4,7 +4,7 @@ use borrow.Author.Needs.{needs}
 use native.Mathlib.Omega.{arith}
 use lib.ListN.{length, drop}
 use Prim.Native.Nat.{_+_, _*_, _≤_}
-use Rattle.line.proofs.Lines.{whole-room}
+use Rattle.digits.proofs.Lines.{whole-room}
 use Rattle.frame.specs.Lines.{noFrame}
 use Rattle.frame.proofs.Judged.{frame-faulty}
 use Rattle.frame.proofs.frame_at.Statement.{statement}
@@ -13,7 +13,7 @@ use Rattle.frame.proofs.frame_at.Reads as reads
 use Rattle.frame.proofs.frame_at.Lts as lts
 use Rattle.frame.proofs.frame_judged.Reads as frame-judged-reads
 use Rattle.frame.proofs.frame_refused.Reads as frame-refused-reads
-use Rattle.line.proofs.shape_at.Reads as shape-at-reads
+use Rattle.digits.proofs.shape_at.Reads as shape-at-reads
 
 mul-shape-at : tie.Need-mul-shape-at
 mul-shape-at c = search needs

@@ -12,8 +12,8 @@ use Rattle.frame.proofs.frame_judged.Lts as lts
 use Rattle.frame.proofs.entries_at.Reads as entries-at-reads
 use Rattle.frame.proofs.frame_allowed.Reads as frame-allowed-reads
 use Rattle.frame.proofs.frame_refused.Reads as frame-refused-reads
-use Rattle.line.proofs.check_at.Reads as check-at-reads
-use Rattle.line.proofs.number_at.Reads as number-at-reads
+use Rattle.digits.proofs.check_at.Reads as check-at-reads
+use Rattle.digits.proofs.number_at.Reads as number-at-reads
 
 mul-check-at : tie.Need-mul-check-at
 mul-check-at c = search needs

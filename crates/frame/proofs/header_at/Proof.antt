@@ -4,14 +4,14 @@ use borrow.Author.Needs.{needs}
 use native.Mathlib.Omega.{arith}
 use lib.ListN.{length, drop}
 use Prim.Native.Nat.{_+_, _≤_}
-use Rattle.line.proofs.Lines.{whole-room}
+use Rattle.digits.proofs.Lines.{whole-room}
 use Rattle.frame.proofs.Judged.{header-faulty}
 use Rattle.frame.proofs.header_at.Statement.{statement}
 use Rattle.frame.proofs.header_at.Tie as tie
 use Rattle.frame.proofs.header_at.Reads as reads
 use Rattle.frame.proofs.header_at.Lts as lts
 use Rattle.frame.proofs.header_judged.Reads as header-judged-reads
-use Rattle.line.proofs.shape_at.Reads as shape-at-reads
+use Rattle.digits.proofs.shape_at.Reads as shape-at-reads
 
 shape-at-requires : tie.Need-shape-at-requires
 shape-at-requires c κs = search needs

@@ -7,7 +7,7 @@ use Rattle.frame.proofs.header_in.Statement.{statement}
 use Rattle.frame.proofs.header_in.Tie as tie
 use Rattle.frame.proofs.header_in.Reads as reads
 use Rattle.frame.proofs.header_in.Lts as lts
-use Rattle.line.proofs.number_at.Reads as number-at-reads
+use Rattle.digits.proofs.number_at.Reads as number-at-reads
 
 number-at-requires : tie.Need-number-at-requires
 number-at-requires c κs = search needs

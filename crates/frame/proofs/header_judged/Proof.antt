@@ -12,7 +12,7 @@ use Rattle.frame.proofs.header_judged.Lts as lts
 use Rattle.frame.proofs.header_allowed.Reads as header-allowed-reads
 use Rattle.frame.proofs.header_in.Reads as header-in-reads
 use Rattle.frame.proofs.start_of.Reads as start-of-reads
-use Rattle.line.proofs.check_at.Reads as check-at-reads
+use Rattle.digits.proofs.check_at.Reads as check-at-reads
 
 header-in-requires : tie.Need-header-in-requires
 header-in-requires c κs = search needs

@@ -6,7 +6,7 @@ use native.Mathlib.Omega.{arith}
 use mathlib.Core.List.{List, map}
 use lib.ListN.{length, drop, replicate}
 use lib.Seq.{sets}
-use Rattle.line.specs.Digits.{digits, written}
+use Rattle.digits.specs.Digits.{digits, written}
 use Rattle.frame.specs.Format.{entryOf}
 use Rattle.frame.proofs.Puts.{entry-put, entries-begin, entries-done}
 use Rattle.frame.proofs.put_entries.Statement.{statement}
@@ -14,7 +14,7 @@ use Rattle.frame.proofs.put_entries.Tie as tie
 use Rattle.frame.proofs.put_entries.Reads as reads
 use Rattle.frame.proofs.put_entries.Lts as lts
 use Rattle.frame.proofs.entry_of.Reads as entry-of-reads
-use Rattle.line.proofs.put_number.Reads as put-number-reads
+use Rattle.digits.proofs.put_number.Reads as put-number-reads
 
 abbrev Inv-loop : tie.InvT-loop
 Inv-loop b₀ at n entries j₀ b j = (j ≤ n) × (length b ≡ length b₀) × (sets b (at + j * 4) (written (replicate (n - j) 4) (map (entryOf 65535) (drop j entries))) ≡ sets b₀ at (written (replicate n 4) (map (entryOf 65535) entries)))

@@ -9,8 +9,8 @@ use Rattle.frame.proofs.put_frame.Tie as tie
 use Rattle.frame.proofs.put_frame.Reads as reads
 use Rattle.frame.proofs.put_frame.Lts as lts
 use Rattle.frame.proofs.put_entries.Reads as put-entries-reads
-use Rattle.line.proofs.end_line.Reads as end-line-reads
-use Rattle.line.proofs.put_number.Reads as put-number-reads
+use Rattle.digits.proofs.end_line.Reads as end-line-reads
+use Rattle.digits.proofs.put_number.Reads as put-number-reads
 
 put-number-requires : tie.Need-put-number-requires
 put-number-requires c κs = search needs

@@ -8,8 +8,8 @@ use Rattle.frame.proofs.put_header.Tie as tie
 use Rattle.frame.proofs.put_header.Reads as reads
 use Rattle.frame.proofs.put_header.Lts as lts
 use Rattle.frame.proofs.start_of.Reads as start-of-reads
-use Rattle.line.proofs.end_line.Reads as end-line-reads
-use Rattle.line.proofs.put_number.Reads as put-number-reads
+use Rattle.digits.proofs.end_line.Reads as end-line-reads
+use Rattle.digits.proofs.put_number.Reads as put-number-reads
 
 put-number-requires : tie.Need-put-number-requires
 put-number-requires c κs = search needs
