@@ -1,11 +1,12 @@
 // The header line and the frame line of a card's sheet: read and written.
 ghost use mathlib.Core.Path.{_≡_};
-ghost use Prim.Native.Nat.{_+_, _*_, _≤_, _<_};
+ghost use Prim.Native.Nat.{_+_, _*_, _-_, _≤_, _<_, min};
 ghost use mathlib.Core.List.{[], _∷_, _++_, map};
 ghost use lib.ListN.{length, take, drop, replicate};
 ghost use lib.Seq.{sets};
 ghost use lib.Dec.{eqb};
 ghost use mathlib.Core.Bool.{_||_};
+ghost use Rattle.laws.specs.Below.{allBelow};
 ghost use Rattle.digits.specs.Digits.{written};
 ghost use Rattle.digits.specs.Line.{shapeOf};
 ghost use Rattle.digits.specs.declared.Line.the-variants.{Whole};
@@ -232,8 +233,26 @@ fn entries_allowed(card: u32, state: u32, n: u32, last: [u32; 16], next: [u32; 1
     true
 }
 
+fn at_most_16(n: u32) -> u32
+    ensures { λ r. ⌜ r ≡ min n 16 ⌝ }
+{
+    if n <= 16 { n } else { 16 }
+}
+
+// Whether refusal 9 lets pass what frames of 16 entries have of further cards, none each.
+fn absent_allowed(card: u32, state: u32, n: u32) -> bool
+    ensures { λ r. ⌜ r ≡ allBelow (n - 16) (λ j. entryAllowed format card state (16 + j) 0 0) ⌝ }
+{
+    if card < 16 {
+        return true;
+    }
+    if n <= card {
+        return true;
+    }
+    state == 0
+}
+
 pub fn frame_allowed(card: u32, n: u32, state: u32, last: Frame, told: u32, next: Frame) -> bool
-    requires { ⌜ n ≤ 16 ⌝ }
     ensures { λ r. ⌜ r ≡ frameAllowed format card n state last told next ⌝ }
 {
     if told != state {
@@ -244,7 +263,10 @@ pub fn frame_allowed(card: u32, n: u32, state: u32, last: Frame, told: u32, next
     }
     let before = last.entries;
     let after = next.entries;
-    entries_allowed(card, state, n, before, after)
+    if !entries_allowed(card, state, at_most_16(n), before, after) {
+        return false;
+    }
+    absent_allowed(card, state, n)
 }
 
 fn frame_refused(r: Refusal) -> FrameRead

@@ -55,7 +55,7 @@ element-copy-out-t15 : tie.Need-element-copy-out-t15 Inv-loop μ-loop
 element-copy-out-t15 c = let l = header-limits format _ _ _ (c .before .before .before .before .before .before .pre) in omega (arith, l .count, c .before .before .before .before .loop-test .taken)
 
 frame-allowed-requires : tie.Need-frame-allowed-requires Inv-loop μ-loop
-frame-allowed-requires c κs = header-limits format _ _ _ (c .before .before .before .before .before .before .before .pre) .cards
+frame-allowed-requires c κs = search needs
 
 returns : tie.Need-returns Inv-loop μ-loop
 returns c =
