@@ -23,20 +23,20 @@ pub mod writes;
 // A cabinet by value. Frames stand in a ring: state x of card c has the place c * 48 + x % 48.
 pub struct Cabinet {
     // the vectors of the frames, 16 entries each
-    pub entries: [u32; 12288],
+    pub entries: [u32; (Cabinet::WIDTH * Cabinet::IN_HAND * Cabinet::WIDTH) as usize],
     // the changes that made the states of the frames
-    pub makers: [u32; 768],
-    pub last: [Vector; 16],
-    pub pending: [Vector; 16],
-    pub places: [Place; 8],
-    pub base: [u32; 16],
-    pub stored: [u32; 16],
-    pub held: [u32; 16],
-    pub reached: [u32; 16],
+    pub makers: [u32; (Cabinet::WIDTH * Cabinet::IN_HAND) as usize],
+    pub last: [Vector; Cabinet::WIDTH as usize],
+    pub pending: [Vector; Cabinet::WIDTH as usize],
+    pub places: [Place; Cabinet::PLACES as usize],
+    pub base: [u32; Cabinet::WIDTH as usize],
+    pub stored: [u32; Cabinet::WIDTH as usize],
+    pub held: [u32; Cabinet::WIDTH as usize],
+    pub reached: [u32; Cabinet::WIDTH as usize],
     // while rolling: the line fixed
-    pub line: [u32; 16],
+    pub line: [u32; Cabinet::WIDTH as usize],
     // by place, the decided changes that a loss ended with a written share untaken
-    pub ended: [u32; 8],
+    pub ended: [u32; Cabinet::PLACES as usize],
     // while rolling: the cards already rolled
     pub rolled: u16,
     pub head: Head,
@@ -111,7 +111,7 @@ impl Cabinet {
     pub fn fresh(cards: u32) -> Answer
         ensures { λ r. ⌜ Freshly cards (replyOf (r .reply)) (r .cabinet) ⌝ }
     {
-        let good = (1 <= cards) & (cards <= 16);
+        let good = (1 <= cards) & (cards <= Cabinet::WIDTH);
         if good {
             let c = zeros(Head {
                 session: 1,
@@ -271,7 +271,7 @@ impl Cabinet {
                 let written = bits::has(o.writes, card);
                 if written {
                     let x = reached[c] + 1;
-                    let place = c * 48 + (x % 48) as usize;
+                    let place = c * 48 + (x % Cabinet::IN_HAND) as usize;
                     self.makers[place] = o.number;
                     writes::put_frame(&mut self.entries, place * 16, v);
                     let w = Vector { entries: v };

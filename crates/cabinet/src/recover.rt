@@ -17,8 +17,8 @@ use verdicts::Reply;
 // What fix hands back: stored numbers and lines by card, beside the reply and the cabinet.
 pub struct FixAnswer {
     pub cabinet: Cabinet,
-    pub stored: [u32; 16],
-    pub line: [u32; 16],
+    pub stored: [u32; Cabinet::WIDTH as usize],
+    pub line: [u32; Cabinet::WIDTH as usize],
     pub reply: FixReply,
 }
 
