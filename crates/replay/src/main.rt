@@ -1,0 +1,154 @@
+// Reads a list of calls from standard input and prints the answers, a line at a time: lists of any length in bounded memory.
+ghost use Prim.Native.Nat.{_<_};
+ghost use lib.ListN.{length};
+use decimal::Writing;
+use libc::STDIN_FILENO;
+use libc::STDOUT_FILENO;
+use trace::Replay;
+
+// The replay, and the bytes of a line that has not ended yet: 129 of them tell that it is too long.
+struct Reader {
+    replay: Replay,
+    line: [u8; 129],
+    count: usize,
+}
+
+// A part of the input, taken into the line: how many bytes the line has, where to go on, and whether it ended.
+struct Gathered {
+    count: usize,
+    next: usize,
+    ended: bool,
+}
+
+// What is left after a part of the input, and whether there may be more.
+struct Turned {
+    reader: Reader,
+    more: bool,
+}
+
+// Does a line and prints its answer.
+fn answer(r: Replay, line: &[u8]) -> Replay {
+    let mut out = io::large_buffer();
+    let s = trace::step(r, line, &mut out);
+    let w = s.written;
+    match w {
+        Writing::Next(n) => {
+            if n <= out.len() {
+                io::write_all(STDOUT_FILENO, &out[0..n]);
+            }
+        }
+        Writing::TooShort => {}
+    }
+    let next = s.replay;
+    next
+}
+
+// A byte more of the line, where it has room.
+fn keep(line: &mut [u8], count: usize, b: u8) -> usize {
+    if count < line.len() {
+        line[count] = b;
+        return count + 1;
+    }
+    count
+}
+
+// Takes the bytes from a place on into the line, to its end or to the end of the part.
+fn gather(line: &mut [u8], count: usize, part: &[u8], from: usize) -> Gathered
+    requires { ⌜ from < length (now part) ⌝ }
+    ensures { λ r. ⌜ from < r .next ⌝ }
+{
+    let mut n = count;
+    let mut i = from;
+    while i < part.len() {
+        let b = part[i];
+        i += 1;
+        if b == 10 {
+            return Gathered {
+                count: n,
+                next: i,
+                ended: true,
+            };
+        }
+        n = keep(line, n, b);
+    }
+    Gathered {
+        count: n,
+        next: i,
+        ended: false,
+    }
+}
+
+// Does the line where it has ended.
+fn settle(r: Replay, line: &[u8], count: usize, ended: bool) -> Replay {
+    if ended {
+        if count <= line.len() {
+            return answer(r, &line[0..count]);
+        }
+    }
+    r
+}
+
+fn left_over(count: usize, ended: bool) -> usize {
+    if ended { 0 } else { count }
+}
+
+// Does the lines of a part of the input.
+fn feed(f: Reader, part: &[u8]) -> Reader {
+    let mut r = f.replay;
+    let mut line = f.line;
+    let mut count = f.count;
+    let mut at = 0;
+    while at < part.len() {
+        let g = gather(&mut line, count, part, at);
+        let next = settle(r, &line, g.count, g.ended);
+        r = next;
+        count = left_over(g.count, g.ended);
+        at = g.next;
+    }
+    Reader {
+        replay: r,
+        line,
+        count,
+    }
+}
+
+// Reads a part of the input and does its lines.
+fn turn(f: Reader) -> Turned {
+    let mut part = io::buffer();
+    let got = libc::read(STDIN_FILENO, &mut part);
+    let n = io::count(got, &part);
+    if n == 0 {
+        return Turned {
+            reader: f,
+            more: false,
+        };
+    }
+    let reader = feed(f, &part[0..n]);
+    Turned { reader, more: true }
+}
+
+// A last line with no byte 10 counts as a line.
+fn finish(f: Reader) {
+    let r = f.replay;
+    let line = f.line;
+    let count = f.count;
+    settle(r, &line, count, 0 < count);
+}
+
+fn main() {
+    let replay = trace::begin();
+    let line = [0u8; 129];
+    let mut f = Reader {
+        replay,
+        line,
+        count: 0,
+    };
+    let mut turns: u64 = 18446744073709551615;
+    while turns > 0 {
+        let t = turn(f);
+        let next = t.reader;
+        f = next;
+        turns = if t.more { turns - 1 } else { 0 };
+    }
+    finish(f);
+}
