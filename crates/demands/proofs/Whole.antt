@@ -50,7 +50,7 @@ use Rattle.cabinet.proofs.Laws.{free-fits}
 use Rattle.sheet.proofs.Lay as lay
 use Rattle.readback.proofs.Shown.{shown as shown-readout}
 use Rattle.restart.specs.Restart.{restartedCabinet, cabinetFor}
-use Rattle.restart.proofs.Shows.{shows-restart}
+use Rattle.restart.proofs.Shows.{view-law}
 use Rattle.demands.proofs.Narrow.{Narrow}
 use Rattle.demands.proofs.Lengths.{by-card, by-place, set-small}
 use Rattle.demands.proofs.Laws.{EditsFit, Shows, edits-show}
@@ -140,7 +140,7 @@ restarted-shows : (v : Verdict) (bytes : List ℕ) (s handed t : Cabinet) → Si
     → t ≡ goingOn (verdictReply v) handed s → Shows (verdictCabinet v (restartedFrom limits16 bytes) (view s)) t
 restarted-shows Accepted bytes s handed t z w v h e =
     subst (Shows (restartedFrom limits16 bytes)) (sym (e ∙ h))
-    (record { same = shows-restart bytes v; sized = restarted-sized (readoutOf bytes .readout) (shown-readout bytes v .holds .sized); narrow = restarted-narrow (readoutOf bytes .readout) })
+    (record { same = view-law (readoutOf bytes .readout) (shown-readout bytes v .holds .sized); sized = restarted-sized (readoutOf bytes .readout) (shown-readout bytes v .holds .sized); narrow = restarted-narrow (readoutOf bytes .readout) })
 restarted-shows (Refused r) bytes s handed t z w v h e = subst (Shows (view s)) (sym e) (shown s z w)
 
 pub step : (s : Cabinet) → Sized s → Narrow (view s) → (asked : Asked) → Typed asked → (reply : Reply) (t : Cabinet) (after : List ℕ) → Answered s asked reply t after → Step s (callOf asked) reply t
