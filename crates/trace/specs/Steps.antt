@@ -5,7 +5,7 @@ use mathlib.Core.Bool.{Bool, true, false, cond}
 use mathlib.Core.List.{List, [], _++_}
 use Rattle.refusal.specs.declared.Refusal.the-variants.{CardCount}
 use Rattle.decimal.specs.declared.Writing.{Writing}
-use Rattle.decimal.specs.declared.Writing.the-variants.{Next}
+use Rattle.decimal.specs.declared.Writing.the-variants.{Next, TooShort}
 use Rattle.protocol.specs.Plan.{Reply, accepted, refused, done}
 use Rattle.protocol.specs.Calls.{freshRefused, storePlan, takePlan, votePlan, withdrawPlan, safePlan, trimPlan, rollPlan}
 use Rattle.verdicts.specs.Shape.{limits16}
@@ -95,3 +95,13 @@ pub record Replayed (s : List ℕ) (start : Replay) (b : List ℕ) (w : Writing)
   pub ran : Ran s start place last text
   pub end : heardAt s place ≡ End
   pub put : Put b (Next 0) text w e
+
+-- the same as a number: the count of bytes, or the greatest number of 64 bits where the buffer is too short
+abbrev pub countOf : Writing → ℕ
+countOf (Next n) = n
+countOf TooShort = 18446744073709551615
+
+pub record Counted (s b : List ℕ) (n : ℕ) (e : List ℕ) : Type 0 where
+  pub written : Writing
+  pub replayed : Replayed s nothingYet b written e
+  pub count : n ≡ countOf written

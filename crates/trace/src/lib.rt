@@ -3,7 +3,7 @@ ghost use mathlib.Core.Path.{_≡_};
 ghost use Rattle.decimal.specs.declared.Writing.the-variants.{Next};
 ghost use Rattle.words.specs.Calls.{saysLine};
 ghost use Rattle.trace.specs.Told.{Written};
-ghost use Rattle.trace.specs.Steps.{Told, Steps, Asked, Freshened, nothingYet, Replayed};
+ghost use Rattle.trace.specs.Steps.{Told, Steps, Asked, Freshened, nothingYet, Replayed, Counted};
 use cabinet::Cabinet;
 use decimal::Writing;
 use verdicts::Reply;
@@ -151,5 +151,17 @@ pub fn run(text: &[u8], out: &mut [u8]) -> Writing
                 at = next;
             }
         }
+    }
+}
+
+// The same for Rust and C: the count of bytes of the answers, or the greatest number where the buffer is too short for them.
+#[no_mangle]
+pub extern "C" fn yerwaqis_replay(text: &[u8], out: &mut [u8]) -> usize
+    ensures { λ n. ⌜ Counted (now (text .entry)) (now (out .entry)) n (now (out .exit)) ⌝ }
+{
+    let w = run(text, out);
+    match w {
+        Writing::Next(n) => n,
+        Writing::TooShort => 18446744073709551615,
     }
 }

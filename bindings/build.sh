@@ -1,0 +1,10 @@
+#!/bin/sh
+# Builds the static library and runs the examples in C and in Rust.
+# Run from the repository's root: sh bindings/build.sh
+set -e
+rt staticlib trace
+mkdir -p target/bindings
+cc -O2 -Wall -o target/bindings/example_c bindings/example.c -L target/staticlib -ltrace
+rustc -O -o target/bindings/example_rs bindings/example.rs -L target/staticlib -l static=trace
+target/bindings/example_c
+target/bindings/example_rs
