@@ -60,6 +60,7 @@ module _ (s : Cabinet) (places : ℕ) (before : List ℕ) (whole : Bool) (ew : w
         lost = t .lost;
         once = t .once;
         answer = t .answer ∙ ap (λ (x : Plan). x .reply) e;
+        inside = t .inside;
         list = t .list ∙ ap (λ (x : Plan). listAfter (x .reply) before) e;
         arrays = t .arrays ∙ lines-same (fixPlanFor whole parts places (length before) (t .lost) .reply) ∙ ap (λ (x : Plan). linesAfter (x .reply) (view s)) e;
       }

@@ -6,7 +6,7 @@ use mathlib.Core.List.{List, [], _∷_, _++_}
 use mathlib.Core.Logic.{⊎-elim}
 use native.Mathlib.Omega.{arith}
 use lib.ListN.{length, take, drop, length-append}
-use lib.Seq.{sets, sets-eq, take-at}
+use lib.Seq.{sets, sets-eq, length-sets, take-at}
 use lib.Dec.{eqb, ltb}
 use borrow.Author.Tests.{lt-ltb, le-leb, ltb-false, eqb-true}
 use Rattle.laws.specs.Below.{anyBelow, countBelow, greatest, selected, occurs, one-if}
@@ -179,6 +179,7 @@ module _ (entries makers base stored reached ended : List ℕ) (h : Head) where
           lost = xs;
           once = once-of r;
           answer = sym (ap (λ (x : Plan). x .reply) p);
+          inside = let z : 0 ≤ length before = omega arith in z;
           list = sym (ap (λ (x : Plan). listAfter (x .reply) before) p);
           arrays = sym (ap (λ (x : Plan). linesAfter (x .reply) found) p);
         }
@@ -207,6 +208,7 @@ module _ (entries makers base stored reached ended : List ℕ) (h : Head) where
           lost = xs;
           once = once-of r;
           answer = ap₂ (λ (rows : List CardRow) (ls : List ℕ). accepted (fixed rows ls)) rows-same t ∙ sym (ap (λ (x : Plan). x .reply) p);
+          inside = let z : length after ≡ length before = ap length a ∙ length-sets before 0 xs in omega (arith, z, l);
           list = a ∙ sym (ap (λ (x : Plan). listAfter (x .reply) before) p);
           arrays = sym (ap (λ (x : Plan). linesAfter (x .reply) found) p);
         }

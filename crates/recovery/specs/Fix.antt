@@ -1,5 +1,5 @@
 -- What fix answers: the reply, the lines by card, and the numbers of the changes lost in the lent list.
-use Prim.Native.Nat.{ℕ}
+use Prim.Native.Nat.{ℕ, _≤_}
 use mathlib.Core.Path.{_≡_}
 use mathlib.Core.Bool.{Bool, not}
 use mathlib.Core.List.{List, [], _∷_}
@@ -46,11 +46,17 @@ butLast [] = []
 butLast (c ∷ []) = []
 butLast (c ∷ d ∷ cs) = c ∷ butLast (d ∷ cs)
 
+-- "their count is given": the count answered, and 0 with a refusal
+abbrev pub countTold : FixReply → ℕ
+countTold (Fixed k) = k
+countTold (NotFixed r) = 0
+
 -- for some list with each lost change once, the answer is that of the plan
 pub record FixTold (m : Model) (p : List ℕ → Plan) (n : ℕ) (stored line before after : List ℕ) (reply : FixReply) : Type 0 where
   pub lost : List ℕ
   pub once : (k : ℕ) → occurs k lost ≡ one-if (isLost limits16 m k)
   pub answer : fixReplyOf n stored line after reply ≡ p lost .reply
+  pub inside : countTold reply ≤ length after
   pub list : after ≡ listAfter (p lost .reply) before
   pub arrays : line ≡ linesAfter (p lost .reply) m
 
