@@ -1,12 +1,8 @@
-// What each call answers, as small functions over numbers, sets and small arrays.
+// What the calls are said with: phase, head, places, vectors and replies; reading a phase and a number by card.
 ghost use mathlib.Core.Path.{_≡_};
 ghost use Rattle.protocol.specs.Model.{isUp, isDown, isRolling};
 ghost use Rattle.verdicts.specs.Shape.{phaseOf, at};
 use refusal::Refusal;
-
-pub mod places;
-pub mod replies;
-pub mod vectors;
 
 pub enum Phase {
     Up,

@@ -1,0 +1,92 @@
+// The reply of each call: the first check that fails, in document 01's order.
+ghost use mathlib.Core.Path.{_≡_};
+ghost use mathlib.Core.Bool.{not};
+ghost use mathlib.Core.List.{[]};
+ghost use Rattle.bits.specs.Member.{member};
+ghost use Rattle.protocol.specs.Model.{isCard};
+ghost use Rattle.protocol.specs.Calls.{storeChecks, takeChecks, loseChecks};
+ghost use Rattle.verdicts.specs.Shape.{limits16, headModel, numbersModel, placesModel};
+ghost use Rattle.verdicts.specs.Answers.{next, firstFailing, after28};
+use refusal::Refusal;
+use verdicts::Head;
+use verdicts::Place;
+use verdicts::Reply;
+use verdicts::at;
+use verdicts::is_rolling;
+use verdicts::is_up;
+
+// One check more: it refuses where no earlier one did and it fails.
+pub fn next(earlier: Reply, fails: bool, r: Refusal) -> Reply
+    ensures { λ x. ⌜ x ≡ next earlier fails r ⌝ }
+{
+    match earlier {
+        Reply::Done => {
+            if fails {
+                Reply::Refused(r)
+            } else {
+                Reply::Done
+            }
+        }
+        Reply::Refused(q) => Reply::Refused(q),
+    }
+}
+
+pub fn is_card(head: Head, c: u32) -> bool
+    ensures { λ r. ⌜ r ≡ isCard limits16 (headModel head) c ⌝ }
+{
+    (c < 16) & (c < head.cards)
+}
+
+// 5. store
+pub fn store_reply(
+    sound: bool,
+    head: Head,
+    stored: [u32; 16],
+    held: [u32; 16],
+    card: u32,
+    state: u32,
+) -> Reply
+    ensures { λ r. ⌜ r ≡ firstFailing (after28 (not sound) (storeChecks limits16 (numbersModel head [] stored held []) card state)) ⌝ }
+{
+    let there = is_card(head, card);
+    let phase = head.phase;
+    let rolling = is_rolling(phase);
+    let low = at(stored, card);
+    let high = at(held, card);
+    let r = next(Reply::Done, !sound, Refusal::BadCabinet);
+    let r = next(r, !there, Refusal::NoSuchCard);
+    let r = next(r, rolling, Refusal::WrongPhase);
+    next(
+        r,
+        !((low <= state) & (state <= high)),
+        Refusal::StoreOutside,
+    )
+}
+
+// 3. take
+pub fn take_reply(sound: bool, head: Head, all: [Place; 8], k: u32, card: u32) -> Reply
+    ensures { λ r. ⌜ r ≡ firstFailing (after28 (not sound) (takeChecks limits16 (placesModel head all [] []) k card)) ⌝ }
+{
+    let there = is_card(head, card);
+    let phase = head.phase;
+    let up = is_up(phase);
+    let p = places::place_of(all, k);
+    let o = places::place_at(all, p);
+    let made = places::is_decided(o);
+    let due = places::is_awaited(o, o.taken, card);
+    let r = next(Reply::Done, !sound, Refusal::BadCabinet);
+    let r = next(r, !there, Refusal::NoSuchCard);
+    let r = next(r, !up, Refusal::WrongPhase);
+    let r = next(r, !(p < 8), Refusal::NotAwaited);
+    let r = next(r, !made, Refusal::NotDecided);
+    next(r, !due, Refusal::NotAwaited)
+}
+
+// 8. lose
+pub fn lose_reply(sound: bool, head: Head, cards: u16) -> Reply
+    ensures { λ r. ⌜ r ≡ firstFailing (after28 (not sound) (loseChecks limits16 (headModel head) (member cards))) ⌝ }
+{
+    let inside = bits::within(cards, head.cards);
+    let r = next(Reply::Done, !sound, Refusal::BadCabinet);
+    next(r, !inside, Refusal::NoSuchCard)
+}

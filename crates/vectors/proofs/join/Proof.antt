@@ -1,0 +1,98 @@
+use Rattle.history.specs.Vector.{joined}
+use Rattle.protocol.specs.Model.{isOpen}
+use Rattle.bits.specs.Sets.{either, except, subset}
+use Rattle.bits.specs.Member.{member}
+use borrow.Author.Tests.{eq-eqb, ne-eqb, lt-ltb, le-ltb}
+use Rattle.verdicts.specs.Shape.{limits16, at, listOf, setOf, openOf, openAt, placeFor}
+use Rattle.verdicts.proofs.Held.{list-by, list-known, list-same, at-list, at-list-all, set-by, set-known, put-same, place-by, free-open}
+use Rattle.verdicts.proofs.Limits.{width16, inHand48, places8, greatest60000}
+use Rattle.laws.proofs.Fill.{AllSoFar, all-none, all-more, all-done, NoneSoFar, search-none, search-more, search-done, search-found, FilledSoFar, filled-none, filled-more, filled-done, all-same, any-same}
+use Rattle.laws.specs.Below.{allBelow, anyBelow, firstBelow}
+use Prim.Native.Nat.{ℕ, zero, suc, _+_, _*_, _-_, _/_, _%_, _^_, _≤_, _<_, max}
+use mathlib.Core.Path.{_≡_, refl, sym, _∙_, ap, ap₂}
+use mathlib.Core.Bool.{Bool, true, false, not, _&&_, _||_, cond}
+use mathlib.Core.List.{List, [], _∷_}
+use mathlib.Core.Logic.{⊎-elim, by-cases, inl, inr}
+use native.Mathlib.Numerals.{add-one}
+use native.Mathlib.Omega.{arith}
+use lib.ListN.{length, getD, set, List·getD-eq-default}
+use lib.Dec.{leb, ltb, eqb}
+use borrow.Author.Needs.{needs}
+use Rattle.vectors.proofs.join.Statement.{statement}
+use Rattle.vectors.proofs.join.Tie as tie
+use Rattle.vectors.proofs.join.Reads as reads
+use Rattle.vectors.proofs.join.Lts as lts
+use Rattle.vectors.proofs.greater.Reads as greater-reads
+
+abbrev Inv-loop : tie.InvT-loop
+Inv-loop u v out₀ j₀ out j = FilledSoFar 0 16 (joined (at u) (at v)) out j
+
+abbrev μ-loop : tie.MeasureT-loop
+μ-loop u v out₀ j₀ out j = 16 - j
+
+-- src/lib.rt:23:5
+loop-holds : tie.Need-loop-holds Inv-loop μ-loop
+loop-holds c = filled-none refl
+
+-- src/lib.rt:24:26
+mul-greater : tie.Need-mul-greater Inv-loop μ-loop
+mul-greater c = search needs
+
+-- src/lib.rt:24:26
+array-read-greater : tie.Need-array-read-greater Inv-loop μ-loop
+array-read-greater c = search needs
+
+-- src/lib.rt:24:32
+mul-greater-2 : tie.Need-mul-greater-2 Inv-loop μ-loop
+mul-greater-2 c = search needs
+
+-- src/lib.rt:24:32
+array-read-greater-2 : tie.Need-array-read-greater-2 Inv-loop μ-loop
+array-read-greater-2 c = search needs
+
+-- src/lib.rt:24:18
+greater-requires : tie.Need-greater-requires Inv-loop μ-loop
+greater-requires c κs = search needs
+
+-- src/lib.rt:24:9
+mul-out : tie.Need-mul-out Inv-loop μ-loop
+mul-out c = search needs
+
+-- src/lib.rt:24:9
+array-write-out : tie.Need-array-write-out Inv-loop μ-loop
+array-write-out c = search needs
+
+-- src/lib.rt:25:9
+add-j : tie.Need-add-j Inv-loop μ-loop
+add-j c = search needs
+
+-- src/lib.rt:23:5
+loop-less : tie.Need-loop-less Inv-loop μ-loop
+loop-less c = search needs
+
+-- src/lib.rt:23:5
+loop-again : tie.Need-loop-again Inv-loop μ-loop
+loop-again c = filled-more (c .before .before .loop .inv) (c .before .loop-test .taken) (c .greater .ensures)
+
+-- src/lib.rt:18:1
+returns : tie.Need-returns Inv-loop μ-loop
+returns c = filled-done (c .before .loop .inv) (c .loop-test .left) width16
+
+pub join-spec : {M : Type 1} → statement M
+join-spec =
+    tie.close
+    (tie.spec
+    Inv-loop
+    μ-loop
+    loop-holds
+    mul-greater
+    array-read-greater
+    mul-greater-2
+    array-read-greater-2
+    greater-requires
+    mul-out
+    array-write-out
+    add-j
+    loop-less
+    loop-again
+    returns)
