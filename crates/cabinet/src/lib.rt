@@ -163,7 +163,7 @@ impl Cabinet {
             line,
             head,
         );
-        let r = verdicts::replies::store_reply(sound, head, stored, held, card, state);
+        let r = replies::store_reply(sound, head, stored, held, card, state);
         match r {
             Reply::Done => {
                 let c = card as usize;
@@ -203,7 +203,7 @@ impl Cabinet {
             line,
             head,
         );
-        let r = verdicts::replies::lose_reply(sound, head, cards);
+        let r = replies::lose_reply(sound, head, cards);
         match r {
             Reply::Done => {
                 let fallen = writes::fallen(held, stored, cards);
@@ -258,15 +258,15 @@ impl Cabinet {
             line,
             head,
         );
-        let r = verdicts::replies::take_reply(sound, head, places, change, card);
+        let r = replies::take_reply(sound, head, places, change, card);
         match r {
             Reply::Done => {
-                let p = verdicts::places::place_of(places, change);
+                let p = places::place_of(places, change);
                 let o = places[p];
-                let shared = verdicts::places::took(o, card);
+                let shared = places::took(o, card);
                 self.places[p] = shared;
                 let v = o.vector;
-                let v = verdicts::vectors::copied(v);
+                let v = vectors::copied(v);
                 let c = card as usize;
                 let written = bits::has(o.writes, card);
                 if written {
@@ -282,7 +282,7 @@ impl Cabinet {
                 } else {
                     let q = pending[c];
                     let q = q.entries;
-                    let j = verdicts::vectors::join(q, v);
+                    let j = vectors::join(q, v);
                     let w = Vector { entries: j };
                     self.pending[c] = w;
                 }
@@ -324,7 +324,7 @@ impl Cabinet {
         let r = changes::vote_reply(sound, head, places, change, card);
         match r {
             Reply::Done => {
-                let p = verdicts::places::place_of(places, change);
+                let p = places::place_of(places, change);
                 let o = places[p];
                 let after = changes::after_vote(o, card, agrees, reached, last, pending);
                 self.places[p] = after;
@@ -366,8 +366,8 @@ impl Cabinet {
         let r = changes::withdraw_reply(sound, head, places, change);
         match r {
             Reply::Done => {
-                let p = verdicts::places::place_of(places, change);
-                let free = verdicts::places::free_place();
+                let p = places::place_of(places, change);
+                let free = places::free_place();
                 self.places[p] = free;
             }
             Reply::Refused(_) => {}
@@ -409,7 +409,7 @@ impl Cabinet {
         let answer = writes::open_answer(r, head.count);
         match r {
             Reply::Done => {
-                let p = verdicts::places::free_at(places);
+                let p = places::free_at(places);
                 let k = head.count + 1;
                 let o = changes::opened(k, reads, writes);
                 self.places[p] = o;

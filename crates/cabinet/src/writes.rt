@@ -50,7 +50,7 @@ pub fn fallen(held: [u32; 16], stored: [u32; 16], cards: u16) -> [u32; 16]
 pub fn no_places() -> [Place; 8]
     ensures { λ r. ⌜ r ≡ tabulate (limits16 .places) (λ p. placeFor freePlace) ⌝ }
 {
-    let free = verdicts::places::free_place();
+    let free = places::free_place();
     [free; 8]
 }
 
@@ -62,7 +62,7 @@ pub fn ended_numbers(places: [Place; 8]) -> [u32; 8]
     let mut p: usize = 0;
     while p < 8 {
         let o = places[p];
-        let k = verdicts::places::remembered_number(o);
+        let k = places::remembered_number(o);
         out[p] = k;
         p += 1;
     }

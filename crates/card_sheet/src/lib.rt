@@ -8,10 +8,10 @@ ghost use Rattle.protocol.specs.Model.{isRolling};
 ghost use Rattle.verdicts.specs.Shape.{phaseOf, ringMaker, ringFrame};
 ghost use Rattle.card_sheet.specs.Card.{sessionFor, cardSheet, Within, sheetModel, sheetPlanFor, SheetTold};
 use refusal::Refusal;
+use replies::is_card;
 use sheet::Sheet;
 use verdicts::Head;
 use verdicts::is_rolling;
-use verdicts::replies::is_card;
 use write::Written;
 
 // The vectors of 48 states of a card, from base + 1 on.

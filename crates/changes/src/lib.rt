@@ -11,13 +11,12 @@ ghost use Rattle.verdicts.specs.Shape.{limits16, at, headModel, placesModel, op
 ghost use Rattle.verdicts.specs.Answers.{firstFailing, after28};
 ghost use Rattle.changes.specs.Opening.{standing, OpenVerdict};
 use refusal::Refusal;
+use replies::is_card;
+use replies::next;
 use verdicts::Head;
 use verdicts::Place;
 use verdicts::Reply;
 use verdicts::Vector;
-use verdicts::places;
-use verdicts::replies::is_card;
-use verdicts::replies::next;
 
 // 2. vote
 pub fn vote_reply(sound: bool, head: Head, all: [Place; 8], k: u32, card: u32) -> Reply
@@ -67,7 +66,7 @@ fn with_yes(
     let yes = bits::with(o.yes, c);
     let n = places::awaited(o.reads, o.writes, yes);
     if n == 0 {
-        let v = verdicts::vectors::decision(o, reached, last, pending);
+        let v = vectors::decision(o, reached, last, pending);
         Place {
             vector: v,
             number: o.number,

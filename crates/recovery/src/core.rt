@@ -17,10 +17,10 @@ use crate::Outcome;
 use crate::lines;
 use crate::lost;
 use refusal::Refusal;
+use replies::next;
 use verdicts::Head;
 use verdicts::Reply;
 use verdicts::is_down;
-use verdicts::replies::next;
 
 // The checks before the last: 28, 20, 24.
 pub fn fix_reply(sound: bool, head: Head) -> Reply

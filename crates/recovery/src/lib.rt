@@ -13,13 +13,13 @@ ghost use Rattle.protocol.specs.Calls.{lines, trimChecks, rollChecks, allRolled
 ghost use Rattle.verdicts.specs.Shape.{limits16, at, listOf, setOf, vectorFor, ringFrame, headModel, modelOf};
 ghost use Rattle.verdicts.specs.Answers.{firstFailing, after28};
 use refusal::Refusal;
+use replies::is_card;
+use replies::next;
 use verdicts::Head;
 use verdicts::Reply;
 use verdicts::Vector;
 use verdicts::is_rolling;
 use verdicts::is_up;
-use verdicts::replies::is_card;
-use verdicts::replies::next;
 
 pub mod core;
 pub mod lost;

@@ -11,12 +11,11 @@ ghost use Rattle.verdicts.specs.Shape.{limits16, at, ringMaker, modelOf};
 ghost use Rattle.verdicts.specs.Answers.{safeReplyOf, after28};
 ghost use Rattle.safety.specs.Known.{InOrder, gradedOf};
 use refusal::Refusal;
+use replies::next;
 use verdicts::Head;
 use verdicts::Place;
 use verdicts::Reply;
 use verdicts::SafeReply;
-use verdicts::places;
-use verdicts::replies::next;
 
 // How many states there are above x, up to reached.
 fn above(x: u32, reached: u32) -> u32

@@ -12,7 +12,7 @@ use Rattle.card_sheet.proofs.write_card.Reads as reads
 use Rattle.card_sheet.proofs.write_card.Lts as lts
 use Rattle.card_sheet.proofs.sheet_of.Reads as sheet-of-reads
 use Rattle.verdicts.proofs.at.Reads as at-reads
-use Rattle.verdicts.proofs.replies.is_card.Reads as is-card-reads
+use Rattle.replies.proofs.is_card.Reads as is-card-reads
 use Rattle.write.proofs.write_whole.Reads as write-whole-reads
 
 returns : tie.Need-returns

@@ -25,7 +25,7 @@ use Rattle.changes.proofs.after_vote.Tie as tie
 use Rattle.changes.proofs.after_vote.Reads as reads
 use Rattle.changes.proofs.after_vote.Lts as lts
 use Rattle.changes.proofs.with_yes.Reads as with-yes-reads
-use Rattle.verdicts.proofs.places.free_place.Reads as free-place-reads
+use Rattle.places.proofs.free_place.Reads as free-place-reads
 
 -- src/lib.rt:92:9
 with-yes-requires : tie.Need-with-yes-requires

@@ -41,8 +41,8 @@ use Rattle.changes.proofs.at_top.Reads as at-top-reads
 use Rattle.changes.proofs.barred_set.Reads as barred-set-reads
 use Rattle.changes.proofs.hand_full.Reads as hand-full-reads
 use Rattle.verdicts.proofs.is_up.Reads as is-up-reads
-use Rattle.verdicts.proofs.places.free_at.Reads as free-at-reads
-use Rattle.verdicts.proofs.replies.next.Reads as next-reads
+use Rattle.places.proofs.free_at.Reads as free-at-reads
+use Rattle.replies.proofs.next.Reads as next-reads
 
 -- src/lib.rt:164:9
 within-requires : tie.Need-within-requires

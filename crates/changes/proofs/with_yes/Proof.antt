@@ -25,8 +25,8 @@ use Rattle.changes.proofs.with_yes.Tie as tie
 use Rattle.changes.proofs.with_yes.Reads as reads
 use Rattle.changes.proofs.with_yes.Lts as lts
 use Rattle.bits.proofs.with.Reads as with-reads
-use Rattle.verdicts.proofs.places.awaited.Reads as awaited-reads
-use Rattle.verdicts.proofs.vectors.decision.Reads as decision-reads
+use Rattle.places.proofs.awaited.Reads as awaited-reads
+use Rattle.vectors.proofs.decision.Reads as decision-reads
 
 -- src/lib.rt:61:9
 with-requires : tie.Need-with-requires

@@ -27,8 +27,8 @@ use Rattle.recovery.proofs.roll_reply.Reads as reads
 use Rattle.recovery.proofs.roll_reply.Lts as lts
 use Rattle.bits.proofs.has.Reads as has-reads
 use Rattle.verdicts.proofs.is_rolling.Reads as is-rolling-reads
-use Rattle.verdicts.proofs.replies.is_card.Reads as is-card-reads
-use Rattle.verdicts.proofs.replies.next.Reads as next-reads
+use Rattle.replies.proofs.is_card.Reads as is-card-reads
+use Rattle.replies.proofs.next.Reads as next-reads
 
 -- src/lib.rt:114:9
 is-card-requires : tie.Need-is-card-requires

@@ -25,7 +25,7 @@ use Rattle.recovery.proofs.trim_reply.Tie as tie
 use Rattle.recovery.proofs.trim_reply.Reads as reads
 use Rattle.recovery.proofs.trim_reply.Lts as lts
 use Rattle.verdicts.proofs.is_up.Reads as is-up-reads
-use Rattle.verdicts.proofs.replies.next.Reads as next-reads
+use Rattle.replies.proofs.next.Reads as next-reads
 
 -- src/lib.rt:107:9
 is-up-requires : tie.Need-is-up-requires

@@ -30,10 +30,10 @@ use Rattle.safety.proofs.safe_reply.Lts as lts
 use Rattle.safety.proofs.answered.Reads as answered-reads
 use Rattle.safety.proofs.some_above.Reads as some-above-reads
 use Rattle.verdicts.proofs.is_up.Reads as is-up-reads
-use Rattle.verdicts.proofs.places.awaits_write.Reads as awaits-write-reads
-use Rattle.verdicts.proofs.places.place_at.Reads as place-at-reads
-use Rattle.verdicts.proofs.places.place_of.Reads as place-of-reads
-use Rattle.verdicts.proofs.replies.next.Reads as next-reads
+use Rattle.places.proofs.awaits_write.Reads as awaits-write-reads
+use Rattle.places.proofs.place_at.Reads as place-at-reads
+use Rattle.places.proofs.place_of.Reads as place-of-reads
+use Rattle.replies.proofs.next.Reads as next-reads
 
 -- src/lib.rt:92:9
 returns : tie.Need-returns

@@ -31,7 +31,7 @@ use Rattle.cabinet.proofs.writes.fallen.Reads as fallen-reads
 use Rattle.cabinet.proofs.writes.no_places.Reads as no-places-reads
 use Rattle.soundness.proofs.cabinet_sound.Reads as cabinet-sound-reads
 use Rattle.verdicts.proofs.is_up.Reads as is-up-reads
-use Rattle.verdicts.proofs.replies.lose_reply.Reads as lose-reply-reads
+use Rattle.replies.proofs.lose_reply.Reads as lose-reply-reads
 
 -- src/lib.rt:99:13
 cabinet-sound-requires : tie.Need-cabinet-sound-requires

@@ -39,7 +39,7 @@ use Rattle.cabinet.proofs.writes.open_answer.Reads as open-answer-reads
 use Rattle.changes.proofs.open_verdict.Reads as open-verdict-reads
 use Rattle.changes.proofs.opened.Reads as opened-reads
 use Rattle.soundness.proofs.cabinet_sound.Reads as cabinet-sound-reads
-use Rattle.verdicts.proofs.places.free_at.Reads as free-at-reads
+use Rattle.places.proofs.free_at.Reads as free-at-reads
 
 -- what the accepted call shows
 facts : (c : tie.After-open-verdict) → c .open-verdict .result ≡ Done → Opens (view (c .before .before .before .before .before .before .before .before .before .before .before .before .before .before .args .t1))

@@ -25,7 +25,7 @@ use Rattle.cabinet.proofs.Cabinet.store.Tie as tie
 use Rattle.cabinet.proofs.Cabinet.store.Reads as reads
 use Rattle.cabinet.proofs.Cabinet.store.Lts as lts
 use Rattle.soundness.proofs.cabinet_sound.Reads as cabinet-sound-reads
-use Rattle.verdicts.proofs.replies.store_reply.Reads as store-reply-reads
+use Rattle.replies.proofs.store_reply.Reads as store-reply-reads
 
 -- src/lib.rt:71:13
 cabinet-sound-requires : tie.Need-cabinet-sound-requires

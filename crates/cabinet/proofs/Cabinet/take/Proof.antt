@@ -31,11 +31,11 @@ use Rattle.cabinet.proofs.Cabinet.take.Lts as lts
 use Rattle.bits.proofs.has.Reads as has-reads
 use Rattle.cabinet.proofs.writes.put_frame.Reads as put-frame-reads
 use Rattle.soundness.proofs.cabinet_sound.Reads as cabinet-sound-reads
-use Rattle.verdicts.proofs.places.place_of.Reads as place-of-reads
-use Rattle.verdicts.proofs.places.took.Reads as took-reads
-use Rattle.verdicts.proofs.replies.take_reply.Reads as take-reply-reads
-use Rattle.verdicts.proofs.vectors.copied.Reads as copied-reads
-use Rattle.verdicts.proofs.vectors.join.Reads as join-reads
+use Rattle.places.proofs.place_of.Reads as place-of-reads
+use Rattle.places.proofs.took.Reads as took-reads
+use Rattle.replies.proofs.take_reply.Reads as take-reply-reads
+use Rattle.vectors.proofs.copied.Reads as copied-reads
+use Rattle.vectors.proofs.join.Reads as join-reads
 
 -- what the accepted take shows
 facts : (c : tie.After-enum-told) → Taken (view (c .before .before .before .before .before .before .before .before .before .before .before .before .before .before .before .before .args .t1)) (c .before .before .before .before .before .before .before .before .before .before .before .before .before .before .before .before .args .change) (c .before .before .before .before .before .before .before .before .before .before .before .before .before .before .before .before .args .card)

@@ -34,7 +34,7 @@ use Rattle.cabinet.proofs.Cabinet.vote.Lts as lts
 use Rattle.changes.proofs.after_vote.Reads as after-vote-reads
 use Rattle.changes.proofs.vote_reply.Reads as vote-reply-reads
 use Rattle.soundness.proofs.cabinet_sound.Reads as cabinet-sound-reads
-use Rattle.verdicts.proofs.places.place_of.Reads as place-of-reads
+use Rattle.places.proofs.place_of.Reads as place-of-reads
 
 -- what the accepted call shows
 facts : (c : tie.After-enum-told) → Reached (view (c .before .before .before .before .before .before .before .before .before .before .before .before .before .before .before .before .args .t1)) (c .before .before .before .before .before .before .before .before .before .before .before .before .before .before .before .before .args .change)

@@ -33,8 +33,8 @@ use Rattle.cabinet.proofs.Cabinet.withdraw.Reads as reads
 use Rattle.cabinet.proofs.Cabinet.withdraw.Lts as lts
 use Rattle.changes.proofs.withdraw_reply.Reads as withdraw-reply-reads
 use Rattle.soundness.proofs.cabinet_sound.Reads as cabinet-sound-reads
-use Rattle.verdicts.proofs.places.free_place.Reads as free-place-reads
-use Rattle.verdicts.proofs.places.place_of.Reads as place-of-reads
+use Rattle.places.proofs.free_place.Reads as free-place-reads
+use Rattle.places.proofs.place_of.Reads as place-of-reads
 
 -- what the accepted call shows
 facts : (c : tie.After-enum-told) → Reached (view (c .before .before .before .before .before .before .before .before .before .before .before .before .before .before .before .before .args .t1)) (c .before .before .before .before .before .before .before .before .before .before .before .before .before .before .before .before .args .change)

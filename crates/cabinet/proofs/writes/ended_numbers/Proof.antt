@@ -18,7 +18,7 @@ use Rattle.cabinet.proofs.writes.ended_numbers.Statement.{statement}
 use Rattle.cabinet.proofs.writes.ended_numbers.Tie as tie
 use Rattle.cabinet.proofs.writes.ended_numbers.Reads as reads
 use Rattle.cabinet.proofs.writes.ended_numbers.Lts as lts
-use Rattle.verdicts.proofs.places.remembered_number.Reads as remembered-number-reads
+use Rattle.places.proofs.remembered_number.Reads as remembered-number-reads
 
 abbrev Inv-loop : tie.InvT-loop
 Inv-loop places out₀ p₀ out p = FilledSoFar 0 8 (λ k. remembered limits16 (openAt places k)) out p

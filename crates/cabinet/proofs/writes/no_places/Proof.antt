@@ -18,7 +18,7 @@ use Rattle.cabinet.proofs.writes.no_places.Statement.{statement}
 use Rattle.cabinet.proofs.writes.no_places.Tie as tie
 use Rattle.cabinet.proofs.writes.no_places.Reads as reads
 use Rattle.cabinet.proofs.writes.no_places.Lts as lts
-use Rattle.verdicts.proofs.places.free_place.Reads as free-place-reads
+use Rattle.places.proofs.free_place.Reads as free-place-reads
 
 -- src/writes.rt:47:9
 free-place-requires : tie.Need-free-place-requires

@@ -26,7 +26,7 @@ use Rattle.recovery.proofs.core.fix_reply.Tie as tie
 use Rattle.recovery.proofs.core.fix_reply.Reads as reads
 use Rattle.recovery.proofs.core.fix_reply.Lts as lts
 use Rattle.verdicts.proofs.is_down.Reads as is-down-reads
-use Rattle.verdicts.proofs.replies.next.Reads as next-reads
+use Rattle.replies.proofs.next.Reads as next-reads
 
 -- src/core.rt:28:9
 is-down-requires : tie.Need-is-down-requires
