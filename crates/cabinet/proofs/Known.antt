@@ -16,6 +16,7 @@ use Rattle.protocol.specs.Sound.{sound, sessionSound, cardsSound, cardSound, pl
 use Rattle.history.specs.Change.{touches}
 use Rattle.verdicts.specs.Shape.{limits16}
 use Rattle.verdicts.proofs.Limits.{width16, places8, greatest60000}
+use Rattle.lost.proofs.Rising.{sound-cards}
 
 -- the first number that passes does pass, where there is one
 pub record FirstAt (n : ℕ) (p : ℕ → Bool) (i : ℕ) : Type 0 where
@@ -50,13 +51,6 @@ sound-places m e p h =
     all-at (limits16 .places) (λ p. placeSound limits16 m (m .place p))
     (and-right (sessionSound limits16 m && cardsSound limits16 m && allBelow (limits16 .width) (cardSound limits16 m)) (allBelow (limits16 .places) (λ p. placeSound limits16 m (m .place p))) e)
     p (omega (arith, places8))
-
-pub sound-cards : (m : Model) → sound limits16 m ≡ true → (c : ℕ) → c < 16 → cardSound limits16 m c ≡ true
-sound-cards m e c h =
-    all-at (limits16 .width) (cardSound limits16 m)
-    (and-right (sessionSound limits16 m && cardsSound limits16 m) (allBelow (limits16 .width) (cardSound limits16 m))
-    (and-left (sessionSound limits16 m && cardsSound limits16 m && allBelow (limits16 .width) (cardSound limits16 m)) (allBelow (limits16 .places) (λ p. placeSound limits16 m (m .place p))) e))
-    c (omega (arith, width16))
 
 -- a card that an open change has yet to write has room
 pub room-known : (m : Model) (o : OpenChange) → placeSound limits16 m o ≡ true → isOpen o ≡ true → (c : ℕ) → c < 16 → toWrite o c ≡ true → roomToWrite limits16 (m .numbers) c ≡ true

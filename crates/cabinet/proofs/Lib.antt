@@ -1,5 +1,4 @@
 pub mod Known
-pub mod Rising
 pub mod Call
 pub mod Share
 pub mod Laws

@@ -1,7 +1,7 @@
 -- What fix hands back is what its plan says. Assumes nothing.
 use Prim.Native.Nat.{ℕ}
 use mathlib.Core.Path.{_≡_, refl, sym, _∙_, ap}
-use mathlib.Core.Bool.{Bool, true, false, not, cond}
+use mathlib.Core.Bool.{true, false}
 use mathlib.Core.List.{List, [], _∷_}
 use lib.ListN.{length, replicate}
 use Rattle.laws.specs.Below.{tabulate}
@@ -10,15 +10,13 @@ use Rattle.protocol.specs.Model.{Model, noCards}
 use Rattle.protocol.specs.Edit.{Edit, fix}
 use Rattle.protocol.specs.Plan.{Answer, fixed, Check, _⇒_, Plan, checked, accepted, refused}
 use Rattle.protocol.specs.Plan as plan
-use Rattle.protocol.specs.Sound.{sound}
 use Rattle.protocol.specs.Calls.{lines, cardRows, fixChecks, fixPlan}
 use Rattle.verdicts.specs.declared.Head.{Head}
 use Rattle.verdicts.specs.declared.Phase.the-variants.{Rolling}
 use Rattle.verdicts.specs.Shape.{limits16, at, listOf, setOf, modelOf}
-use Rattle.verdicts.specs.Answers.{after28}
 use Rattle.recovery.specs.declared.FixReply.{FixReply}
 use Rattle.recovery.specs.declared.FixReply.the-variants.{Fixed, NotFixed}
-use Rattle.recovery.specs.Fix.{FixTold, fixPlanFor, fixReplyOf, listAfter, linesAfter}
+use Rattle.recovery.specs.Fix.{FixTold, fixReplyOf, linesAfter}
 use Rattle.cabinet.specs.declared.Cabinet.{Cabinet}
 use Rattle.cabinet.specs.View.{view}
 use Rattle.cabinet.specs.Apply.{applyAll}
@@ -40,32 +38,28 @@ pub none-ended : replicate {A = ℕ} 8 0 ≡ tabulate (limits16 .places) (λ p. 
 unfolding limits16
 none-ended = refl
 
-module _ (s : Cabinet) (places : ℕ) (before : List ℕ) (whole : Bool) (ew : whole ≡ sound limits16 (view s)) where
-  -- the parts that the core of fix looks at
-  abbrev pub parts : Model
-  parts = modelOf (s .entries) (s .makers) [] [] [] (s .base) (s .stored) [] (s .reached) [] (s .ended) 0 (s .head)
+module _ (s : Cabinet) (places : ℕ) (before : List ℕ) where
+  -- the cabinet as the core of fix sees it: which cards are rolled does not matter
+  abbrev pub seen : Model
+  seen = modelOf (s .entries) (s .makers) (s .last) (s .pending) (s .places) (s .base) (s .stored) (s .held) (s .reached) (s .line) (s .ended) 0 (s .head)
 
-  plan-same : (xs : List ℕ) → fixPlanFor whole parts places (length before) xs ≡ fixPlan limits16 (view s) places (length before) xs
-  plan-same xs = ap (λ (b : Bool). checked (after28 (not b) (fixChecks limits16 (view s) places (length before) xs)) (fixed (cardRows limits16 (view s)) xs) (fix (lines limits16 (view s)) ∷ [])) ew
-
-  lines-same : (x : plan.Reply) → linesAfter x parts ≡ linesAfter x (view s)
+  lines-same : (x : plan.Reply) → linesAfter x seen ≡ linesAfter x (view s)
   lines-same (accepted a) = refl
   lines-same (refused r) = refl
 
-  told-whole : (line after : List ℕ) (r : FixReply) → FixTold parts (fixPlanFor whole parts places (length before)) (s .head .cards) (s .stored) line before after r
+  told-whole : (line after : List ℕ) (r : FixReply) → FixTold seen (fixPlan limits16 seen places (length before)) (s .head .cards) (s .stored) line before after r
       → FixTold (view s) (fixPlan limits16 (view s) places (length before)) (s .head .cards) (s .stored) line before after r
   told-whole line after r t =
-      let e : _ = plan-same (t .lost) in
       record {
         lost = t .lost;
         once = t .once;
-        answer = t .answer ∙ ap (λ (x : Plan). x .reply) e;
+        answer = t .answer;
         inside = t .inside;
-        list = t .list ∙ ap (λ (x : Plan). listAfter (x .reply) before) e;
-        arrays = t .arrays ∙ lines-same (fixPlanFor whole parts places (length before) (t .lost) .reply) ∙ ap (λ (x : Plan). linesAfter (x .reply) (view s)) e;
+        list = t .list;
+        arrays = t .arrays ∙ lines-same (fixPlan limits16 (view s) places (length before) (t .lost) .reply);
       }
 
-  pub fix-refused : (line after : List ℕ) (r : FixReply) (q : Refusal) (next : Cabinet) → FixTold parts (fixPlanFor whole parts places (length before)) (s .head .cards) (s .stored) line before after r → r ≡ NotFixed q → next ≡ s
+  pub fix-refused : (line after : List ℕ) (r : FixReply) (q : Refusal) (next : Cabinet) → FixTold seen (fixPlan limits16 seen places (length before)) (s .head .cards) (s .stored) line before after r → r ≡ NotFixed q → next ≡ s
       → FixCarried s places before after (s .stored) line r next
   unfolding told-whole
   fix-refused line after r q next t d n =
@@ -77,7 +71,7 @@ module _ (s : Cabinet) (places : ℕ) (before : List ℕ) (whole : Bool) (ew : w
         cabinet = n ∙ sym (ap (λ (es : List Edit). applyAll es s) (edits-none (fixChecks limits16 (view s) places (length before) (t .lost)) (fixed (cardRows limits16 (view s)) (t .lost)) q (fix (lines limits16 (view s)) ∷ []) e));
       }
 
-  pub fix-done : (line after : List ℕ) (r : FixReply) (k : ℕ) (next : Cabinet) → FixTold parts (fixPlanFor whole parts places (length before)) (s .head .cards) (s .stored) line before after r → r ≡ Fixed k
+  pub fix-done : (line after : List ℕ) (r : FixReply) (k : ℕ) (next : Cabinet) → FixTold seen (fixPlan limits16 seen places (length before)) (s .head .cards) (s .stored) line before after r → r ≡ Fixed k
       → (line ≡ listOf (lines limits16 (view s)) → next ≡ applyAll (fix (lines limits16 (view s)) ∷ []) s)
       → FixCarried s places before after (s .stored) line r next
   unfolding told-whole

@@ -77,7 +77,8 @@ impl Cabinet {
         let line = self.line;
         let head = self.head;
         let ended = self.ended;
-        let sound = soundness::cabinet_sound(
+        let out = lost::fix(
+            list,
             &self.entries,
             &self.makers,
             last,
@@ -88,18 +89,8 @@ impl Cabinet {
             held,
             reached,
             line,
-            head,
-        );
-        let out = recovery::core::fix(
-            list,
-            &self.entries,
-            &self.makers,
-            sound,
-            head,
-            base,
-            stored,
-            reached,
             ended,
+            head,
             places,
         );
         let r = out.reply;

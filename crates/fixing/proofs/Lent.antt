@@ -27,7 +27,7 @@ use Rattle.verdicts.proofs.Checks.{Passes, passes, done-plan}
 use Rattle.recovery.specs.declared.FixReply.{FixReply}
 use Rattle.recovery.specs.declared.FixReply.the-variants.{Fixed, NotFixed}
 use Rattle.recovery.specs.Fix.{rowsOf, fixReplyOf}
-use Rattle.recovery.proofs.Told.{length-selected}
+use Rattle.recovery.proofs.Rows.{length-selected}
 use Rattle.cabinet.specs.declared.Cabinet.{Cabinet}
 use Rattle.cabinet.specs.declared.recover.FixAnswer.{FixAnswer}
 use Rattle.cabinet.specs.View.{view}

@@ -1,18 +1,15 @@
 -- What fix answers: the reply, the lines by card, and the numbers of the changes lost in the lent list.
 use Prim.Native.Nat.{ℕ, _≤_}
 use mathlib.Core.Path.{_≡_}
-use mathlib.Core.Bool.{Bool, not}
 use mathlib.Core.List.{List, [], _∷_}
 use lib.ListN.{length, take}
 use lib.Seq.{sets}
 use Rattle.laws.specs.Below.{selected, occurs, one-if}
 use Rattle.protocol.specs.Model.{Model}
-use Rattle.protocol.specs.Edit.{fix}
-use Rattle.protocol.specs.Plan.{CardRow, Answer, done, opened, safe, unsafe, fixed, written, Check, Plan, checked, accepted, refused}
+use Rattle.protocol.specs.Plan.{CardRow, Answer, done, opened, safe, unsafe, fixed, written, Check, Plan, accepted, refused}
 use Rattle.protocol.specs.Plan as plan
-use Rattle.protocol.specs.Calls.{lines, isLost, cardRows, fixChecks}
+use Rattle.protocol.specs.Calls.{lines, isLost}
 use Rattle.verdicts.specs.Shape.{limits16, at, listOf, presentOf}
-use Rattle.verdicts.specs.Answers.{after28}
 use Rattle.recovery.specs.declared.FixReply.{FixReply}
 use Rattle.recovery.specs.declared.FixReply.the-variants.{Fixed, NotFixed}
 
@@ -59,8 +56,3 @@ pub record FixTold (m : Model) (p : List ℕ → Plan) (n : ℕ) (stored line be
   pub inside : countTold reply ≤ length after
   pub list : after ≡ listAfter (p lost .reply) before
   pub arrays : line ≡ linesAfter (p lost .reply) m
-
--- the plan of fix for a cabinet that was found to pass 28 or not
-abbrev pub fixPlanFor : Bool → Model → (cardPlaces lostPlaces : ℕ) → List ℕ → Plan
-fixPlanFor whole m cardPlaces lostPlaces lost =
-    checked (after28 (not whole) (fixChecks limits16 m cardPlaces lostPlaces lost)) (fixed (cardRows limits16 m) lost) (fix (lines limits16 m) ∷ [])

@@ -1,2 +1,1 @@
-pub mod Lost
 pub mod Fix

@@ -1,4 +1,4 @@
-// The recovery line from what is in hand, the changes lost with it, and the replies of the calls of the recovery.
+// The recovery line from what is in hand, and the replies of the calls of the recovery.
 ghost use Prim.Native.Nat.{ℕ, _+_, _*_, _<_, _≤_};
 ghost use mathlib.Core.Path.{_≡_};
 ghost use mathlib.Core.Bool.{not, cond};
@@ -20,9 +20,6 @@ use verdicts::Reply;
 use verdicts::Vector;
 use verdicts::is_rolling;
 use verdicts::is_up;
-
-pub mod core;
-pub mod lost;
 
 // What fix answers: how many changes are lost, their numbers in the lent list.
 pub enum FixReply {

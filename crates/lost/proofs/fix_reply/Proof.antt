@@ -1,0 +1,53 @@
+use Rattle.protocol.specs.Calls.{fixChecks}
+use Rattle.protocol.specs.Plan.{Check}
+use Rattle.verdicts.specs.declared.Reply.the-variants.{Done}
+use Rattle.verdicts.specs.Answers.{after28}
+use Rattle.verdicts.proofs.Checks.{folded, folded-first}
+use Rattle.recovery.specs.Fix.{butLast}
+use Prim.Native.Nat.{ℕ, zero, suc, _+_, _*_, _-_, _/_, _%_, _^_, _≤_, _<_, max}
+use mathlib.Core.Path.{_≡_, refl, sym, _∙_, ap, ap₂}
+use mathlib.Core.Bool.{Bool, true, false, not, _&&_, _||_, cond}
+use mathlib.Core.List.{List, [], _∷_, _++_}
+use mathlib.Core.Logic.{⊎-elim, by-cases, inl, inr}
+use native.Mathlib.Numerals.{add-one}
+use native.Mathlib.Omega.{arith}
+use lib.ListN.{length, getD, set, List·getD-eq-default}
+use lib.Dec.{leb, ltb, eqb}
+use borrow.Author.Tests.{eq-eqb, ne-eqb, lt-ltb, le-ltb, le-leb, lt-leb, ltb-true, leb-true}
+use Rattle.laws.specs.Below.{allBelow, anyBelow, tabulate}
+use Rattle.laws.proofs.Logic.{test, clash, cond-true, cond-false, and-intro, and-left, and-right}
+use Rattle.laws.proofs.Fill.{AnySoFar, any-none, any-more, any-done, any-same, all-same, FilledSoFar, filled-none, filled-more, filled-done}
+use Rattle.history.specs.Line.{orphan, climb, lineFrom}
+use Rattle.verdicts.specs.Shape.{limits16, at, listOf, setOf, ringFrame, ringPlace, headModel, modelOf}
+use Rattle.verdicts.proofs.Limits.{width16, places8, greatestNumber32}
+use borrow.Author.Needs.{needs}
+use Rattle.lost.proofs.fix_reply.Statement.{statement}
+use Rattle.lost.proofs.fix_reply.Tie as tie
+use Rattle.lost.proofs.fix_reply.Reads as reads
+use Rattle.lost.proofs.fix_reply.Lts as lts
+use Rattle.verdicts.proofs.is_down.Reads as is-down-reads
+use Rattle.replies.proofs.next.Reads as next-reads
+
+-- src/core.rt:28:9
+is-down-requires : tie.Need-is-down-requires
+is-down-requires c κs = search needs
+
+-- src/core.rt:29:9
+next-requires : tie.Need-next-requires
+next-requires c κs = search needs
+
+-- src/core.rt:30:9
+next-requires-2 : tie.Need-next-requires-2
+next-requires-2 c κs = search needs
+
+-- src/core.rt:31:5
+next-requires-3 : tie.Need-next-requires-3
+next-requires-3 c κs = search needs
+
+-- src/core.rt:24:1
+returns : tie.Need-returns
+returns c = let a : _ = c .before .before .before .before .before .args in let cs : List Check = butLast (after28 (not (a .sound)) (fixChecks limits16 (headModel (a .head)) 0 0 [])) in let e : c .next3 .result ≡ folded cs Done = rw (c .next3 .ensures, c .before .before .next2 .ensures, c .before .before .before .next .ensures, c .before .before .before .before .is-down .ensures, greatestNumber32) in e ∙ folded-first cs
+
+pub fix-reply-spec : {M : Type 1} → statement M
+fix-reply-spec =
+    tie.close (tie.spec is-down-requires next-requires next-requires-2 next-requires-3 returns)

@@ -1,0 +1,104 @@
+// The core of fix, over numbers and lent arrays: the line of each card, and the changes lost.
+ghost use Prim.Native.Nat.{ℕ};
+ghost use mathlib.Core.Path.{_≡_};
+ghost use mathlib.Core.Bool.{not, _||_};
+ghost use mathlib.Core.List.{[]};
+ghost use lib.Dec.{ltb};
+ghost use lib.ListN.{length};
+ghost use Rattle.laws.specs.Below.{countBelow};
+ghost use Rattle.protocol.specs.Calls.{fixChecks, fixPlan};
+ghost use Rattle.verdicts.specs.Shape.{limits16, presentOf, headModel, modelOf};
+ghost use Rattle.verdicts.specs.Answers.{firstFailing, after28};
+ghost use Rattle.recovery.specs.Fix.{butLast, FixTold};
+use listing::count_lost;
+use listing::write_lost;
+use recovery::FixReply;
+use recovery::Outcome;
+use refusal::Refusal;
+use replies::next;
+use verdicts::Head;
+use verdicts::Place;
+use verdicts::Reply;
+use verdicts::Vector;
+use verdicts::is_down;
+
+mod listing;
+
+// The checks before the last: 28, 20, 24.
+fn fix_reply(sound: bool, head: Head) -> Reply
+    ensures { λ r. ⌜ r ≡ firstFailing (butLast (after28 (not sound) (fixChecks limits16 (headModel head) 0 0 []))) ⌝ }
+{
+    let phase = head.phase;
+    let down = is_down(phase);
+    let r = next(Reply::Done, !sound, Refusal::BadCabinet);
+    let r = next(r, !down, Refusal::WrongPhase);
+    next(r, 4294967295 <= head.session, Refusal::LimitReached)
+}
+
+// The last check: "lent list or buffer too short for the whole answer".
+fn is_short(head: Head, places: usize, room: usize, lost: usize) -> bool
+    ensures { λ r. ⌜ r ≡ ltb places (countBelow (limits16 .width) (presentOf (head .cards))) || ltb room lost ⌝ }
+{
+    let all = bits::all_below(head.cards);
+    let rows = bits::count(all);
+    (places < rows as usize) | (room < lost)
+}
+
+// 9. fix: the line of each card, and the numbers of the changes lost in the lent list; nothing where it is refused.
+// `changes` are the open changes, `line` the line fixed last, `places` the places for card records.
+pub fn fix<'a, 'b>(
+    list: &'a mut [u32],
+    entries: &'b [u32; 12288],
+    makers: &'b [u32; 768],
+    last: [Vector; 16],
+    pending: [Vector; 16],
+    changes: [Place; 8],
+    base: [u32; 16],
+    stored: [u32; 16],
+    held: [u32; 16],
+    reached: [u32; 16],
+    line: [u32; 16],
+    ended: [u32; 8],
+    head: Head,
+    places: usize,
+) -> Outcome
+    ensures { λ r. ⌜ FixTold (modelOf (now (entries .entry)) (now (makers .entry)) last pending changes base stored held reached line ended 0 head) (fixPlan limits16 (modelOf (now (entries .entry)) (now (makers .entry)) last pending changes base stored held reached line ended 0 head) places (length (now (list .entry)))) (head .cards) stored (r .line) (now (list .entry)) (now (list .exit)) (r .reply) ⌝ }
+{
+    let sound = soundness::cabinet_sound(
+        entries,
+        makers,
+        last,
+        pending,
+        changes,
+        base,
+        stored,
+        held,
+        reached,
+        line,
+        head,
+    );
+    let first = fix_reply(sound, head);
+    match first {
+        Reply::Done => {
+            let lines = recovery::lines(entries, head, base, stored, reached);
+            let n = count_lost(makers, lines, reached, ended, head.cards);
+            let short = is_short(head, places, list.len(), n);
+            if short {
+                Outcome {
+                    line: [0u32; 16],
+                    reply: FixReply::NotFixed(Refusal::TooShort),
+                }
+            } else {
+                write_lost(list, makers, lines, reached, ended, head.cards);
+                Outcome {
+                    line: lines,
+                    reply: FixReply::Fixed(n),
+                }
+            }
+        }
+        Reply::Refused(q) => Outcome {
+            line: [0u32; 16],
+            reply: FixReply::NotFixed(q),
+        },
+    }
+}
