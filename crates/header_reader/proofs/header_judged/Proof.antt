@@ -1,0 +1,54 @@
+-- `frame::header_judged` judges a header line whose shape is right. Assumes nothing.
+use mathlib.Core.Path.{_≡_, refl, sym, _∙_, ap}
+use borrow.Author.Needs.{needs}
+use native.Mathlib.Omega.{arith}
+use borrow.Author.Tests.{lt-ltb, le-ltb, le-leb, lt-leb, eq-eqb, ne-eqb, not-true, not-false}
+use lib.ListN.{drop}
+use Rattle.frame.proofs.Judged.{header-told}
+use Rattle.header_reader.proofs.header_judged.Statement.{statement}
+use Rattle.header_reader.proofs.header_judged.Tie as tie
+use Rattle.header_reader.proofs.header_judged.Reads as reads
+use Rattle.header_reader.proofs.header_judged.Lts as lts
+use Rattle.header_reader.proofs.header_allowed.Reads as header-allowed-reads
+use Rattle.header_reader.proofs.header_in.Reads as header-in-reads
+use Rattle.frame.proofs.start_of.Reads as start-of-reads
+use Rattle.digits.proofs.check_at.Reads as check-at-reads
+
+header-in-requires : tie.Need-header-in-requires
+header-in-requires c κs = search needs
+
+start-of-requires : tie.Need-start-of-requires
+start-of-requires c κs = search needs
+
+check-at-requires : tie.Need-check-at-requires
+check-at-requires c κs = search needs
+
+returns : tie.Need-returns
+returns c =
+    let a = c .before .before .before .before .before .args in
+    header-told (a .due) (a .first) (drop (a .at) (a .s .now)) (c .before .before .before .before .before .pre .1) (c .before .before .before .header-in .ensures) (c .before .before .start-of .ensures) (sym (not-true _ (c .if1 .taken)) ∙ c .before .check-at .ensures) refl
+
+header-allowed-requires : tie.Need-header-allowed-requires
+header-allowed-requires c κs = search needs
+
+returns-2 : tie.Need-returns-2
+returns-2 c =
+    let a = c .before .before .before .before .before .before .before .args in
+    header-told (a .due) (a .first) (drop (a .at) (a .s .now)) (c .before .before .before .before .before .before .before .pre .1) (c .before .before .before .before .before .header-in .ensures) (c .before .before .before .before .start-of .ensures) (sym (not-false _ (c .before .before .if1 .left)) ∙ c .before .before .before .check-at .ensures) (sym (not-true _ (c .if2 .taken)) ∙ c .before .header-allowed .ensures)
+
+returns-3 : tie.Need-returns-3
+returns-3 c =
+    let a = c .before .before .before .before .before .before .before .args in
+    header-told (a .due) (a .first) (drop (a .at) (a .s .now)) (c .before .before .before .before .before .before .before .pre .1) (c .before .before .before .before .before .header-in .ensures) (c .before .before .before .before .start-of .ensures) (sym (not-false _ (c .before .before .if1 .left)) ∙ c .before .before .before .check-at .ensures) (sym (not-false _ (c .if2 .left)) ∙ c .before .header-allowed .ensures)
+
+pub header-judged-spec : {M : Type 1} → statement M
+header-judged-spec =
+    tie.close
+    (tie.spec
+    header-in-requires
+    start-of-requires
+    check-at-requires
+    returns
+    header-allowed-requires
+    returns-2
+    returns-3)

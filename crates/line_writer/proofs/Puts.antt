@@ -1,0 +1,149 @@
+-- Lines as runs of stores. Assumes nothing.
+use Prim.Native.Nat.{ℕ, zero, suc, _+_, _*_, _-_, _≤_, _<_}
+use mathlib.Core.Path.{_≡_, refl, sym, _∙_, ap, ap₂}
+use mathlib.Core.List.{List, [], _∷_, _++_, map, append-assoc, append-nil}
+use native.Mathlib.Nat.{suc-mul, zero-mul, add-comm}
+use native.Mathlib.Omega.{arith}
+use lib.ListN.{length, take, drop, getD, replicate, length-append, length-map, length-replicate}
+use lib.Seq.{sets, drop-cons}
+use Rattle.laws.proofs.Seq.{sets-append, sets-part}
+use Rattle.digits.specs.declared.Sums.{Sums}
+use Rattle.digits.specs.Digits.{digits, written}
+use Rattle.digits.specs.Line.{summed, checkOf, lineOf}
+use Rattle.digits.proofs.Digits.{digits-length, written-length, written-all, total}
+use Rattle.digits.proofs.Lines.{line-length}
+use Rattle.frame.specs.declared.Header.{Header}
+use Rattle.frame.specs.declared.Frame.{Frame}
+use Rattle.frame.specs.Format.{format, entryOf}
+use Rattle.frame.specs.Lines.{headerLine, headerWidths, headerNumbers, startOf, frameLine, frameWidths, frameNumbers}
+
+-- a run stored behind a run
+pub next-put : (b : List ℕ) {b₁ b₂ : List ℕ} (at p : ℕ) (xs ys : List ℕ) → b₁ ≡ sets b at xs → p ≡ at + length xs → b₂ ≡ sets b₁ p ys → b₂ ≡ sets b at (xs ++ ys)
+next-put b at p xs ys e q f = f ∙ rw (e, q) (sym (sets-append xs b at ys))
+
+-- digits stored, and the line ended
+pub line-ended :
+    (b : List ℕ) {b₁ b₂ : List ℕ} (start : Sums) (at n : ℕ) (body : List ℕ) →
+    length body ≡ n →
+    at + n ≤ length b →
+    b₁ ≡ sets b at body →
+    b₂ ≡ sets b₁ (at + n) (digits 4 (checkOf (summed start (take n (drop at b₁)))) ++ (10 ∷ [])) →
+    b₂ ≡ sets b at (lineOf start body)
+unfolding lineOf
+line-ended b {b₁} {b₂} start at n body l h e f = f ∙ tail (digits 4 (checkOf (summed start body))) (ap (λ (x : List ℕ). digits 4 (checkOf (summed start x))) part)
+  where
+    part : take n (drop at b₁) ≡ body
+    part = rw (e, ← l) (sets-part body b at (rw l h))
+
+    tail : (check : List ℕ) → digits 4 (checkOf (summed start (take n (drop at b₁)))) ≡ check → sets b₁ (at + n) (digits 4 (checkOf (summed start (take n (drop at b₁)))) ++ (10 ∷ [])) ≡ sets b at (body ++ check ++ (10 ∷ []))
+    tail check q = ap (λ (x : List ℕ). sets b₁ (at + n) (x ++ (10 ∷ []))) q ∙ rw (append-assoc body check (10 ∷ []), sets-append body b at (check ++ (10 ∷ [])), l, e)
+
+-- five runs, one behind the other
+pub five-puts :
+    (b : List ℕ) {b₁ b₂ b₃ b₄ b₅ : List ℕ} (at : ℕ) (v w x y z : List ℕ) →
+    length v ≡ 8 →
+    length w ≡ 2 →
+    length x ≡ 2 →
+    length y ≡ 4 →
+    b₁ ≡ sets b at v →
+    b₂ ≡ sets b₁ (at + 8) w →
+    b₃ ≡ sets b₂ (at + 10) x →
+    b₄ ≡ sets b₃ (at + 12) y →
+    b₅ ≡ sets b₄ (at + 16) z →
+    b₅ ≡ sets b at (v ++ (w ++ (x ++ (y ++ (z ++ [])))))
+five-puts b at v w x y z lv lw lx ly p q r s t =
+    let two = next-put b at (at + 8) v w p (rw lv) q in
+    let three = next-put b at (at + 10) (v ++ w) x two (rw (length-append v w, lv, lw)) r in
+    let four = next-put b at (at + 12) (v ++ w ++ x) y three (rw (length-append (v ++ w) x, length-append v w, lv, lw, lx)) s in
+    let five = next-put b at (at + 16) (v ++ w ++ x ++ y) z four (rw (length-append (v ++ w ++ x) y, length-append (v ++ w) x, length-append v w, lv, lw, lx, ly)) t in
+    let e : v ++ w ++ x ++ y ++ z ≡ v ++ (w ++ (x ++ (y ++ (z ++ [])))) = simp (append-assoc, append-nil) in
+    five ∙ ap (sets b at) e
+
+pub header-put :
+    (b : List ℕ) {b₁ b₂ b₃ b₄ b₅ b₆ : List ℕ} (at : ℕ) (h : Header) (start : Sums) →
+    at + 25 ≤ length b →
+    b₁ ≡ sets b at (digits 8 (h .session)) →
+    b₂ ≡ sets b₁ (at + 8) (digits 2 (h .card)) →
+    b₃ ≡ sets b₂ (at + 10) (digits 2 (h .cards)) →
+    b₄ ≡ sets b₃ (at + 12) (digits 4 (h .base)) →
+    b₅ ≡ sets b₄ (at + 16) (digits 4 (h .count)) →
+    start ≡ startOf format h →
+    b₆ ≡ sets b₅ (at + 20) (digits 4 (checkOf (summed start (take 20 (drop at b₅)))) ++ (10 ∷ [])) →
+    b₆ ≡ sets b at (headerLine format h)
+unfolding headerLine
+header-put b at h start k p q r s t e f =
+    line-ended b start at 20 (written (headerWidths format) (headerNumbers h)) (written-length (headerWidths format) (headerNumbers h) refl) (omega arith)
+    (five-puts b at (digits 8 (h .session)) (digits 2 (h .card)) (digits 2 (h .cards)) (digits 4 (h .base)) (digits 4 (h .count)) refl refl refl refl p q r s t)
+    f
+    ∙ ap (λ (a : Sums). sets b at (lineOf a (written (headerWidths format) (headerNumbers h)))) e
+
+-- one more entry stored
+pub entry-put :
+    (b : List ℕ) {b₁ : List ℕ} (es : List ℕ) (at n j : ℕ) →
+    j < n →
+    j < length es →
+    b₁ ≡ sets b (at + j * 4) (digits 4 (entryOf 65535 (getD es j 0))) →
+    sets b₁ (at + (j + 1) * 4) (written (replicate (n - (j + 1)) 4) (map (entryOf 65535) (drop (j + 1) es))) ≡ sets b (at + j * 4) (written (replicate (n - j) 4) (map (entryOf 65535) (drop j es)))
+entry-put b {b₁} es at n j h k e =
+    let m : n - j ≡ suc (n - (j + 1)) = omega arith in
+    let q : at + (j + 1) * 4 ≡ at + j * 4 + 4 = omega arith in
+    let i : j + 1 ≡ suc j = omega arith in
+    go (written (replicate (n - (j + 1)) 4) (map (entryOf 65535) (drop (j + 1) es))) q
+    ∙ rw (m, drop-cons es j 0 k, i)
+  where
+    go : (rest : List ℕ) → at + (j + 1) * 4 ≡ at + j * 4 + 4 → sets b₁ (at + (j + 1) * 4) rest ≡ sets b (at + j * 4) (digits 4 (entryOf 65535 (getD es j 0)) ++ rest)
+    go rest q = rw (e, q) (sym (sets-append (digits 4 (entryOf 65535 (getD es j 0))) b (at + j * 4) rest))
+
+-- as many of the numbers as there are widths are written
+written-first : (ks vs : List ℕ) → length ks ≤ length vs → length (written ks vs) ≡ total ks
+written-first [] vs h = refl
+written-first (k ∷ ks) [] h = absurd (omega arith)
+written-first (k ∷ ks) (v ∷ vs) h = length-append (digits k v) (written ks vs) ∙ ap₂ (λ (a b : ℕ). a + b) (digits-length k v) (written-first ks vs (omega arith))
+
+total-replicate : (n k : ℕ) → total (replicate n k) ≡ n * k
+total-replicate zero k = sym (zero-mul k)
+total-replicate (suc n) k = ap (λ (m : ℕ). k + m) (total-replicate n k) ∙ sym (suc-mul′ n k)
+  where
+    suc-mul′ : (n k : ℕ) → suc n * k ≡ k + n * k
+    suc-mul′ n k = suc-mul n k ∙ add-comm (n * k) k
+
+frame-length : (n state : ℕ) (next : Frame) → length (next .entries) ≡ 16 → n ≤ 16 → length (written (frameWidths format n) (frameNumbers format state next)) ≡ 12 + n * 4
+frame-length n state next l h =
+    let r : length {A = ℕ} (replicate n 4) ≤ length (map (entryOf 65535) (next .entries)) = rw (length-replicate, length-map, l) h in
+    written-first (frameWidths format n) (frameNumbers format state next) (omega arith) ∙ rw (total-replicate n 4) (omega arith)
+
+pub frame-put :
+    (b : List ℕ) {b₁ b₂ b₃ b₄ : List ℕ} (at n : ℕ) (start : Sums) (state : ℕ) (next : Frame) →
+    length (next .entries) ≡ 16 →
+    n ≤ 16 →
+    at + n * 4 + 17 ≤ length b →
+    b₁ ≡ sets b at (digits 4 state) →
+    b₂ ≡ sets b₁ (at + 4) (digits 8 (next .change)) →
+    b₃ ≡ sets b₂ (at + 12) (written (replicate n 4) (map (entryOf 65535) (next .entries))) →
+    b₄ ≡ sets b₃ (at + (12 + n * 4)) (digits 4 (checkOf (summed start (take (12 + n * 4) (drop at b₃)))) ++ (10 ∷ [])) →
+    b₄ ≡ sets b at (frameLine format start n state next)
+unfolding frameLine
+frame-put b at n start state next l h k p q r f =
+    line-ended b start at (12 + n * 4) (written (frameWidths format n) (frameNumbers format state next)) (frame-length n state next l h) (omega arith)
+    (next-put b at (at + 12) (digits 4 state ++ digits 8 (next .change)) (written (replicate n 4) (map (entryOf 65535) (next .entries)))
+    (next-put b at (at + 4) (digits 4 state) (digits 8 (next .change)) p refl q) refl r)
+    f
+
+pub entries-begin :
+    (b es : List ℕ) (at n : ℕ) → sets b (at + 0 * 4) (written (replicate (n - 0) 4) (map (entryOf 65535) es)) ≡ sets b at (written (replicate n 4) (map (entryOf 65535) es))
+entries-begin b es at n =
+    let m : n - 0 ≡ n = omega arith in
+    let q : at + 0 ≡ at = omega arith in
+    rw (m, q)
+
+pub entries-done : (b es : List ℕ) (at n j : ℕ) → n ≤ j → sets b (at + j * 4) (written (replicate (n - j) 4) (map (entryOf 65535) (drop j es))) ≡ b
+entries-done b es at n j h = let m : n - j ≡ 0 = omega arith in rw m
+
+pub header-line-length : (h : Header) → length (headerLine format h) ≡ 25
+unfolding headerLine
+header-line-length h = line-length (startOf format h) 20 (written (headerWidths format) (headerNumbers h)) [] (written-all (headerWidths format) (headerNumbers h)) (written-length (headerWidths format) (headerNumbers h) refl)
+
+pub frame-line-length : (start : Sums) (n state : ℕ) (next : Frame) → length (next .entries) ≡ 16 → n ≤ 16 → length (frameLine format start n state next) ≡ 17 + n * 4
+unfolding frameLine
+frame-line-length start n state next l h =
+    line-length start (12 + n * 4) (written (frameWidths format n) (frameNumbers format state next)) [] (written-all (frameWidths format n) (frameNumbers format state next)) (frame-length n state next l h) ∙ omega arith

@@ -1,0 +1,86 @@
+-- `frame::put_entries` writes the entries of a frame. The invariant: writing those left gives the whole. Assumes nothing.
+use Prim.Native.Nat.{ℕ, _+_, _*_, _-_, _≤_, _<_, zero-le}
+use mathlib.Core.Path.{_≡_, refl, sym, _∙_, ap}
+use borrow.Author.Needs.{needs}
+use native.Mathlib.Omega.{arith}
+use mathlib.Core.List.{List, map}
+use lib.ListN.{length, drop, replicate}
+use lib.Seq.{sets}
+use Rattle.digits.specs.Digits.{digits, written}
+use Rattle.frame.specs.Format.{entryOf}
+use Rattle.line_writer.proofs.Puts.{entry-put, entries-begin, entries-done}
+use Rattle.line_writer.proofs.put_entries.Statement.{statement}
+use Rattle.line_writer.proofs.put_entries.Tie as tie
+use Rattle.line_writer.proofs.put_entries.Reads as reads
+use Rattle.line_writer.proofs.put_entries.Lts as lts
+use Rattle.line_writer.proofs.entry_of.Reads as entry-of-reads
+use Rattle.digits.proofs.put_number.Reads as put-number-reads
+
+abbrev Inv-loop : tie.InvT-loop
+Inv-loop b₀ at n entries j₀ b j = (j ≤ n) × (length b ≡ length b₀) × (sets b (at + j * 4) (written (replicate (n - j) 4) (map (entryOf 65535) (drop j entries))) ≡ sets b₀ at (written (replicate n 4) (map (entryOf 65535) entries)))
+
+abbrev μ-loop : tie.MeasureT-loop
+μ-loop b₀ at n entries j₀ b j = n - j
+
+loop-holds : tie.Need-loop-holds Inv-loop μ-loop
+loop-holds c =
+    let a = c .before .args in
+    (zero-le, refl, entries-begin (a .b .now) (a .t4) (a .at) (a .n))
+
+mul-put-number : tie.Need-mul-put-number Inv-loop μ-loop
+mul-put-number c = search needs
+
+add-put-number : tie.Need-add-put-number Inv-loop μ-loop
+add-put-number c = search needs
+
+mul-entry-of : tie.Need-mul-entry-of Inv-loop μ-loop
+mul-entry-of c = search needs
+
+array-read-entry-of : tie.Need-array-read-entry-of Inv-loop μ-loop
+array-read-entry-of c = search needs
+
+entry-of-requires : tie.Need-entry-of-requires Inv-loop μ-loop
+entry-of-requires c κs = search needs
+
+put-number-requires : tie.Need-put-number-requires Inv-loop μ-loop
+put-number-requires c κs = search needs
+
+add-j : tie.Need-add-j Inv-loop μ-loop
+add-j c = search needs
+
+loop-less : tie.Need-loop-less Inv-loop μ-loop
+loop-less c = search needs
+
+loop-again : tie.Need-loop-again Inv-loop μ-loop
+loop-again c =
+    let a = c .before .before .before .before .before .before .before .before .args in
+    let l = c .before .before .before .before .before .before .loop in
+    let s : length (a .t4) ≡ 16 = c .before .before .before .before .before .before .before .before .good .1 .1 .1 .0 .1 .0 .1 in
+    (omega arith, c .before .before .put-number .kept .0 ∙ l .inv .1, entry-put (l .b) (a .t4) (a .at) (a .n) (l .j) (omega arith) (omega arith) (c .before .before .put-number .ensures ∙ ap (λ (v : ℕ). sets (l .b) (a .at + l .j * 4) (digits 4 v)) (c .before .before .before .entry-of .ensures)) ∙ l .inv .2)
+
+same-length : tie.Need-same-length Inv-loop μ-loop
+same-length c = c .before .loop .inv .1
+
+returns : tie.Need-returns Inv-loop μ-loop
+returns c =
+    let a = c .before .before .before .args in
+    sym (entries-done (c .before .loop .b) (a .t4) (a .at) (a .n) (c .before .loop .j) (c .loop-test .left)) ∙ c .before .loop .inv .2
+
+pub put-entries-spec : {M : Type 1} → statement M
+put-entries-spec =
+    tie.close
+    (tie.spec
+    Inv-loop
+    μ-loop
+    loop-holds
+    mul-put-number
+    add-put-number
+    mul-entry-of
+    array-read-entry-of
+    entry-of-requires
+    put-number-requires
+    add-j
+    loop-less
+    loop-again
+    same-length
+    returns)

@@ -1,0 +1,61 @@
+-- `frame::put_frame` writes a frame line. Assumes nothing.
+use mathlib.Core.Path.{_≡_, refl, sym, _∙_, ap}
+use borrow.Author.Needs.{needs}
+use native.Mathlib.Omega.{arith}
+use lib.ListN.{length}
+use Rattle.line_writer.proofs.Puts.{frame-put}
+use Rattle.line_writer.proofs.put_frame.Statement.{statement}
+use Rattle.line_writer.proofs.put_frame.Tie as tie
+use Rattle.line_writer.proofs.put_frame.Reads as reads
+use Rattle.line_writer.proofs.put_frame.Lts as lts
+use Rattle.line_writer.proofs.put_entries.Reads as put-entries-reads
+use Rattle.digits.proofs.end_line.Reads as end-line-reads
+use Rattle.digits.proofs.put_number.Reads as put-number-reads
+
+put-number-requires : tie.Need-put-number-requires
+put-number-requires c κs = search needs
+
+add-put-number : tie.Need-add-put-number
+add-put-number c = search needs
+
+put-number-requires-2 : tie.Need-put-number-requires-2
+put-number-requires-2 c κs = search needs
+
+add-put-entries : tie.Need-add-put-entries
+add-put-entries c = search needs
+
+put-entries-requires : tie.Need-put-entries-requires
+put-entries-requires c κs = search needs
+
+mul-end-line : tie.Need-mul-end-line
+mul-end-line c = search needs
+
+add-end-line : tie.Need-add-end-line
+add-end-line c = search needs
+
+end-line-requires : tie.Need-end-line-requires
+end-line-requires c κs = search needs
+
+same-length : tie.Need-same-length
+same-length c = search needs
+
+returns : tie.Need-returns
+returns c =
+    let a = c .before .before .before .before .before .before .before .before .before .before .before .before .before .before .before .before .before .before .args in
+    let s : length (a .next .entries) ≡ 16 = search needs in
+    frame-put (a .b .now) (a .at) (a .n) (a .start) (a .state) (a .next) s (c .before .before .before .before .before .before .before .before .before .before .before .before .before .before .before .before .before .before .pre .0) (c .before .before .before .before .before .before .before .before .before .before .before .before .before .before .before .before .before .before .pre .1) (c .before .before .before .before .before .before .before .before .before .before .before .before .before .before .before .put-number .ensures) (c .before .before .before .before .before .before .before .before .before .before .before .put-number2 .ensures) (c .before .before .before .before .before .before .put-entries .ensures) (c .before .before .end-line .ensures)
+
+pub put-frame-spec : {M : Type 1} → statement M
+put-frame-spec =
+    tie.close
+    (tie.spec
+    put-number-requires
+    add-put-number
+    put-number-requires-2
+    add-put-entries
+    put-entries-requires
+    mul-end-line
+    add-end-line
+    end-line-requires
+    same-length
+    returns)
