@@ -25,10 +25,10 @@ use Rattle.frame.specs.declared.Frame.{Frame}
 use Rattle.frame.specs.Format.{Format, format, entryOf}
 use Rattle.frame.specs.Lines.{startOf, headerLine, headerAllowed, frameWidths, frameNumbers, frameLine, frameAllowed, entriesAllowed, entryAllowed, noFrame, padded}
 use Rattle.frame.proofs.Judged.{padded-at}
-use Rattle.frame.proofs.Puts.{header-line-length}
+use Rattle.line_writer.proofs.Puts.{header-line-length}
 use Rattle.sheet.specs.Pages.{Page, framesBytes, pageBytes, pagesBytes}
 use Rattle.sheet.specs.Allowed.{framesAllowed, Formed, Allowed, AllAllowed}
-use Rattle.frame.proofs.Round.{format-sound}
+use Rattle.line_round.proofs.Round.{format-sound}
 use Rattle.sheet.specs.declared.Readout.{Readout}
 use Rattle.sheet.specs.Pages.{readSheets}
 use Rattle.sheet.specs.Walk.{placeOf, noReadout, layPages, readingOf}

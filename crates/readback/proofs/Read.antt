@@ -19,7 +19,7 @@ use Rattle.frame.specs.declared.Frame.{Frame}
 use Rattle.frame.specs.Format.{Format, format}
 use Rattle.frame.specs.Lines.{startOf, headerDigits, headerIn, headerAllowed, headerVerdict, frameDigits, stateIn, entriesIn, frameIn, frameAllowed, entriesAllowed, frameVerdict, noFrame}
 use Rattle.frame.proofs.Passed.{header-passed, frame-passed, header-limits}
-use Rattle.frame.proofs.Round.{header-room, frame-room}
+use Rattle.line_round.proofs.Round.{header-room, frame-room}
 use Rattle.frame.proofs.Judged.{entries-count}
 use Rattle.sheet.specs.Pages.{Page, Frames, withFrame, readFrames, framesOf, Sheets, withSheet, readSheet, moreSheets, readSheets}
 use Rattle.sheet.specs.Allowed.{framesAllowed, Formed, Allowed, AllAllowed}

@@ -11,7 +11,7 @@ use Rattle.frame.specs.declared.Frame.{Frame}
 use Rattle.frame.specs.Format.{Format}
 use Rattle.frame.specs.Lines.{startOf, headerDigits, headerIn, headerVerdict, frameDigits, frameIn, frameVerdict, noFrame}
 use Rattle.frame.proofs.Passed.{header-passed}
-use Rattle.frame.proofs.Round.{entries-all, change-fits, session-fits, state-is}
+use Rattle.line_round.proofs.Round.{entries-all, change-fits, session-fits, state-is}
 use Rattle.sheet.specs.Pages.{Page, readFrames, framesOf, ended, readSheets}
 use Rattle.sheet.specs.Allowed.{framesAllowed, Formed, Allowed}
 use Rattle.sheet.proofs.Round.{with-accepted, with-both}

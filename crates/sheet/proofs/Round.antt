@@ -25,7 +25,7 @@ use Rattle.frame.specs.declared.Frame.{Frame}
 use Rattle.frame.specs.Format.{Format}
 use Rattle.frame.specs.Lines.{startOf, headerDigits, headerLine, headerIn, headerAllowed, headerVerdict, frameDigits, frameLine, frameIn, stateIn, judged, frameAllowed, frameVerdict, noFrame}
 use Rattle.frame.proofs.Passed.{header-passed, header-within, frame-passed, header-limits}
-use Rattle.frame.proofs.Round.{Sound, header-back, header-rest, header-accepted, header-again, frame-back, frame-rest, frame-accepted, frame-again, Steady, header-altered, frame-altered, header-untouched, frame-untouched, header-room, frame-room}
+use Rattle.line_round.proofs.Round.{Sound, header-back, header-rest, header-accepted, header-again, frame-back, frame-rest, frame-accepted, frame-again, Steady, header-altered, frame-altered, header-untouched, frame-untouched, header-room, frame-room}
 use Rattle.sheet.specs.Pages.{Page, framesBytes, pageBytes, pagesBytes, Frames, withFrame, readFrames, framesOf, Sheets, withSheet, readSheet, ended, moreSheets, readSheets}
 use Rattle.sheet.proofs.Walk.{accepts-or}
 use Rattle.sheet.specs.Allowed.{framesAllowed, Formed, Allowed, AllAllowed, lastOf}

@@ -12,7 +12,7 @@ use Rattle.frame.specs.declared.Frame.{Frame}
 use Rattle.frame.specs.Format.{Format}
 use Rattle.frame.specs.Lines.{startOf, noFrame}
 use Rattle.frame.proofs.Passed.{header-limits}
-use Rattle.frame.proofs.Round.{Sound, header-back, header-rest, header-accepted}
+use Rattle.line_round.proofs.Round.{Sound, header-back, header-rest, header-accepted}
 use Rattle.sheet.specs.Pages.{Page, framesBytes, pageBytes, pagesBytes, framesOf, Sheets, readSheet, moreSheets, readSheets}
 use Rattle.sheet.specs.Allowed.{Allowed, AllAllowed, Short, shortBytes}
 use Rattle.sheet.proofs.Round.{one-frame-short, sheet-back}

@@ -98,7 +98,7 @@ pub fn read_sheets(s: &[u8], card: u32, all: bool) -> Reading
         if left == 0 {
             break 'sheets end_at(s, at);
         }
-        let line = frame::header_at(s, at, due, first);
+        let line = header_reader::header_at(s, at, due, first);
         let HeaderLine::Read(h) = line else {
             break 'sheets frame::header_told(line);
         };
@@ -120,7 +120,7 @@ pub fn read_sheets(s: &[u8], card: u32, all: bool) -> Reading
         while k < count {
             let state = base + 1 + k;
             let start = frame::start_of(due, session);
-            let read = frame::frame_at(s, at, start, due, n, state, last);
+            let read = frame_reader::frame_at(s, at, start, due, n, state, last);
             let told = read.line;
             let FrameLine::Read(change) = told else {
                 break 'sheets frame::frame_told(told);

@@ -12,7 +12,7 @@ use Rattle.refusal.specs.declared.Refusal.the-variants.{TooLong}
 use Rattle.frame.specs.declared.Verdict.{Verdict}
 use Rattle.frame.specs.declared.Verdict.the-variants.{Accepted, Refused}
 use Rattle.frame.specs.Format.{format}
-use Rattle.frame.proofs.Round.{format-sound, format-steady}
+use Rattle.line_round.proofs.Round.{format-sound, format-steady}
 use Rattle.sheet.specs.declared.Readout.{Readout}
 use Rattle.sheet.specs.declared.Reading.{Reading}
 use Rattle.sheet.specs.Pages.{pagesBytes, readSheets}

@@ -18,7 +18,7 @@ use Rattle.frame.specs.declared.Frame.{Frame}
 use Rattle.frame.specs.Format.{format}
 use Rattle.frame.specs.Lines.{startOf, headerLine, headerAllowed, noFrame}
 use Rattle.frame.proofs.Passed.{Header-in-limits, header-limits}
-use Rattle.frame.proofs.Round.{format-sound}
+use Rattle.line_round.proofs.Round.{format-sound}
 use Rattle.sheet.specs.declared.Sheet.{Sheet}
 use Rattle.sheet.specs.Pages.{Page, framesBytes, pageBytes, pagesBytes, readSheets}
 use Rattle.sheet.specs.Allowed.{framesAllowed, Formed, Allowed}

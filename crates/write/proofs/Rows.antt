@@ -15,7 +15,7 @@ use Rattle.digits.specs.declared.Sums.{Sums}
 use Rattle.frame.specs.declared.Frame.{Frame}
 use Rattle.frame.specs.Format.{format}
 use Rattle.frame.specs.Lines.{startOf, frameLine, headerLine, headerAllowed, frameAllowed, noFrame}
-use Rattle.frame.proofs.Puts.{frame-line-length, header-line-length}
+use Rattle.line_writer.proofs.Puts.{frame-line-length, header-line-length}
 use Rattle.sheet.specs.Pages.{framesBytes, pageBytes}
 use Rattle.sheet.specs.Allowed.{framesAllowed}
 use Rattle.sheet.specs.declared.Sheet.{Sheet}

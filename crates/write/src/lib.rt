@@ -57,7 +57,7 @@ fn frames_pass(s: Sheet) -> bool
             change: s.changes[i],
             entries,
         };
-        if !frame::frame_allowed(card, n, state, last, state, next) {
+        if !frame_reader::frame_allowed(card, n, state, last, state, next) {
             return false;
         }
         last = next;
@@ -83,7 +83,7 @@ fn put_sheet(s: Sheet, b: &mut [u8])
         base,
         count,
     };
-    frame::put_header(b, 0, h);
+    line_writer::put_header(b, 0, h);
     let mut at: usize = 25;
     let mut k: u32 = 0;
     while k < count {
@@ -94,7 +94,7 @@ fn put_sheet(s: Sheet, b: &mut [u8])
             entries,
         };
         let start = frame::start_of(card, session);
-        frame::put_frame(b, at, start, n, base + 1 + k, next);
+        line_writer::put_frame(b, at, start, n, base + 1 + k, next);
         at += 17 + n * 4;
         k += 1;
     }
@@ -127,7 +127,7 @@ pub fn write_sheet(s: Sheet, b: &mut [u8]) -> Written
         base: s.base,
         count: s.count,
     };
-    if !frame::header_allowed(h, card, 0) {
+    if !header_reader::header_allowed(h, card, 0) {
         return Written::Refused(Refusal::BadHeader);
     }
     if !frames_pass(s) {

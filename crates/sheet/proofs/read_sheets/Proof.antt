@@ -22,9 +22,9 @@ use Rattle.sheet.proofs.read_sheets.Statement.{statement}
 use Rattle.sheet.proofs.read_sheets.Tie as tie
 use Rattle.sheet.proofs.read_sheets.Reads as reads
 use Rattle.sheet.proofs.read_sheets.Lts as lts
-use Rattle.frame.proofs.frame_at.Reads as frame-at-reads
+use Rattle.frame_reader.proofs.frame_at.Reads as frame-at-reads
 use Rattle.frame.proofs.frame_told.Reads as frame-told-reads
-use Rattle.frame.proofs.header_at.Reads as header-at-reads
+use Rattle.header_reader.proofs.header_at.Reads as header-at-reads
 use Rattle.frame.proofs.header_told.Reads as header-told-reads
 use Rattle.frame.proofs.start_of.Reads as start-of-reads
 use Rattle.sheet.proofs.end_at.Reads as end-at-reads

@@ -18,7 +18,7 @@ use Rattle.write.proofs.frames_pass.Statement.{statement}
 use Rattle.write.proofs.frames_pass.Tie as tie
 use Rattle.write.proofs.frames_pass.Reads as reads
 use Rattle.write.proofs.frames_pass.Lts as lts
-use Rattle.frame.proofs.frame_allowed.Reads as frame-allowed-reads
+use Rattle.frame_reader.proofs.frame_allowed.Reads as frame-allowed-reads
 use Rattle.write.proofs.row_at.Reads as row-at-reads
 
 abbrev Inv-loop : tie.InvT-loop

@@ -14,8 +14,8 @@ use Rattle.write.proofs.put_sheet.Statement.{statement}
 use Rattle.write.proofs.put_sheet.Tie as tie
 use Rattle.write.proofs.put_sheet.Reads as reads
 use Rattle.write.proofs.put_sheet.Lts as lts
-use Rattle.frame.proofs.put_frame.Reads as put-frame-reads
-use Rattle.frame.proofs.put_header.Reads as put-header-reads
+use Rattle.line_writer.proofs.put_frame.Reads as put-frame-reads
+use Rattle.line_writer.proofs.put_header.Reads as put-header-reads
 use Rattle.frame.proofs.start_of.Reads as start-of-reads
 use Rattle.write.proofs.row_at.Reads as row-at-reads
 

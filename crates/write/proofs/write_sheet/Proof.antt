@@ -8,7 +8,7 @@ use Rattle.write.proofs.write_sheet.Statement.{statement}
 use Rattle.write.proofs.write_sheet.Tie as tie
 use Rattle.write.proofs.write_sheet.Reads as reads
 use Rattle.write.proofs.write_sheet.Lts as lts
-use Rattle.frame.proofs.header_allowed.Reads as header-allowed-reads
+use Rattle.header_reader.proofs.header_allowed.Reads as header-allowed-reads
 use Rattle.write.proofs.frames_pass.Reads as frames-pass-reads
 use Rattle.write.proofs.write_whole.Reads as write-whole-reads
 
