@@ -1,4 +1,2 @@
-pub mod Turns
-pub mod Single
-pub mod Agreed
+pub mod Jointly
 pub mod Tidy

@@ -25,7 +25,7 @@ use Rattle.sheet.specs.declared.Reading.{Reading}
 use Rattle.sheet.specs.Pages.{Page, readFrames, framesOf, Sheets, readSheet, moreSheets, readSheets}
 use Rattle.sheet.specs.Walk.{placeOf, noReadout, layHeader, layFrame, layFrames, layPage, layPages, laid, readingOf}
 use Rattle.sheet.proofs.Round.{with-accepted, with-both}
-use Rattle.readout.specs.Heads.{endsOf, Orderly}
+use Rattle.two_vectors.specs.Heads.{endsOf, Orderly}
 
 -- what was laid so far: state numbers within the limits, change numbers that rise
 pub record Tidy (r : Readout) : Type 0 where

@@ -1,3 +1,1 @@
 pub mod Joint
-pub mod Single
-pub mod Heads

@@ -2,17 +2,17 @@
 use mathlib.Core.Path.{refl, sym, _∙_}
 use native.Mathlib.Omega.{arith}
 use borrow.Author.Tests.{eq-eqb, ne-eqb}
-use Rattle.readout.specs.Heads.{listsRead}
-use Rattle.readout.proofs.Turns.{joint-tests, two-lists}
+use Rattle.two_vectors.specs.Heads.{listsRead}
+use Rattle.readout.proofs.Jointly.{joint-tests, two-lists}
 use borrow.Author.Needs.{needs}
 use Rattle.readout.proofs.joint_verdict.Statement.{statement}
 use Rattle.readout.proofs.joint_verdict.Tie as tie
 use Rattle.readout.proofs.joint_verdict.Reads as reads
 use Rattle.readout.proofs.joint_verdict.Lts as lts
 use Rattle.readout.proofs.before.Reads as before-reads
-use Rattle.readout.proofs.lowest.Reads as lowest-reads
-use Rattle.readout.proofs.sessions_apart.Reads as sessions-apart-reads
-use Rattle.readout.proofs.two_vectors.Reads as two-vectors-reads
+use Rattle.sessions.proofs.lowest.Reads as lowest-reads
+use Rattle.sessions.proofs.sessions_apart.Reads as sessions-apart-reads
+use Rattle.two_vectors.proofs.two_vectors.Reads as two-vectors-reads
 
 before-requires : tie.Need-before-requires
 before-requires c κs = search needs

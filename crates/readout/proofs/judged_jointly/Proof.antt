@@ -3,16 +3,16 @@ use Prim.Native.Nat.{ℕ}
 use mathlib.Core.Path.{sym, _∙_, ap, subst}
 use native.Mathlib.Omega.{arith}
 use Rattle.frame.specs.declared.Verdict.{Verdict}
-use Rattle.readout.specs.Heads.{Orderly}
+use Rattle.two_vectors.specs.Heads.{Orderly}
 use Rattle.readout.specs.Joint.{jointVerdict, joined}
-use Rattle.readout.proofs.Turns.{joint-lists}
+use Rattle.readout.proofs.Jointly.{joint-lists}
 use borrow.Author.Needs.{needs}
 use Rattle.readout.proofs.judged_jointly.Statement.{statement}
 use Rattle.readout.proofs.judged_jointly.Tie as tie
 use Rattle.readout.proofs.judged_jointly.Reads as reads
 use Rattle.readout.proofs.judged_jointly.Lts as lts
 use Rattle.readout.proofs.joint_verdict.Reads as joint-verdict-reads
-use Rattle.readout.proofs.least.Reads as least-reads
+use Rattle.sessions.proofs.least.Reads as least-reads
 use Rattle.readout.proofs.no_readout.Reads as no-readout-reads
 
 least-requires : tie.Need-least-requires

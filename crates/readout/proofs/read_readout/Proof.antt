@@ -3,7 +3,7 @@ use Rattle.frame.specs.declared.Verdict.{Verdict}
 use mathlib.Core.Path.{sym, _∙_, ap}
 use borrow.Author.Needs.{needs}
 use Rattle.readout.specs.Joint.{joined, lined}
-use Rattle.readout.proofs.Turns.{long-read, lines-read}
+use Rattle.readout.proofs.Jointly.{long-read, lines-read}
 use Rattle.readout.proofs.Tidy.{reading-orderly}
 use Rattle.readout.proofs.read_readout.Statement.{statement}
 use Rattle.readout.proofs.read_readout.Tie as tie

@@ -1,0 +1,55 @@
+// The sessions of a read-out's sheets: the lowest, and refusal 11.
+ghost use mathlib.Core.Path.{_≡_};
+ghost use Prim.Native.Nat.{_+_, _≤_, _<_, min};
+ghost use mathlib.Core.Bool.{_&&_, _||_};
+ghost use lib.ListN.{getD};
+ghost use lib.Dec.{ltb};
+ghost use Rattle.sessions.specs.Sessions.{lowestTo, apart};
+
+pub fn least(a: u32, b: u32) -> u32
+    ensures { λ r. ⌜ r ≡ min a b ⌝ }
+{
+    if a <= b { a } else { b }
+}
+
+// The lowest of the sessions from the first to number `last`.
+pub fn lowest(sessions: [u32; 16], last: u32) -> u32
+    requires { ⌜ last < 16 ⌝ }
+    ensures { λ r. ⌜ r ≡ lowestTo (λ i. getD sessions i 0) last ⌝ }
+{
+    let mut low = sessions[0];
+    let mut i: u32 = 0;
+    while i < last {
+        i += 1;
+        let s = sessions[i as usize];
+        low = least(low, s);
+    }
+    low
+}
+
+fn ahead(session: u32, count: u32, low: u32) -> bool
+    ensures { λ r. ⌜ r ≡ (ltb (low + 1) session || (ltb low session && ltb 0 count)) ⌝ }
+{
+    if session <= low {
+        return false;
+    }
+    if session - low != 1 {
+        return true;
+    }
+    0 < count
+}
+
+pub fn sessions_apart(sessions: [u32; 16], counts: [u32; 16], low: u32, n: u32) -> bool
+    requires { ⌜ n ≤ 16 ⌝ }
+    ensures { λ r. ⌜ r ≡ apart sessions counts low n ⌝ }
+{
+    let mut j: u32 = 0;
+    while j < n {
+        let i = j as usize;
+        if ahead(sessions[i], counts[i], low) {
+            return true;
+        }
+        j += 1;
+    }
+    false
+}
