@@ -18,7 +18,8 @@ use Rattle.sheet.specs.declared.Readout.{Readout}
 use Rattle.sheet.specs.declared.Reading.{Reading}
 use Rattle.sheet.specs.Pages.{Page, pagesBytes}
 use Rattle.sheet.specs.Walk.{noReadout, layPages}
-use Rattle.readout.specs.Joint.{lowestOf, readoutOf}
+use Rattle.sessions.specs.Sessions.{lowestOf}
+use Rattle.readout.specs.Joint.{readoutOf}
 use Rattle.laws.specs.Below.{tabulate}
 use Rattle.history.specs.Change.{CardSet, Change, History, Numbers, writers, made, UpTo, historyOf}
 use Rattle.history.specs.Vector.{Vector, vector, entryOf, LastPreceding}

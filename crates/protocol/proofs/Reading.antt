@@ -33,7 +33,10 @@ use Rattle.sheet.specs.declared.Readout.{Readout}
 use Rattle.sheet.specs.Pages.{readSheets}
 use Rattle.sheet.specs.Walk.{placeOf, noReadout, layPages, readingOf}
 use Rattle.sheet.proofs.Round.{written-reads-back}
-use Rattle.readout.specs.Joint.{lowestTo, lowestOf, apart, frameAt, differ, twoVectors, jointVerdict, joined, readoutOf}
+use Rattle.sessions.specs.Sessions.{lowestTo, lowestOf, apart}
+use Rattle.sheet.specs.Walk.{frameAt}
+use Rattle.two_vectors.specs.Vectors.{differ, twoVectors}
+use Rattle.readout.specs.Joint.{jointVerdict, joined, readoutOf}
 use Rattle.history.specs.Change.{Change, History, Numbers, historyOf}
 use Rattle.history.specs.Vector.{vector}
 use Rattle.history.proofs.Writers.{Maker, maker}

@@ -30,7 +30,7 @@ use Rattle.protocol.specs.Sheets.{cardCount, sheetSession, sheetFrame, s
 use Rattle.sheet.proofs.Lay.{Holds}
 use Rattle.sheet.specs.declared.Readout.{Readout}
 use Rattle.sheet.specs.Walk.{placeOf}
-use Rattle.readout.specs.Joint.{lowestOf}
+use Rattle.sessions.specs.Sessions.{lowestOf}
 use Rattle.frame.specs.Lines.{padded}
 use Rattle.frame.proofs.Judged.{padded-at}
 use Rattle.protocol.proofs.Taking.{Framed}

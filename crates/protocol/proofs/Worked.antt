@@ -11,7 +11,9 @@ use Rattle.frame.specs.Format.{dependency, entryOf}
 use Rattle.frame.specs.Lines.{headerLine, headerIn, headerAllowed, headerVerdict, frameLine, stateIn, entriesIn, frameIn, entriesAllowed, frameAllowed, frameVerdict, padded}
 use Rattle.sheet.specs.Pages.{readSheets}
 use Rattle.sheet.specs.Walk.{readingOf}
-use Rattle.readout.specs.Joint.{apart, twoVectors, jointVerdict, readoutOf}
+use Rattle.sessions.specs.Sessions.{apart}
+use Rattle.two_vectors.specs.Vectors.{twoVectors}
+use Rattle.readout.specs.Joint.{jointVerdict, readoutOf}
 use Rattle.protocol.specs.Calls.{freshModel}
 use Rattle.protocol.specs.Sheets.{joinedSheets, restartReply, restartedFrom}
 use Rattle.protocol.specs.Demands.{limits}

@@ -13,7 +13,8 @@ use Rattle.frame.specs.declared.Verdict.{Verdict}
 use Rattle.sheet.specs.declared.Readout.{Readout}
 use Rattle.sheet.specs.Pages.{Page, pageBytes, pagesBytes}
 use Rattle.sheet.specs.Walk.{placeOf}
-use Rattle.readout.specs.Joint.{lowestOf, readoutOf}
+use Rattle.sessions.specs.Sessions.{lowestOf}
+use Rattle.readout.specs.Joint.{readoutOf}
 use Rattle.history.specs.Change.{Numbers}
 use Rattle.history.specs.Vector.{Vector}
 use Rattle.history.specs.Line.{lineFrom}

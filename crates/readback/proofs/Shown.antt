@@ -25,7 +25,9 @@ use Rattle.sheet.specs.declared.Reading.{Reading}
 use Rattle.sheet.specs.Pages.{Page, pagesBytes, readSheets}
 use Rattle.sheet.specs.Walk.{placeOf, noReadout, layPages, readingOf}
 use Rattle.sheet.proofs.Round.{read-writes-again}
-use Rattle.readout.specs.Joint.{lowestTo, lowestOf, apart, twoVectors, jointVerdict, cardsOf, joined, lined, readoutOf}
+use Rattle.sessions.specs.Sessions.{lowestTo, lowestOf, apart}
+use Rattle.two_vectors.specs.Vectors.{twoVectors}
+use Rattle.readout.specs.Joint.{jointVerdict, cardsOf, joined, lined, readoutOf}
 use Rattle.protocol.specs.Sheets.{storedIn, isIn, makerIn, vectorIn, restartReply}
 use Rattle.sheet.proofs.Lay.{Holds, laid-holds}
 use Rattle.verdicts.specs.Shape.{limits16}

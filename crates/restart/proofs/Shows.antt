@@ -14,7 +14,8 @@ use Rattle.laws.specs.Below.{tabulate}
 use Rattle.laws.proofs.Logic.{test, clash, fails, and-left, and-right, and-intro, cond-true, cond-false}
 use Rattle.laws.proofs.Fill.{length-tabulate, getD-tabulate, tabulate-same}
 use Rattle.sheet.specs.declared.Readout.{Readout}
-use Rattle.readout.specs.Joint.{lowestTo, lowestOf, readoutOf}
+use Rattle.sessions.specs.Sessions.{lowestTo, lowestOf}
+use Rattle.readout.specs.Joint.{readoutOf}
 use Rattle.history.specs.Change.{Numbers}
 use Rattle.history.specs.Vector.{noEntries}
 use Rattle.history.specs.Vector as history

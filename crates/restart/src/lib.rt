@@ -111,7 +111,7 @@ fn restarted(r: Readout) -> Cabinet
     let counts = r.counts;
     let sessions = r.sessions;
     let stored = stored_numbers(bases, counts);
-    let low = readout::lowest(sessions, r.cards - 1);
+    let low = sessions::lowest(sessions, r.cards - 1);
     let rolled = rolled_cards(sessions, low);
     let head = Head {
         session: low,

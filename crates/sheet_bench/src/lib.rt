@@ -28,7 +28,7 @@ fn sum_at(s: Sheet, place: usize) -> u32 {
 // That sum, or the number of the refusal.
 #[no_mangle]
 pub extern "C" fn yerwaqis_read_sheet(s: &[u8], card: u32, place: usize) -> u32 {
-    let read = readout::read_sheet(s, card);
+    let read = sheet_reader::read_sheet(s, card);
     let v = read.verdict;
     let sheet = read.sheet;
     match v {

@@ -177,7 +177,7 @@ fn say_none(s: Sheet) {
 }
 
 fn read_sheet(s: &[u8], card: u32) {
-    let read = readout::read_sheet(s, card);
+    let read = sheet_reader::read_sheet(s, card);
     let v = read.verdict;
     let sheet = read.sheet;
     match v {

@@ -22,7 +22,7 @@ use Rattle.sheet.specs.Flat.{noSheet}
 use Rattle.sheet.proofs.Round.{altered-refused}
 use Rattle.sheet.proofs.Short.{first-short, later-short}
 use Rattle.readout.specs.Joint.{lined, readoutOf}
-use Rattle.readout.specs.Single.{sheetReadOf}
+use Rattle.sheet_reader.specs.Single.{sheetReadOf}
 use Rattle.sheet_round.specs.Claims.{AlteredSheetRefused, AlteredReadoutRefused, ShortSheetRefused, ShortReadoutRefused, ShortFirstRefused}
 use Rattle.sheet_round.proofs.Sheets.{answer-accepted}
 

@@ -24,7 +24,7 @@ use Rattle.sheet.specs.declared.Sheet.{Sheet}
 use Rattle.sheet.specs.Pages.{framesBytes}
 use Rattle.sheet.specs.Allowed.{framesAllowed, Formed}
 use Rattle.sheet.specs.Flat.{rowOf, rowsOf, changesOf, entriesOf, placed}
-use Rattle.readout.proofs.Single.{getD-changes}
+use Rattle.sheet_reader.proofs.Single.{getD-changes}
 use Rattle.sheet.proofs.Lay.{sets-outside, sets-inside, zeros, length-padded}
 
 -- the first n entries of a frame

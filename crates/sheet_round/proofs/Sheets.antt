@@ -28,9 +28,9 @@ use Rattle.sheet.proofs.Read.{sheet-read}
 use Rattle.write.specs.declared.Written.the-variants.{Length, Refused as written-refused}
 use Rattle.write.specs.Write.{sheetVerdict, Wrote, wroteBytes, wrote}
 use Rattle.write.proofs.Rows.{sheet-length, lines-bound}
-use Rattle.readout.specs.declared.SheetRead.{SheetRead}
-use Rattle.readout.proofs.Single.{getD-changes}
-use Rattle.readout.specs.Single.{firstOf, answered, sheetReadOf}
+use Rattle.sheet_reader.specs.declared.SheetRead.{SheetRead}
+use Rattle.sheet_reader.proofs.Single.{getD-changes}
+use Rattle.sheet_reader.specs.Single.{firstOf, answered, sheetReadOf}
 use Rattle.sheet_round.specs.Claims.{Held, cleaned, WrittenReadsBack, SameReadsBack, ReadWritesAgain, ReadIsClean}
 use Rattle.sheet_round.proofs.Rows.{cut, inRow, bytes-cut, allowed-cut, cut-back, placed-at, placed-length, changes-length, entries-length, rows-back, rows-count, rows-formed, entry-kept, change-kept}
 

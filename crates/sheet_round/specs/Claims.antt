@@ -20,7 +20,7 @@ use Rattle.sheet.specs.Flat.{noSheet}
 use Rattle.write.specs.declared.Written.the-variants.{Length}
 use Rattle.write.specs.Write.{wrote}
 use Rattle.readout.specs.Joint.{readoutOf}
-use Rattle.readout.specs.Single.{sheetReadOf}
+use Rattle.sheet_reader.specs.Single.{sheetReadOf}
 
 -- a sheet as the code holds one: arrays of 48 and of 768, numbers of 32 bits
 pub record Held (s : Sheet) : Type 0 where
