@@ -15,7 +15,7 @@ use Rattle.laws.specs.Below.{selected}
 use Rattle.laws.proofs.Below.{selected-first}
 use Rattle.laws.proofs.Fill.{length-tabulate}
 use Rattle.laws.proofs.Seq.{sets-part}
-use Rattle.protocol.specs.Plan.{CardRow, fixed}
+use Rattle.protocol.specs.Plan.{CardRow, fixed, written}
 use Rattle.verdicts.specs.declared.Head.{Head}
 use Rattle.verdicts.specs.Shape.{at, presentOf}
 use Rattle.verdicts.proofs.Limits.{width16}
@@ -24,7 +24,7 @@ use Rattle.decimal.specs.declared.Writing.{Writing}
 use Rattle.decimal.specs.Digits.{decimal}
 use Rattle.decimal.specs.Answers.{Wrote, fits}
 use Rattle.decimal.proofs.Digits.{decimal-short}
-use Rattle.answers.specs.Texts.{spaced, lineOf, fixedWord, lostWord, rowsText, rowCount, fixedText, answerText}
+use Rattle.answers.specs.Texts.{spaced, lineOf, fixedWord, lostWord, sheetWord, rowsText, rowCount, fixedText, answerText}
 use Rattle.answers.specs.Show.{sessionWord, cardsWord, phaseName, headText, joined}
 
 -- ---- a number's digits
@@ -121,14 +121,14 @@ rows-length n stored line =
     row c = record { card = c; stored = at stored c; line = at line c }
 
 -- as many places of a list as there are, and of these as many as are asked for
-taken-twice : (list : List ℕ) (k places some count : ℕ) → length list ≡ 776 → some ≡ min k places → count ≡ min some 776 → take (count - 0) list ≡ take k (take places list)
-taken-twice list k places some count size e q = within ∙ inner
+taken-twice : (list : List ℕ) (all k places some count : ℕ) → length list ≡ all → some ≡ min k places → count ≡ min some all → take (count - 0) list ≡ take k (take places list)
+taken-twice list all k places some count size e q = within ∙ inner
   where
     within : take (count - 0) list ≡ take some list
     within =
-        by-cases (decLe some 776)
-        (λ (h : some ≤ 776). let z : count - 0 ≡ some = omega arith in ap (λ (m : ℕ). take m list) z)
-        (λ (h : some ≤ 776 → ⊥).
+        by-cases (decLe some all)
+        (λ (h : some ≤ all). let z : count - 0 ≡ some = omega arith in ap (λ (m : ℕ). take m list) z)
+        (λ (h : some ≤ all → ⊥).
         let a : length list ≤ count - 0 = omega arith in
         let d : length list ≤ some = omega arith in
         take-all (count - 0) list a ∙ sym (take-all some list d))
@@ -147,7 +147,18 @@ pub fixed-as : (n : ℕ) (stored line list : List ℕ) (k places some count : �
     → fixedText n stored line (take (count - 0) (drop 0 list)) count ≡ answerText (fixed (rowsOf n stored line) (take k (take places list)))
 fixed-as n stored line list k places some count size e q =
     ap₂ (λ (a b : ℕ). lineOf fixedWord (a ∷ b ∷ []) ++ (rowsText (rowsOf n stored line) ++ lineOf lostWord (take (count - 0) list))) (sym (rows-length n stored line)) long
-    ∙ ap (λ (l : List ℕ). lineOf fixedWord (length (rowsOf n stored line) ∷ length (take k (take places list)) ∷ []) ++ (rowsText (rowsOf n stored line) ++ lineOf lostWord l)) (taken-twice list k places some count size e q)
+    ∙ ap (λ (l : List ℕ). lineOf fixedWord (length (rowsOf n stored line) ∷ length (take k (take places list)) ∷ []) ++ (rowsText (rowsOf n stored line) ++ lineOf lostWord l)) (taken-twice list 776 k places some count size e q)
+  where
+    long : count ≡ length (take k (take places list))
+    long = omega (arith, length-take k (take places list), length-take places list)
+
+-- ---- the answer of sheet writing
+
+-- the places that hold the sheet
+pub sheet-as : (list : List ℕ) (k places some count : ℕ) → length list ≡ 65536 → some ≡ min k places → count ≡ min some 65536
+    → lineOf sheetWord (count ∷ []) ++ take (count - 0) (drop 0 list) ≡ answerText (written (take k (take places list)))
+sheet-as list k places some count size e q =
+    ap₂ (λ (n : ℕ) (l : List ℕ). lineOf sheetWord (n ∷ []) ++ l) long (taken-twice list 65536 k places some count size e q)
   where
     long : count ≡ length (take k (take places list))
     long = omega (arith, length-take k (take places list), length-take places list)

@@ -1,7 +1,7 @@
 // How the answers to a list of calls are written: lines of text into a lent buffer, cut off where the buffer ends.
 ghost use Prim.Native.Nat.{_-_, _≤_, min};
 ghost use mathlib.Core.Bool.{cond};
-ghost use mathlib.Core.List.{[]};
+ghost use mathlib.Core.List.{[], _∷_, _++_};
 ghost use lib.Dec.{ltb};
 ghost use mathlib.Core.Path.{_≡_};
 ghost use lib.ListN.{length, take};
@@ -10,8 +10,9 @@ ghost use Rattle.decimal.specs.Digits.{decimal};
 ghost use Rattle.decimal.specs.declared.Writing.the-variants.{Next};
 ghost use Rattle.verdicts.specs.Answers.{replyOf, openReplyOf, safeReplyOf};
 ghost use Rattle.recovery.specs.Fix.{rowsOf, fixReplyOf};
+ghost use Rattle.card_sheet.specs.Card.{sheetReplyOf};
 ghost use Rattle.answers.specs.Put.{Put};
-ghost use Rattle.answers.specs.Texts.{spaced, lineOf, namedBy, rowsText, fixedText, refusedText, replyText, noneText, unreadableText, rowCount};
+ghost use Rattle.answers.specs.Texts.{spaced, lineOf, namedBy, rowsText, fixedText, refusedText, replyText, noneText, unreadableText, rowCount, sheetWord};
 ghost use Rattle.answers.specs.Show.{phaseName, headText, cardsText, showText};
 use decimal::Writing;
 use recovery::FixReply;
@@ -21,6 +22,7 @@ use verdicts::OpenReply;
 use verdicts::Phase;
 use verdicts::Reply;
 use verdicts::SafeReply;
+use write::Written;
 
 // The card that a refusal names, where it names one.
 enum Named {
@@ -287,6 +289,36 @@ pub fn put_fix(
             put_fixed(b, w, cards, stored, line, &list[0..count], count as u32)
         }
         FixReply::NotFixed(q) => put_refusal(b, w, q),
+    }
+}
+
+// An accepted sheet: its length, and after this line its bytes.
+fn put_bytes(b: &mut [u8], w: Writing, bytes: &[u8], count: u32) -> Writing
+    ensures { λ x. ⌜ Put (now (b .entry)) w (lineOf sheetWord (count ∷ []) ++ now (bytes .entry)) x (now (b .exit)) ⌝ }
+{
+    let length = [count];
+    let w = put_line(b, w, b"sheet", &length);
+    put(b, w, bytes)
+}
+
+// The answer of sheet writing, which was lent so many bytes of the buffer: the first of them hold the sheet.
+pub fn put_sheet(
+    b: &mut [u8],
+    w: Writing,
+    sheet: &[u8; 65536],
+    places: usize,
+    r: Written,
+) -> Writing
+    ensures { λ x. ⌜ Put (now (b .entry)) w (replyText (sheetReplyOf (take places (now (sheet .entry))) r)) x (now (b .exit)) ⌝ }
+{
+    match r {
+        Written::Length(k) => {
+            let lent = least(k, places);
+            let count = least(lent, 65536);
+            let whole = &sheet[..];
+            put_bytes(b, w, &whole[0..count], count as u32)
+        }
+        Written::Refused(q) => put_refusal(b, w, q),
     }
 }
 

@@ -12,6 +12,10 @@ use Rattle.decimal.specs.declared.Writing.{Writing}
 use Rattle.decimal.specs.declared.Writing.the-variants.{Next}
 use Rattle.protocol.specs.Plan.{Plan, Reply, accepted, refused, done}
 use Rattle.protocol.specs.Calls.{fixPlan, freshRefused}
+use Rattle.protocol.specs.Sheets.{sheetPlan}
+use Rattle.frame.specs.Format.{format}
+use Rattle.write.specs.declared.Written as sheets
+use Rattle.card_sheet.specs.Card.{sheetReplyOf}
 use Rattle.verdicts.specs.declared.Reply as verdict
 use Rattle.verdicts.specs.declared.Reply.the-variants.{Done, Refused}
 use Rattle.verdicts.specs.Answers.{replyOf}
@@ -22,6 +26,7 @@ use Rattle.cabinet.specs.declared.Cabinet.{Cabinet}
 use Rattle.cabinet.specs.View.{view}
 use Rattle.cabinet.specs.Apply.{applyAll, Carried, OpenCarried}
 use Rattle.cabinet.specs.Fixing.{FixCarried}
+use Rattle.cabinet.specs.Writing.{SheetCarried}
 use Rattle.cabinet.specs.Fresh.{Freshly, zeroCabinet, freshHead, voidHead}
 use Rattle.words.specs.declared.Request.{Request}
 use Rattle.words.specs.declared.Spoken.{Spoken}
@@ -83,6 +88,22 @@ module _ {b : List ℕ} {w r : Writing} {e : List ℕ} where
                 (ap (λ (l : List ℕ). fixReplyOf (c .head .cards) stored line l q) left ∙ f .told .answer
                 ∙ ap (λ (n : ℕ). fixPlan limits16 (view c) records n (f .told .lost) .reply) size);
           };
+        };
+        put = u;
+      }
+
+  -- sheet writing, which was lent so many bytes at the front of a buffer
+  pub sheet-by : {c : Cabinet} {card : ℕ} {before after : List ℕ} {q : sheets.Written} {next : Cabinet} (places bytes : ℕ) (whole : List ℕ)
+      → SheetCarried c card before after q next → length before ≡ bytes → take places whole ≡ after
+      → Put b w (replyText (sheetReplyOf (take places whole) q)) r e → Written (Planned c (sheetPlan format limits16 (view c) card bytes) next) b w r e
+  sheet-by {c} {card} {before} {after} {q} {next} places bytes whole f size left u =
+      record {
+        text = replyText (sheetReplyOf (take places whole) q);
+        told = record {
+          cabinet = f .cabinet ∙ ap (λ (n : ℕ). applyAll (sheetPlan format limits16 (view c) card n .edits) c) size;
+          answer = ap replyText
+              (ap (λ (l : List ℕ). sheetReplyOf l q) left ∙ f .told .answer
+              ∙ ap (λ (n : ℕ). sheetPlan format limits16 (view c) card n .reply) size);
         };
         put = u;
       }

@@ -8,6 +8,8 @@ use Rattle.decimal.specs.declared.Writing.{Writing}
 use Rattle.decimal.specs.declared.Writing.the-variants.{Next, TooShort}
 use Rattle.protocol.specs.Plan.{Reply, accepted, refused, done}
 use Rattle.protocol.specs.Calls.{freshRefused, storePlan, takePlan, votePlan, withdrawPlan, safePlan, trimPlan, rollPlan}
+use Rattle.protocol.specs.Sheets.{sheetPlan}
+use Rattle.frame.specs.Format.{format}
 use Rattle.verdicts.specs.Shape.{limits16}
 use Rattle.cabinet.specs.declared.Cabinet.{Cabinet}
 use Rattle.cabinet.specs.View.{view}
@@ -26,7 +28,7 @@ use Rattle.trace.specs.Told.{Kept, Planned, OpenTold, LoseTold, FixSaid}
 
 -- ---- a call on the present cabinet
 
--- the cabinet after it and the text of its answer; sheet and restart are not made yet
+-- the cabinet after it and the text of its answer; restart is not made yet
 abbrev pub Told : Cabinet → Request → Cabinet → List ℕ → Type 0
 Told c (Open reads writes) next text = OpenTold c reads writes next text
 Told c (Vote change card agrees) next text = Planned c (votePlan limits16 (view c) change card agrees) next text
@@ -39,7 +41,8 @@ Told c (Lose cards) next text = LoseTold c cards next text
 -- a readable line lends 776 places at most
 Told c (Fix records numbers) next text = FixSaid c records (min numbers 776) next text
 Told c (Roll card) next text = Planned c (rollPlan limits16 (view c) card) next text
-Told c (Sheet card bytes) next text = Kept c unreadableText next text
+-- a readable line lends 65,536 bytes at most
+Told c (Sheet card bytes) next text = Planned c (sheetPlan format limits16 (view c) card (min bytes 65536)) next text
 Told c Restart next text = Kept c unreadableText next text
 Told c Show next text = Kept c (showText (c .head) (c .base) (c .stored) (c .held) (c .reached)) next text
 

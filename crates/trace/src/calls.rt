@@ -4,6 +4,8 @@ ghost use mathlib.Core.Path.{_≡_};
 ghost use lib.ListN.{length};
 ghost use Rattle.refusal.specs.declared.Refusal.the-variants.{NoSuchCard};
 ghost use Rattle.protocol.specs.Calls.{storePlan, takePlan, votePlan, withdrawPlan, safePlan, trimPlan, rollPlan};
+ghost use Rattle.protocol.specs.Sheets.{sheetPlan};
+ghost use Rattle.frame.specs.Format.{format};
 ghost use Rattle.verdicts.specs.Shape.{limits16};
 ghost use Rattle.cabinet.specs.View.{view};
 ghost use Rattle.answers.specs.Texts.{refusedText, unreadableText};
@@ -161,6 +163,32 @@ pub fn roll(c: Cabinet, card: u32, b: &mut [u8], w: Writing) -> Called
     let a = c.roll(card);
     let r = a.reply;
     let written = answers::put_reply(b, w, r);
+    let cabinet = a.cabinet;
+    Called { cabinet, written }
+}
+
+// How many bytes of a buffer for a sheet are lent: at most 65,536.
+fn lent_bytes(bytes: u32) -> usize
+    ensures { λ r. ⌜ r ≡ min bytes 65536 ⌝ }
+{
+    if bytes < 65536 { bytes as usize } else { 65536 }
+}
+
+// A buffer for a sheet.
+fn blank_buffer() -> [u8; 65536]
+    ensures { λ r. ⌜ length r ≡ 65536 ⌝ }
+{
+    [0; 65536]
+}
+
+pub fn sheet(c: Cabinet, card: u32, bytes: u32, b: &mut [u8], w: Writing) -> Called
+    ensures { λ r. ⌜ Written (Planned c (sheetPlan format limits16 (view c) card (min bytes 65536)) (r .cabinet)) (now (b .entry)) w (r .written) (now (b .exit)) ⌝ }
+{
+    let mut buffer = blank_buffer();
+    let places = lent_bytes(bytes);
+    let a = c.sheet(card, &mut buffer[0..places]);
+    let r = a.reply;
+    let written = answers::put_sheet(b, w, &buffer, places, r);
     let cabinet = a.cabinet;
     Called { cabinet, written }
 }

@@ -66,6 +66,12 @@ enum-known-q-9 c = search needs
 roll-requires : tie.Need-roll-requires
 roll-requires c κs = search needs
 
+enum-known-q-10 : tie.Need-enum-known-q-10
+enum-known-q-10 c = search needs
+
+sheet-requires : tie.Need-sheet-requires
+sheet-requires c κs = search needs
+
 enum-told-2 : tie.Need-enum-told-2
 enum-told-2 c = search needs
 
@@ -74,12 +80,6 @@ unreadable-requires c κs = search needs
 
 enum-told-3 : tie.Need-enum-told-3
 enum-told-3 c = search needs
-
-unreadable-requires-2 : tie.Need-unreadable-requires-2
-unreadable-requires-2 c κs = search needs
-
-enum-told-4 : tie.Need-enum-told-4
-enum-told-4 c = search needs
 
 show-requires : tie.Need-show-requires
 show-requires c κs = search needs
@@ -148,19 +148,19 @@ same-length-11 : tie.Need-same-length-11
 same-length-11 c = search needs
 
 returns-11 : tie.Need-returns-11
-returns-11 c = told-for (λ (x : Request). Told (c .before .before .before .before .before .before .before .args .c) x (c .before .before .unreadable .result .cabinet)) (c .before .before .before .before .enum-told2 .given .1) (c .before .before .unreadable .ensures)
+returns-11 c = told-for (λ (x : Request). Told (c .before .before .before .before .before .before .before .before .args .c) x (c .before .before .sheet .result .cabinet)) (c .before .before .before .before .before .q10 .given .1) (c .before .before .sheet .ensures)
 
 same-length-12 : tie.Need-same-length-12
 same-length-12 c = search needs
 
 returns-12 : tie.Need-returns-12
-returns-12 c = told-for (λ (x : Request). Told (c .before .before .before .before .before .before .before .args .c) x (c .before .before .unreadable2 .result .cabinet)) (c .before .before .before .before .enum-told3 .given .1) (c .before .before .unreadable2 .ensures)
+returns-12 c = told-for (λ (x : Request). Told (c .before .before .before .before .before .before .before .args .c) x (c .before .before .unreadable .result .cabinet)) (c .before .before .before .before .enum-told2 .given .1) (c .before .before .unreadable .ensures)
 
 same-length-13 : tie.Need-same-length-13
 same-length-13 c = search needs
 
 returns-13 : tie.Need-returns-13
-returns-13 c = told-for (λ (x : Request). Told (c .before .before .before .before .before .before .before .args .c) x (c .before .before .show .result .cabinet)) (c .before .before .before .before .enum-told4 .given .1) (c .before .before .show .ensures)
+returns-13 c = told-for (λ (x : Request). Told (c .before .before .before .before .before .before .before .args .c) x (c .before .before .show .result .cabinet)) (c .before .before .before .before .enum-told3 .given .1) (c .before .before .show .ensures)
 
 pub ask-spec : {M : Type 1} → statement M
 ask-spec =
@@ -186,11 +186,11 @@ ask-spec =
     fix-requires
     enum-known-q-9
     roll-requires
+    enum-known-q-10
+    sheet-requires
     enum-told-2
     unreadable-requires
     enum-told-3
-    unreadable-requires-2
-    enum-told-4
     show-requires
     same-length
     returns
