@@ -1,0 +1,115 @@
+// Restart from the sheets of all cards as a cabinet writes them, joined.
+ghost use Prim.Native.Nat.{_≤_};
+ghost use mathlib.Core.Path.{_≡_};
+ghost use mathlib.Core.Bool.{true};
+ghost use lib.ListN.{length, take};
+ghost use Rattle.frame.specs.Format.{format};
+ghost use Rattle.protocol.specs.Sound.{sound};
+ghost use Rattle.protocol.specs.Sheets.{joinedSheets};
+ghost use Rattle.verdicts.specs.Shape.{limits16};
+ghost use Rattle.verdicts.specs.Answers.{replyOf};
+ghost use Rattle.card_sheet.specs.Card.{lengthTold};
+ghost use Rattle.cabinet.specs.View.{view};
+ghost use Rattle.demands.specs.Lists.{goingOn, RestartAnswered};
+ghost use Rattle.joined.specs.Joined.{FromOwnSheets};
+use cabinet::Answer;
+use cabinet::Cabinet;
+use refusal::Refusal;
+use verdicts::Reply;
+use write::Written;
+
+// How long the sheet is that was written; 0 with a refusal.
+fn length_told(r: Written) -> usize
+    ensures { λ n. ⌜ n ≡ lengthTold r ⌝ }
+{
+    match r {
+        Written::Length(n) => n,
+        Written::Refused(_) => 0,
+    }
+}
+
+// The sheets of all cards in card order, joined at the front of a buffer of 65,536 bytes: how many bytes they are.
+fn join(c: Cabinet, cards: u32, buffer: &mut [u8]) -> usize
+    requires { ⌜ (sound limits16 (view c) ≡ true) × (cards ≡ c .head .cards) × (length (now buffer) ≡ 65536) ⌝ }
+    ensures { λ n. ⌜ (n ≤ 65536) × (take n (now (buffer .exit)) ≡ joinedSheets format limits16 (view c)) ⌝ }
+{
+    let mut at: usize = 0;
+    let mut card: u32 = 0;
+    while card < cards {
+        let a = c.sheet(card, &mut buffer[at..]);
+        let r = a.reply;
+        let n = length_told(r);
+        at += n;
+        card += 1;
+    }
+    at
+}
+
+// Whether refusal 28 lets a cabinet pass.
+fn passes_28(c: Cabinet) -> bool
+    ensures { λ r. ⌜ r ≡ sound limits16 (view c) ⌝ }
+{
+    let last = c.last;
+    let pending = c.pending;
+    let places = c.places;
+    let base = c.base;
+    let stored = c.stored;
+    let held = c.held;
+    let reached = c.reached;
+    let line = c.line;
+    let head = c.head;
+    soundness::cabinet_sound(
+        &c.entries,
+        &c.makers,
+        last,
+        pending,
+        places,
+        base,
+        stored,
+        held,
+        reached,
+        line,
+        head,
+    )
+}
+
+// After a refused restart the caller goes on with the cabinet it has.
+fn going_on(a: Answer, c: Cabinet) -> Answer
+    ensures { λ r. ⌜ (r .reply ≡ a .reply) × (r .cabinet ≡ goingOn (replyOf (a .reply)) (a .cabinet) c) ⌝ }
+{
+    let reply = a.reply;
+    match reply {
+        Reply::Done => a,
+        Reply::Refused(q) => Answer {
+            cabinet: c,
+            reply: Reply::Refused(q),
+        },
+    }
+}
+
+// Restart of a cabinet that passes 28.
+fn restart_sound(c: Cabinet) -> Answer
+    requires { ⌜ sound limits16 (view c) ≡ true ⌝ }
+    ensures { λ r. ⌜ RestartAnswered c (replyOf (r .reply)) (r .cabinet) ⌝ }
+{
+    let head = c.head;
+    let cards = head.cards;
+    let mut buffer = [0u8; 65536];
+    let n = join(c, cards, &mut buffer);
+    let a = restart::restart(&buffer[0..n]);
+    going_on(a, c)
+}
+
+// Restart, from the sheets of all cards as this cabinet writes them; a refusal hands back the cabinet as it was.
+pub fn restart(c: Cabinet) -> Answer
+    ensures { λ r. ⌜ FromOwnSheets c (replyOf (r .reply)) (r .cabinet) ⌝ }
+{
+    let sound = passes_28(c);
+    if sound {
+        return restart_sound(c);
+    }
+    Answer {
+        cabinet: c,
+        reply: Reply::Refused(Refusal::BadCabinet),
+    }
+}
