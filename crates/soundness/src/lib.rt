@@ -8,57 +8,13 @@ ghost use lib.Dec.{leb};
 ghost use Rattle.laws.specs.Below.{allBelow};
 ghost use Rattle.bits.specs.Member.{member};
 ghost use Rattle.protocol.specs.Model.{toWrite, up};
-ghost use Rattle.protocol.specs.Sound.{sessionSound, cardsSound, numbersSound, entriesSound, frameSound, risesSound, framesSound, lineSound, cardSound, roomToWrite, placeSound, sound};
+ghost use Rattle.protocol.specs.Sound.{entriesSound, frameSound, risesSound, framesSound, lineSound, cardSound, roomToWrite, placeSound, sound};
 ghost use Rattle.verdicts.specs.Shape.{limits16, phaseOf, at, presentOf, ring, ringFrame, ringPlace, numbersOf, openOf, openAt, partOf, modelOf, thereSound};
 use verdicts::Head;
 use verdicts::Phase;
 use verdicts::Place;
 use verdicts::Vector;
 use verdicts::is_rolling;
-
-// "session 0 (while rolling also 4,294,967,295)"
-pub fn session_sound(head: Head) -> bool
-    ensures { λ r. ⌜ r ≡ sessionSound limits16 (modelOf [] [] [] [] [] [] [] [] [] [] [] 0 head) ⌝ }
-{
-    let phase = head.phase;
-    let rolling = is_rolling(phase);
-    (head.session != 0) & !(rolling & (head.session == 4294967295))
-}
-
-// "a number of cards .. outside the limits"
-pub fn cards_sound(head: Head) -> bool
-    ensures { λ r. ⌜ r ≡ cardsSound limits16 (modelOf [] [] [] [] [] [] [] [] [] [] [] 0 head) ⌝ }
-{
-    (1 <= head.cards) & (head.cards <= 16)
-}
-
-// "a .. state number .. outside the limits"
-pub fn numbers_sound(base: u32, stored: u32, held: u32, reached: u32) -> bool
-    ensures { λ r. ⌜ r ≡ numbersSound limits16 (numbersOf base stored held reached) 0 ⌝ }
-{
-    let hand = (reached as u64) <= (base as u64) + 48;
-    (base <= stored) & (stored <= held) & (held <= reached) & hand & (reached <= 60000)
-}
-
-// The greatest dependency that an entry may hold: none for an absent card.
-fn top(there: bool) -> u32
-    ensures { λ r. ⌜ r ≡ cond there (limits16 .greatestState) 0 ⌝ }
-{
-    if there { 60000 } else { 0 }
-}
-
-// "an entry outside the limits .., an entry of an absent card that isn't none": a vector of a cabinet of so many cards.
-pub fn entries_sound(v: [u32; 16], cards: usize) -> bool
-    ensures { λ r. ⌜ r ≡ entriesSound limits16 (presentOf cards) (at v) ⌝ }
-{
-    let mut ok = true;
-    let mut j: usize = 0;
-    while j < 16 {
-        ok = ok & (v[j] <= top(j < cards));
-        j += 1;
-    }
-    ok
-}
 
 // The same of the vector of a frame.
 fn frame_entries_sound(entries: &[u32; 12288], from: usize, cards: usize) -> bool
@@ -68,7 +24,7 @@ fn frame_entries_sound(entries: &[u32; 12288], from: usize, cards: usize) -> boo
     let mut ok = true;
     let mut j: usize = 0;
     while j < 16 {
-        ok = ok & (entries[from + j] <= top(j < cards));
+        ok = ok & (entries[from + j] <= limits::top(j < cards));
         j += 1;
     }
     ok
@@ -164,7 +120,7 @@ fn there_sound<'a>(
     requires { ⌜ c < 16 ⌝ }
     ensures { λ r. ⌜ r ≡ thereSound (partOf (head .cards) (phaseOf (head .phase)) (numbersOf base stored held reached) (ring (now (entries .entry)) (now (makers .entry))) line) c ⌝ }
 {
-    let numbers = numbers_sound(base, stored, held, reached);
+    let numbers = limits::numbers_sound(base, stored, held, reached);
     let phase = head.phase;
     let fixed = line_sound(phase, base, stored, line);
     if numbers {
@@ -205,10 +161,10 @@ fn card_sound<'a>(
     let n = seen(there, cards);
     let l = last[c];
     let l = l.entries;
-    let lasts = entries_sound(l, n);
+    let lasts = limits::entries_sound(l, n);
     let p = pending[c];
     let p = p.entries;
-    let pendings = entries_sound(p, n);
+    let pendings = limits::entries_sound(p, n);
     let whole = there_sound(
         entries,
         makers,
@@ -259,13 +215,6 @@ fn all_cards_sound<'a>(
     ok
 }
 
-// A card may be written: not "at base + 48 or 60,000".
-pub fn room(base: u32, reached: u32) -> bool
-    ensures { λ r. ⌜ r ≡ roomToWrite limits16 (numbersOf base 0 0 reached) 0 ⌝ }
-{
-    ((reached as u64) < (base as u64) + 48) & (reached < 60000)
-}
-
 // Every card that the change has yet to write has room.
 fn writes_fit(o: Place, base: [u32; 16], reached: [u32; 16]) -> bool
     ensures { λ r. ⌜ r ≡ allBelow (limits16 .width) (λ c. not (toWrite (openOf o) c) || roomToWrite limits16 (numbersOf (at base c) 0 0 (at reached c)) 0) ⌝ }
@@ -275,7 +224,7 @@ fn writes_fit(o: Place, base: [u32; 16], reached: [u32; 16]) -> bool
     while c < 16 {
         let written = bits::has(o.writes, c as u32);
         let taken = bits::has(o.taken, c as u32);
-        ok = ok & (!(written & !taken) | room(base[c], reached[c]));
+        ok = ok & (!(written & !taken) | limits::room(base[c], reached[c]));
         c += 1;
     }
     ok
@@ -290,7 +239,7 @@ pub fn place_sound(o: Place, base: [u32; 16], reached: [u32; 16], head: Head) ->
     let fit = writes_fit(o, base, reached);
     let v = o.vector;
     let cards = head.cards as usize;
-    let entries = entries_sound(v, cards);
+    let entries = limits::entries_sound(v, cards);
     !(o.number != 0) | (inside & fit & entries)
 }
 
@@ -323,8 +272,8 @@ pub fn cabinet_sound<'a>(
 ) -> bool
     ensures { λ r. ⌜ r ≡ sound limits16 (modelOf (now (entries .entry)) (now (makers .entry)) last pending places base stored held reached line [] 0 head) ⌝ }
 {
-    let session = session_sound(head);
-    let number = cards_sound(head);
+    let session = limits::session_sound(head);
+    let number = limits::cards_sound(head);
     let cards = all_cards_sound(
         entries,
         makers,

@@ -1,6 +1,6 @@
 use Rattle.soundness.proofs.Hand.{card-whole}
 use Rattle.soundness.proofs.Hand.{frames-in-hand}
-use Rattle.soundness.proofs.Tests.{entries-absent}
+use Rattle.limits.proofs.Tests.{entries-absent}
 use Rattle.verdicts.specs.Shape.{limits16, at, presentOf, ring, numbersOf, partOf, openOf, openAt, modelOf, phaseOf}
 use Rattle.verdicts.proofs.Limits.{width16, inHand48, places8, greatest60000}
 use Rattle.laws.proofs.Fill.{AllSoFar, all-none, all-more, all-done}
@@ -18,7 +18,7 @@ use Rattle.soundness.proofs.card_sound.Statement.{statement}
 use Rattle.soundness.proofs.card_sound.Tie as tie
 use Rattle.soundness.proofs.card_sound.Reads as reads
 use Rattle.soundness.proofs.card_sound.Lts as lts
-use Rattle.soundness.proofs.entries_sound.Reads as entries-sound-reads
+use Rattle.limits.proofs.entries_sound.Reads as entries-sound-reads
 use Rattle.soundness.proofs.seen.Reads as seen-reads
 use Rattle.soundness.proofs.there_sound.Reads as there-sound-reads
 
