@@ -28,6 +28,7 @@ use Rattle.cabinet.specs.Apply.{applyAll, Carried, OpenCarried}
 use Rattle.cabinet.specs.Fixing.{FixCarried}
 use Rattle.cabinet.specs.Writing.{SheetCarried}
 use Rattle.cabinet.specs.Fresh.{Freshly, zeroCabinet, freshHead, voidHead}
+use Rattle.joined.specs.Joined.{FromOwnSheets}
 use Rattle.words.specs.declared.Request.{Request}
 use Rattle.words.specs.declared.Spoken.{Spoken}
 use Rattle.words.specs.declared.Heard.{Heard}
@@ -38,7 +39,7 @@ use Rattle.answers.specs.Texts.{replyText, noneText}
 use Rattle.answers.proofs.Puts.{put-nothing, put-then}
 use Rattle.trace.specs.declared.Replay.{Replay}
 use Rattle.trace.specs.Steps.{Told, Steps, Asked, Stays, Freshened, nothingYet, Ran, noLine, oneMore, Replayed}
-use Rattle.trace.specs.Told.{Written, Kept, Planned, OpenTold, openWithin, FixSaid}
+use Rattle.trace.specs.Told.{Written, Kept, Planned, OpenTold, openWithin, FixSaid, RestartTold}
 
 -- a fresh cabinet that was made was not refused, and one that was refused was
 passed : {n : ℕ} {q : verdict.Reply} {c : Cabinet} → Freshly n (replyOf q) c → q ≡ Done → freshRefused limits16 n ≡ false
@@ -107,6 +108,9 @@ module _ {b : List ℕ} {w r : Writing} {e : List ℕ} where
         };
         put = u;
       }
+
+  pub restarted-by : {c : Cabinet} {q : Reply} {next : Cabinet} → FromOwnSheets c q next → Put b w (replyText q) r e → Written (RestartTold c next) b w r e
+  restarted-by {q = q} k u = record { text = replyText q; told = record { reply = q; restarted = k; answer = refl }; put = u }
 
   -- what was asked or said, known by another name
   pub told-for : {A : Type 0} (P : A → List ℕ → Type 0) {q k : A} → q ≡ k → Written (P k) b w r e → Written (P q) b w r e

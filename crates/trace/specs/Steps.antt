@@ -24,11 +24,11 @@ use Rattle.answers.specs.Put.{Put}
 use Rattle.answers.specs.Texts.{replyText, noneText, unreadableText}
 use Rattle.answers.specs.Show.{showText}
 use Rattle.trace.specs.declared.Replay.{Replay}
-use Rattle.trace.specs.Told.{Kept, Planned, OpenTold, LoseTold, FixSaid}
+use Rattle.trace.specs.Told.{Kept, Planned, OpenTold, LoseTold, FixSaid, RestartTold}
 
 -- ---- a call on the present cabinet
 
--- the cabinet after it and the text of its answer; restart is not made yet
+-- the cabinet after it and the text of its answer
 abbrev pub Told : Cabinet → Request → Cabinet → List ℕ → Type 0
 Told c (Open reads writes) next text = OpenTold c reads writes next text
 Told c (Vote change card agrees) next text = Planned c (votePlan limits16 (view c) change card agrees) next text
@@ -43,7 +43,7 @@ Told c (Fix records numbers) next text = FixSaid c records (min numbers 776) nex
 Told c (Roll card) next text = Planned c (rollPlan limits16 (view c) card) next text
 -- a readable line lends 65,536 bytes at most
 Told c (Sheet card bytes) next text = Planned c (sheetPlan format limits16 (view c) card (min bytes 65536)) next text
-Told c Restart next text = Kept c unreadableText next text
+Told c Restart next text = RestartTold c next text
 Told c Show next text = Kept c (showText (c .head) (c .base) (c .stored) (c .held) (c .reached)) next text
 
 -- ---- a line

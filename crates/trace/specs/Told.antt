@@ -12,6 +12,7 @@ use Rattle.verdicts.specs.Shape.{limits16}
 use Rattle.cabinet.specs.declared.Cabinet.{Cabinet}
 use Rattle.cabinet.specs.View.{view}
 use Rattle.cabinet.specs.Apply.{applyAll, OpenCarried}
+use Rattle.joined.specs.Joined.{FromOwnSheets}
 use Rattle.answers.specs.Put.{Put}
 use Rattle.answers.specs.Texts.{refusedText, replyText}
 
@@ -46,3 +47,9 @@ pub record FixSaid (c : Cabinet) (records numbers : ℕ) (next : Cabinet) (text 
   pub lost : List ℕ
   pub once : (k : ℕ) → occurs k lost ≡ one-if (isLost limits16 (view c) k)
   pub planned : Planned c (fixPlan limits16 (view c) records numbers lost) next text
+
+-- "the sheets of all cards as this cabinet writes them, joined, restart: the result takes the present cabinet's place"
+pub record RestartTold (c next : Cabinet) (text : List ℕ) : Type 0 where
+  pub reply : Reply
+  pub restarted : FromOwnSheets c reply next
+  pub answer : text ≡ replyText reply

@@ -8,9 +8,9 @@ ghost use Rattle.protocol.specs.Sheets.{sheetPlan};
 ghost use Rattle.frame.specs.Format.{format};
 ghost use Rattle.verdicts.specs.Shape.{limits16};
 ghost use Rattle.cabinet.specs.View.{view};
-ghost use Rattle.answers.specs.Texts.{refusedText, unreadableText};
+ghost use Rattle.answers.specs.Texts.{refusedText};
 ghost use Rattle.answers.specs.Show.{showText};
-ghost use Rattle.trace.specs.Told.{Planned, OpenTold, LoseTold, FixSaid, Kept, Written};
+ghost use Rattle.trace.specs.Told.{Planned, OpenTold, LoseTold, FixSaid, RestartTold, Kept, Written};
 use crate::Called;
 use cabinet::Cabinet;
 use decimal::Writing;
@@ -21,17 +21,6 @@ fn no_such_card(c: Cabinet, b: &mut [u8], w: Writing) -> Called
     ensures { λ r. ⌜ Written (Kept c (refusedText NoSuchCard) (r .cabinet)) (now (b .entry)) w (r .written) (now (b .exit)) ⌝ }
 {
     let written = answers::put_refusal(b, w, Refusal::NoSuchCard);
-    Called {
-        cabinet: c,
-        written,
-    }
-}
-
-// A line that is no call.
-pub fn unreadable(c: Cabinet, b: &mut [u8], w: Writing) -> Called
-    ensures { λ r. ⌜ Written (Kept c unreadableText (r .cabinet)) (now (b .entry)) w (r .written) (now (b .exit)) ⌝ }
-{
-    let written = answers::put_unreadable(b, w);
     Called {
         cabinet: c,
         written,
@@ -189,6 +178,17 @@ pub fn sheet(c: Cabinet, card: u32, bytes: u32, b: &mut [u8], w: Writing) -> Cal
     let a = c.sheet(card, &mut buffer[0..places]);
     let r = a.reply;
     let written = answers::put_sheet(b, w, &buffer, places, r);
+    let cabinet = a.cabinet;
+    Called { cabinet, written }
+}
+
+// The result takes the cabinet's place.
+pub fn restart(c: Cabinet, b: &mut [u8], w: Writing) -> Called
+    ensures { λ r. ⌜ Written (RestartTold c (r .cabinet)) (now (b .entry)) w (r .written) (now (b .exit)) ⌝ }
+{
+    let a = joined::restart(c);
+    let r = a.reply;
+    let written = answers::put_reply(b, w, r);
     let cabinet = a.cabinet;
     Called { cabinet, written }
 }

@@ -63,7 +63,7 @@ fn ask(c: Cabinet, q: Request, b: &mut [u8], w: Writing) -> Called
         Request::Fix { records, numbers } => calls::fix(c, records, numbers, b, w),
         Request::Roll(card) => calls::roll(c, card, b, w),
         Request::Sheet { card, bytes } => calls::sheet(c, card, bytes, b, w),
-        Request::Restart => calls::unreadable(c, b, w),
+        Request::Restart => calls::restart(c, b, w),
         Request::Show => calls::show(c, b, w),
     }
 }

@@ -75,8 +75,8 @@ sheet-requires c κs = search needs
 enum-told-2 : tie.Need-enum-told-2
 enum-told-2 c = search needs
 
-unreadable-requires : tie.Need-unreadable-requires
-unreadable-requires c κs = search needs
+restart-requires : tie.Need-restart-requires
+restart-requires c κs = search needs
 
 enum-told-3 : tie.Need-enum-told-3
 enum-told-3 c = search needs
@@ -154,7 +154,7 @@ same-length-12 : tie.Need-same-length-12
 same-length-12 c = search needs
 
 returns-12 : tie.Need-returns-12
-returns-12 c = told-for (λ (x : Request). Told (c .before .before .before .before .before .before .before .args .c) x (c .before .before .unreadable .result .cabinet)) (c .before .before .before .before .enum-told2 .given .1) (c .before .before .unreadable .ensures)
+returns-12 c = told-for (λ (x : Request). Told (c .before .before .before .before .before .before .before .args .c) x (c .before .before .restart .result .cabinet)) (c .before .before .before .before .enum-told2 .given .1) (c .before .before .restart .ensures)
 
 same-length-13 : tie.Need-same-length-13
 same-length-13 c = search needs
@@ -189,7 +189,7 @@ ask-spec =
     enum-known-q-10
     sheet-requires
     enum-told-2
-    unreadable-requires
+    restart-requires
     enum-told-3
     show-requires
     same-length
