@@ -27,7 +27,14 @@ use Rattle.laws.specs.Below.{anyBelow}
 use Rattle.verdicts.proofs.Limits.{greatestNumber32}
 use Rattle.cabinet.proofs.Known.{first-at, sound-places, sound-reached, sound-stored, written-there, room-known, room-below}
 use Rattle.cabinet.specs.declared.Cabinet.{Cabinet}
+use Rattle.parts.specs.declared.Parts.{Parts}
+use Rattle.parts.specs.Standing.{standing}
+use Rattle.cabinet.specs.View.{view, partsOf}
 use Rattle.cabinet.specs.Apply.{applyAll, Carried}
+
+-- what 28 finds of a cabinet's frames and parts it finds of the cabinet
+pub whole : (s : Cabinet) (p : Parts) (b : Bool) → p ≡ partsOf s → b ≡ sound limits16 (standing (s .entries) (s .makers) p) → b ≡ sound limits16 (view s)
+whole s p b ep eb = eb ∙ ap (λ (q : Parts). sound limits16 (standing (s .entries) (s .makers) q)) ep
 
 pub carried-done : (s next : Cabinet) (cs : List Check) (es : List Edit) (r : Reply) → r ≡ firstFailing cs → r ≡ Done → next ≡ applyAll es s → Carried s (checked cs done es) (replyOf r) next
 carried-done s next cs es r e d n =

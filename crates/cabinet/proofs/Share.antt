@@ -21,17 +21,18 @@ use Rattle.cabinet.specs.Apply.{applyAll, apply, grown, withPlaces, with
 abbrev pub shareEdits : Place → ℕ → ℕ → List Edit
 shareEdits q p c = shareEdit (openOf q) c ∷ edit.place p (tookShare limits16 (openOf q) c) ∷ []
 
-pub share-grown : (s : Cabinet) (c x p : ℕ) (v es : List ℕ) (q sh : Place)
+pub share-grown : (s : Cabinet) (c x p : ℕ) (v es ms : List ℕ) (q sh : Place)
     → member (q .writes) c ≡ true
     → x ≡ suc (at (s .reached) c)
     → v ≡ q .vector
     → q .vector ≡ listOf (at (q .vector))
     → es ≡ sets (s .entries) (ringPlace c x * 16) (listOf (at v))
+    → ms ≡ set (s .makers) (ringPlace c x) (q .number)
     → sh ≡ placeFor (tookShare limits16 (openOf q) c)
     → _≡_ {A = Cabinet}
     (record {
       entries = es;
-      makers = set (s .makers) (ringPlace c x) (q .number);
+      makers = ms;
       last = set (s .last) c (record { entries = v });
       pending = set (s .pending) c (record { entries = v });
       places = set (s .places) p sh;
@@ -45,13 +46,14 @@ pub share-grown : (s : Cabinet) (c x p : ℕ) (v es : List ℕ) (q sh : Place)
       head = s .head;
     })
     (applyAll (shareEdits q p c) s)
-share-grown s c x p v es q sh w ex ev el ee es′ =
+share-grown s c x p v es ms q sh w ex ev el ee em es′ =
     let e : es ≡ sets (s .entries) (ringPlace c (suc (at (s .reached) c)) * 16) (listOf (at (q .vector))) =
     ee ∙ ap₂ (λ (y : ℕ) (l : List ℕ). sets (s .entries) (ringPlace c y * 16) (listOf (at l))) ex ev in
     let l : v ≡ listOf (at (q .vector)) = ev ∙ el in
+    let m : ms ≡ set (s .makers) (ringPlace c (suc (at (s .reached) c))) (q .number) = em ∙ ap (λ (y : ℕ). set (s .makers) (ringPlace c y) (q .number)) ex in
     let g : _≡_ {A = Cabinet} (record {
       entries = es;
-      makers = set (s .makers) (ringPlace c x) (q .number);
+      makers = ms;
       last = set (s .last) c (record { entries = v });
       pending = set (s .pending) c (record { entries = v });
       places = set (s .places) p sh;
@@ -66,7 +68,7 @@ share-grown s c x p v es q sh w ex ev el ee es′ =
     }) (withPlaces (grown c (q .number) (at (q .vector)) s) (set (s .places) p (placeFor (tookShare limits16 (openOf q) c)))) =
     λ i. record {
       entries = e i;
-      makers = set (s .makers) (ringPlace c (ex i)) (q .number);
+      makers = m i;
       last = set (s .last) c (record { entries = l i });
       pending = set (s .pending) c (record { entries = l i });
       places = set (s .places) p (es′ i);

@@ -16,10 +16,6 @@ use Rattle.protocol.specs.Edit as edit
 use Rattle.protocol.specs.Plan.{Plan, Reply}
 use Rattle.verdicts.specs.declared.Phase.{Phase}
 use Rattle.verdicts.specs.declared.Phase.the-variants.{Up, Down, Rolling}
-use Rattle.verdicts.specs.declared.Reply as verdict
-use Rattle.verdicts.specs.declared.Reply.the-variants.{Done, Refused}
-use Rattle.verdicts.specs.declared.OpenReply.{OpenReply}
-use Rattle.verdicts.specs.declared.OpenReply.the-variants.{Opened, NotOpened}
 use Rattle.verdicts.specs.declared.Head.{Head}
 use Rattle.verdicts.specs.Shape.{limits16, at, vectorAt, ringPlace, openAt, setOf, listOf, vectorFor, placeFor}
 use Rattle.protocol.specs.Calls.{barred, openPlan}
@@ -224,8 +220,3 @@ pub record OpenCarried (s : Cabinet) (reads writes : ℕ) (reply : Reply) (next 
   pub named : ℕ
   pub isBarred : anyBelow (limits16 .width) (barred limits16 (view s) (member reads) (member writes)) ≡ true → barred limits16 (view s) (member reads) (member writes) named ≡ true
   pub carried : Carried s (openPlan limits16 (view s) (member reads) (member writes) named) reply next
-
--- what an opening answers, by its verdict, after k changes
-abbrev pub openAnswer : verdict.Reply → ℕ → OpenReply
-openAnswer Done k = Opened (k + 1)
-openAnswer (Refused q) k = NotOpened q

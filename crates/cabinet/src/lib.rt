@@ -1,12 +1,9 @@
-// The cabinet of 16 cards: its struct, and calls 1 to 10 as methods that hand it back.
+// The cabinet of 16 cards: its struct, and calls 1 to 10 as methods that hand it back, in the modules below.
 ghost use mathlib.Core.Path.{_≡_};
-ghost use Rattle.bits.specs.Member.{member};
-ghost use Rattle.protocol.specs.Calls.{storePlan, takePlan, losePlan, votePlan, withdrawPlan, safePlan};
-ghost use Rattle.verdicts.specs.Shape.{limits16};
-ghost use Rattle.verdicts.specs.Answers.{replyOf, openReplyOf, safeReplyOf};
-ghost use Rattle.cabinet.specs.View.{view};
-ghost use Rattle.cabinet.specs.Apply.{Carried, OpenCarried};
+ghost use Rattle.verdicts.specs.Answers.{replyOf};
+ghost use Rattle.cabinet.specs.View.{partsOf};
 ghost use Rattle.cabinet.specs.Fresh.{Freshly, zeroCabinet};
+use parts::Parts;
 use refusal::Refusal;
 use verdicts::Head;
 use verdicts::OpenReply;
@@ -18,7 +15,8 @@ use verdicts::Vector;
 
 pub mod recover;
 pub mod sheets;
-pub mod writes;
+pub mod storing;
+pub mod voting;
 
 // A cabinet by value. Frames stand in a ring: state x of card c has the place c * 48 + x % 48.
 pub struct Cabinet {
@@ -136,10 +134,9 @@ impl Cabinet {
             }
         }
     }
-
-    // 5. store
-    pub fn store(mut self, card: u32, state: u32) -> Answer
-        ensures { λ r. ⌜ Carried self (storePlan limits16 (view self) card state) (replyOf (r .reply)) (r .cabinet) ⌝ }
+    // What 28 looks at besides the frames.
+    fn parts(self) -> Parts
+        ensures { λ r. ⌜ r ≡ partsOf self ⌝ }
     {
         let last = self.last;
         let pending = self.pending;
@@ -150,324 +147,16 @@ impl Cabinet {
         let reached = self.reached;
         let line = self.line;
         let head = self.head;
-        let sound = soundness::cabinet_sound(
-            &self.entries,
-            &self.makers,
-            last,
-            pending,
-            places,
-            base,
-            stored,
-            held,
-            reached,
-            line,
-            head,
-        );
-        let r = replies::store_reply(sound, head, stored, held, card, state);
-        match r {
-            Reply::Done => {
-                let c = card as usize;
-                self.stored[c] = state;
-            }
-            Reply::Refused(_) => {}
-        }
-        Answer {
-            cabinet: self,
-            reply: r,
-        }
-    }
-
-    // 8. lose
-    pub fn lose(mut self, cards: u16) -> Answer
-        ensures { λ r. ⌜ Carried self (losePlan limits16 (view self) (member cards)) (replyOf (r .reply)) (r .cabinet) ⌝ }
-    {
-        let last = self.last;
-        let pending = self.pending;
-        let places = self.places;
-        let base = self.base;
-        let stored = self.stored;
-        let held = self.held;
-        let reached = self.reached;
-        let line = self.line;
-        let head = self.head;
-        let sound = soundness::cabinet_sound(
-            &self.entries,
-            &self.makers,
-            last,
-            pending,
-            places,
-            base,
-            stored,
-            held,
-            reached,
-            line,
-            head,
-        );
-        let r = replies::lose_reply(sound, head, cards);
-        match r {
-            Reply::Done => {
-                let fallen = writes::fallen(held, stored, cards);
-                self.held = fallen;
-                let phase = head.phase;
-                let up = verdicts::is_up(phase);
-                if up {
-                    let ended = writes::ended_numbers(places);
-                    self.ended = ended;
-                    let free = writes::no_places();
-                    self.places = free;
-                    let down = Head {
-                        session: head.session,
-                        cards: head.cards,
-                        count: head.count,
-                        phase: Phase::Down,
-                    };
-                    self.head = down;
-                }
-            }
-            Reply::Refused(_) => {}
-        }
-        Answer {
-            cabinet: self,
-            reply: r,
-        }
-    }
-
-    // 3. take
-    pub fn take(mut self, change: u32, card: u32) -> Answer
-        ensures { λ r. ⌜ Carried self (takePlan limits16 (view self) change card) (replyOf (r .reply)) (r .cabinet) ⌝ }
-    {
-        let last = self.last;
-        let pending = self.pending;
-        let places = self.places;
-        let base = self.base;
-        let stored = self.stored;
-        let held = self.held;
-        let reached = self.reached;
-        let line = self.line;
-        let head = self.head;
-        let sound = soundness::cabinet_sound(
-            &self.entries,
-            &self.makers,
-            last,
-            pending,
-            places,
-            base,
-            stored,
-            held,
-            reached,
-            line,
-            head,
-        );
-        let r = replies::take_reply(sound, head, places, change, card);
-        match r {
-            Reply::Done => {
-                let p = places::place_of(places, change);
-                let o = places[p];
-                let shared = places::took(o, card);
-                self.places[p] = shared;
-                let v = o.vector;
-                let v = vectors::copied(v);
-                let c = card as usize;
-                let written = bits::has(o.writes, card);
-                if written {
-                    let x = reached[c] + 1;
-                    let place = c * 48 + (x % Cabinet::IN_HAND) as usize;
-                    self.makers[place] = o.number;
-                    writes::put_frame(&mut self.entries, place * 16, v);
-                    let w = Vector { entries: v };
-                    self.last[c] = w;
-                    self.pending[c] = w;
-                    self.held[c] = x;
-                    self.reached[c] = x;
-                } else {
-                    let q = pending[c];
-                    let q = q.entries;
-                    let j = vectors::join(q, v);
-                    let w = Vector { entries: j };
-                    self.pending[c] = w;
-                }
-            }
-            Reply::Refused(_) => {}
-        }
-        Answer {
-            cabinet: self,
-            reply: r,
-        }
-    }
-
-    // 2. vote
-    pub fn vote(mut self, change: u32, card: u32, agrees: bool) -> Answer
-        ensures { λ r. ⌜ Carried self (votePlan limits16 (view self) change card agrees) (replyOf (r .reply)) (r .cabinet) ⌝ }
-    {
-        let last = self.last;
-        let pending = self.pending;
-        let places = self.places;
-        let base = self.base;
-        let stored = self.stored;
-        let held = self.held;
-        let reached = self.reached;
-        let line = self.line;
-        let head = self.head;
-        let sound = soundness::cabinet_sound(
-            &self.entries,
-            &self.makers,
-            last,
-            pending,
-            places,
-            base,
-            stored,
-            held,
-            reached,
-            line,
-            head,
-        );
-        let r = changes::vote_reply(sound, head, places, change, card);
-        match r {
-            Reply::Done => {
-                let p = places::place_of(places, change);
-                let o = places[p];
-                let after = changes::after_vote(o, card, agrees, reached, last, pending);
-                self.places[p] = after;
-            }
-            Reply::Refused(_) => {}
-        }
-        Answer {
-            cabinet: self,
-            reply: r,
-        }
-    }
-
-    // 4. withdraw
-    pub fn withdraw(mut self, change: u32) -> Answer
-        ensures { λ r. ⌜ Carried self (withdrawPlan limits16 (view self) change) (replyOf (r .reply)) (r .cabinet) ⌝ }
-    {
-        let last = self.last;
-        let pending = self.pending;
-        let places = self.places;
-        let base = self.base;
-        let stored = self.stored;
-        let held = self.held;
-        let reached = self.reached;
-        let line = self.line;
-        let head = self.head;
-        let sound = soundness::cabinet_sound(
-            &self.entries,
-            &self.makers,
-            last,
-            pending,
-            places,
-            base,
-            stored,
-            held,
-            reached,
-            line,
-            head,
-        );
-        let r = changes::withdraw_reply(sound, head, places, change);
-        match r {
-            Reply::Done => {
-                let p = places::place_of(places, change);
-                let free = places::free_place();
-                self.places[p] = free;
-            }
-            Reply::Refused(_) => {}
-        }
-        Answer {
-            cabinet: self,
-            reply: r,
-        }
-    }
-
-    // 1. open. Of the cards that are barred the lowest is named.
-    pub fn open(mut self, reads: u16, writes: u16) -> OpenAnswer
-        ensures { λ r. ⌜ OpenCarried self reads writes (openReplyOf (r .reply)) (r .cabinet) ⌝ }
-    {
-        let last = self.last;
-        let pending = self.pending;
-        let places = self.places;
-        let base = self.base;
-        let stored = self.stored;
-        let held = self.held;
-        let reached = self.reached;
-        let line = self.line;
-        let head = self.head;
-        let sound = soundness::cabinet_sound(
-            &self.entries,
-            &self.makers,
-            last,
-            pending,
-            places,
-            base,
-            stored,
-            held,
-            reached,
-            line,
-            head,
-        );
-        let phase = head.phase;
-        let r = changes::open_verdict(sound, head, places, base, reached, reads, writes);
-        let answer = writes::open_answer(r, head.count);
-        match r {
-            Reply::Done => {
-                let p = places::free_at(places);
-                let k = head.count + 1;
-                let o = changes::opened(k, reads, writes);
-                self.places[p] = o;
-                let h = Head {
-                    session: head.session,
-                    cards: head.cards,
-                    count: k,
-                    phase: phase,
-                };
-                self.head = h;
-            }
-            Reply::Refused(_) => {}
-        }
-        OpenAnswer {
-            cabinet: self,
-            reply: answer,
-        }
-    }
-
-    // 7. safe
-    pub fn safe(self, change: u32) -> SafeAnswer
-        ensures { λ r. ⌜ Carried self (safePlan limits16 (view self) change) (safeReplyOf (r .reply)) (r .cabinet) ⌝ }
-    {
-        let last = self.last;
-        let pending = self.pending;
-        let places = self.places;
-        let base = self.base;
-        let stored = self.stored;
-        let held = self.held;
-        let reached = self.reached;
-        let line = self.line;
-        let head = self.head;
-        let sound = soundness::cabinet_sound(
-            &self.entries,
-            &self.makers,
-            last,
-            pending,
-            places,
-            base,
-            stored,
-            held,
-            reached,
-            line,
-            head,
-        );
-        let r = safety::safe_reply(
-            sound,
-            &self.makers,
-            head,
-            places,
-            base,
-            stored,
-            reached,
-            change,
-        );
-        SafeAnswer {
-            cabinet: self,
-            reply: r,
+        Parts {
+            last: last,
+            pending: pending,
+            places: places,
+            base: base,
+            stored: stored,
+            held: held,
+            reached: reached,
+            line: line,
+            head: head,
         }
     }
 }

@@ -27,28 +27,12 @@ impl Cabinet {
     pub fn trim(mut self) -> Answer
         ensures { λ r. ⌜ Carried self (trimPlan limits16 (view self)) (replyOf (r .reply)) (r .cabinet) ⌝ }
     {
-        let last = self.last;
-        let pending = self.pending;
-        let places = self.places;
+        let p = self.parts();
+        let sound = parts::is_sound(&self.entries, &self.makers, p);
         let base = self.base;
         let stored = self.stored;
-        let held = self.held;
         let reached = self.reached;
-        let line = self.line;
         let head = self.head;
-        let sound = soundness::cabinet_sound(
-            &self.entries,
-            &self.makers,
-            last,
-            pending,
-            places,
-            base,
-            stored,
-            held,
-            reached,
-            line,
-            head,
-        );
         let r = recovery::trim_reply(sound, head);
         match r {
             Reply::Done => {
@@ -122,34 +106,15 @@ impl Cabinet {
     pub fn roll(mut self, card: u32) -> Answer
         ensures { λ r. ⌜ Carried self (rollPlan limits16 (view self) card) (replyOf (r .reply)) (r .cabinet) ⌝ }
     {
-        let last = self.last;
-        let pending = self.pending;
-        let places = self.places;
-        let base = self.base;
-        let stored = self.stored;
-        let held = self.held;
-        let reached = self.reached;
-        let line = self.line;
-        let head = self.head;
+        let p = self.parts();
+        let sound = parts::is_sound(&self.entries, &self.makers, p);
         let rolled = self.rolled;
-        let sound = soundness::cabinet_sound(
-            &self.entries,
-            &self.makers,
-            last,
-            pending,
-            places,
-            base,
-            stored,
-            held,
-            reached,
-            line,
-            head,
-        );
+        let head = self.head;
         let r = recovery::roll_reply(sound, head, rolled, card);
         match r {
             Reply::Done => {
                 let c = card as usize;
-                let x = line[c];
+                let x = self.line[c];
                 self.base[c] = x;
                 self.stored[c] = x;
                 self.held[c] = x;

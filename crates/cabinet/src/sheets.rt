@@ -14,31 +14,13 @@ impl Cabinet {
     pub fn sheet<'a>(self, card: u32, buffer: &'a mut [u8]) -> SheetAnswer
         ensures { λ r. ⌜ SheetCarried self card (now (buffer .entry)) (now (buffer .exit)) (r .reply) (r .cabinet) ⌝ }
     {
-        let last = self.last;
-        let pending = self.pending;
-        let places = self.places;
+        let p = self.parts();
+        let sound = parts::is_sound(&self.entries, &self.makers, p);
         let base = self.base;
-        let stored = self.stored;
-        let held = self.held;
-        let reached = self.reached;
-        let line = self.line;
         let head = self.head;
         let rolled = self.rolled;
-        let sound = soundness::cabinet_sound(
-            &self.entries,
-            &self.makers,
-            last,
-            pending,
-            places,
-            base,
-            stored,
-            held,
-            reached,
-            line,
-            head,
-        );
         // "Frames run from base + 1 to stored."
-        let top = stored;
+        let top = self.stored;
         let r = card_sheet::write_card(
             buffer,
             &self.entries,

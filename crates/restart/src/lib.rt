@@ -121,7 +121,7 @@ fn restarted(r: Readout) -> Cabinet
     };
     let last = last_vectors(&r.entries, bases, stored);
     let line = recovery::lines(&r.entries, head, bases, stored, stored);
-    let places = cabinet::writes::no_places();
+    let places = parts::writes::no_places();
     let entries = r.entries;
     let makers = r.changes;
     Cabinet {

@@ -1,4 +1,4 @@
--- `verdicts::places::is_decided`: no vote is awaited. Assumes nothing.
+-- `places::is_decided`: no vote is awaited. Assumes nothing.
 use borrow.Author.Needs.{needs}
 use Rattle.places.proofs.is_decided.Statement.{statement}
 use Rattle.places.proofs.is_decided.Tie as tie

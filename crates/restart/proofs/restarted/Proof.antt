@@ -9,7 +9,7 @@ use Rattle.restart.proofs.restarted.Statement.{statement}
 use Rattle.restart.proofs.restarted.Tie as tie
 use Rattle.restart.proofs.restarted.Reads as reads
 use Rattle.restart.proofs.restarted.Lts as lts
-use Rattle.cabinet.proofs.writes.no_places.Reads as no-places-reads
+use Rattle.parts.proofs.writes.no_places.Reads as no-places-reads
 use Rattle.sessions.proofs.lowest.Reads as lowest-reads
 use Rattle.recovery.proofs.lines.Reads as lines-reads
 use Rattle.restart.proofs.last_vectors.Reads as last-vectors-reads

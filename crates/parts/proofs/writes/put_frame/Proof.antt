@@ -14,10 +14,10 @@ use native.Mathlib.Omega.{arith}
 use lib.ListN.{length, getD, set, List·getD-eq-default}
 use lib.Dec.{leb, ltb, eqb}
 use borrow.Author.Needs.{needs}
-use Rattle.cabinet.proofs.writes.put_frame.Statement.{statement}
-use Rattle.cabinet.proofs.writes.put_frame.Tie as tie
-use Rattle.cabinet.proofs.writes.put_frame.Reads as reads
-use Rattle.cabinet.proofs.writes.put_frame.Lts as lts
+use Rattle.parts.proofs.writes.put_frame.Statement.{statement}
+use Rattle.parts.proofs.writes.put_frame.Tie as tie
+use Rattle.parts.proofs.writes.put_frame.Reads as reads
+use Rattle.parts.proofs.writes.put_frame.Lts as lts
 
 abbrev Inv-loop : tie.InvT-loop
 Inv-loop entries₀ from v j₀ entries j = StoredSoFar 16 (at v) entries₀ from entries j

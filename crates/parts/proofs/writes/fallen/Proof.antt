@@ -14,12 +14,12 @@ use native.Mathlib.Omega.{arith}
 use lib.ListN.{length, getD, set, List·getD-eq-default}
 use lib.Dec.{leb, ltb, eqb}
 use borrow.Author.Needs.{needs}
-use Rattle.cabinet.proofs.writes.fallen.Statement.{statement}
-use Rattle.cabinet.proofs.writes.fallen.Tie as tie
-use Rattle.cabinet.proofs.writes.fallen.Reads as reads
-use Rattle.cabinet.proofs.writes.fallen.Lts as lts
+use Rattle.parts.proofs.writes.fallen.Statement.{statement}
+use Rattle.parts.proofs.writes.fallen.Tie as tie
+use Rattle.parts.proofs.writes.fallen.Reads as reads
+use Rattle.parts.proofs.writes.fallen.Lts as lts
 use Rattle.bits.proofs.has.Reads as has-reads
-use Rattle.cabinet.proofs.writes.pick.Reads as pick-reads
+use Rattle.parts.proofs.writes.pick.Reads as pick-reads
 
 abbrev Inv-loop : tie.InvT-loop
 Inv-loop cards held stored out₀ c₀ out c = FilledSoFar 0 16 (λ k. cond (member cards k) (at stored k) (at held k)) out c

@@ -14,10 +14,10 @@ use native.Mathlib.Omega.{arith}
 use lib.ListN.{length, getD, set, List·getD-eq-default}
 use lib.Dec.{leb, ltb, eqb}
 use borrow.Author.Needs.{needs}
-use Rattle.cabinet.proofs.writes.ended_numbers.Statement.{statement}
-use Rattle.cabinet.proofs.writes.ended_numbers.Tie as tie
-use Rattle.cabinet.proofs.writes.ended_numbers.Reads as reads
-use Rattle.cabinet.proofs.writes.ended_numbers.Lts as lts
+use Rattle.parts.proofs.writes.ended_numbers.Statement.{statement}
+use Rattle.parts.proofs.writes.ended_numbers.Tie as tie
+use Rattle.parts.proofs.writes.ended_numbers.Reads as reads
+use Rattle.parts.proofs.writes.ended_numbers.Lts as lts
 use Rattle.places.proofs.remembered_number.Reads as remembered-number-reads
 
 abbrev Inv-loop : tie.InvT-loop

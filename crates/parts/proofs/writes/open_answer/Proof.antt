@@ -8,10 +8,10 @@ use native.Mathlib.Omega.{arith}
 use lib.ListN.{length, getD, set, List·getD-eq-default}
 use lib.Dec.{leb, ltb, eqb}
 use borrow.Author.Needs.{needs}
-use Rattle.cabinet.proofs.writes.open_answer.Statement.{statement}
-use Rattle.cabinet.proofs.writes.open_answer.Tie as tie
-use Rattle.cabinet.proofs.writes.open_answer.Reads as reads
-use Rattle.cabinet.proofs.writes.open_answer.Lts as lts
+use Rattle.parts.proofs.writes.open_answer.Statement.{statement}
+use Rattle.parts.proofs.writes.open_answer.Tie as tie
+use Rattle.parts.proofs.writes.open_answer.Reads as reads
+use Rattle.parts.proofs.writes.open_answer.Lts as lts
 
 -- src/writes.rt:78:42
 enum-told : tie.Need-enum-told

@@ -1,20 +1,21 @@
 // What the calls write into a cabinet's lists.
-ghost use Prim.Native.Nat.{ℕ, _+_, _≤_, _<_};
+ghost use Prim.Native.Nat.{ℕ, _+_, _*_, _≤_, _<_};
 ghost use mathlib.Core.Path.{_≡_};
 ghost use mathlib.Core.Bool.{cond};
+ghost use lib.ListN.{set};
 ghost use lib.Seq.{sets};
 ghost use Rattle.laws.specs.Below.{tabulate};
 ghost use Rattle.bits.specs.Member.{member};
 ghost use Rattle.protocol.specs.Edit.{remembered};
 ghost use Rattle.protocol.specs.Model.{freePlace};
-ghost use Rattle.verdicts.specs.Shape.{limits16, at, listOf, openAt, placeFor};
-ghost use Rattle.cabinet.specs.Apply.{openAnswer};
+ghost use Rattle.verdicts.specs.Shape.{limits16, at, ringPlace, listOf, openAt, placeFor};
+ghost use Rattle.parts.specs.Opening.{openAnswer};
 use verdicts::OpenReply;
 use verdicts::Place;
 use verdicts::Reply;
 
 // The vector of a frame, at its place in the ring.
-pub fn put_frame(entries: &mut [u32; 12288], from: usize, v: [u32; 16])
+fn put_frame(entries: &mut [u32; 12288], from: usize, v: [u32; 16])
     requires { ⌜ from + 16 ≤ 12288 ⌝ }
     ensures { λ r. ⌜ now (entries .exit) ≡ sets (now (entries .entry)) from (listOf (at v)) ⌝ }
 {
@@ -23,6 +24,24 @@ pub fn put_frame(entries: &mut [u32; 12288], from: usize, v: [u32; 16])
         entries[from + j] = v[j];
         j += 1;
     }
+}
+
+// The vector of state x of card c, at its place in the ring.
+pub fn put_vector(entries: &mut [u32; 12288], c: usize, x: u32, v: [u32; 16])
+    requires { ⌜ c < 16 ⌝ }
+    ensures { λ r. ⌜ now (entries .exit) ≡ sets (now (entries .entry)) (ringPlace c x * 16) (listOf (at v)) ⌝ }
+{
+    let place = c * 48 + (x % 48) as usize;
+    put_frame(entries, place * 16, v);
+}
+
+// The change that made state x of card c, at its place in the ring.
+pub fn put_maker(makers: &mut [u32; 768], c: usize, x: u32, maker: u32)
+    requires { ⌜ c < 16 ⌝ }
+    ensures { λ r. ⌜ now (makers .exit) ≡ set (now (makers .entry)) (ringPlace c x) maker ⌝ }
+{
+    let place = c * 48 + (x % 48) as usize;
+    makers[place] = maker;
 }
 
 // The first number where the test passes, and the second where it fails.

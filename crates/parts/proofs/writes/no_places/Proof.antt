@@ -14,10 +14,10 @@ use native.Mathlib.Omega.{arith}
 use lib.ListN.{length, getD, set, List·getD-eq-default}
 use lib.Dec.{leb, ltb, eqb}
 use borrow.Author.Needs.{needs}
-use Rattle.cabinet.proofs.writes.no_places.Statement.{statement}
-use Rattle.cabinet.proofs.writes.no_places.Tie as tie
-use Rattle.cabinet.proofs.writes.no_places.Reads as reads
-use Rattle.cabinet.proofs.writes.no_places.Lts as lts
+use Rattle.parts.proofs.writes.no_places.Statement.{statement}
+use Rattle.parts.proofs.writes.no_places.Tie as tie
+use Rattle.parts.proofs.writes.no_places.Reads as reads
+use Rattle.parts.proofs.writes.no_places.Lts as lts
 use Rattle.places.proofs.free_place.Reads as free-place-reads
 
 -- src/writes.rt:47:9
