@@ -85,7 +85,7 @@ mul-o c = let h : c .before .before .free-at .result < 8 = in-places (c .before 
 
 -- src/voting.rt:33:17
 element-set-from-o : tie.Need-element-set-from-o
-element-set-from-o c = let h : c .before .before .free-at .result < 8 = in-places (c .before .before) in search needs
+element-set-from-o c = in-places (c .before .before)
 
 enum-told-2 : tie.Need-enum-told-2
 enum-told-2 c = search needs

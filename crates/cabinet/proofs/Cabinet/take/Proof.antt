@@ -81,7 +81,7 @@ mul-o c = let h : c .place-of .result < 8 = in-places c in search needs
 
 -- src/voting.rt:89:25
 array-copy-out-o : tie.Need-array-copy-out-o
-array-copy-out-o c = let h : c .place-of .result < 8 = in-places c in search needs
+array-copy-out-o c = in-places c
 
 -- src/voting.rt:90:21
 took-requires : tie.Need-took-requires
@@ -93,7 +93,7 @@ mul-shared c = let h : c .before .before .place-of .result < 8 = in-places (c .b
 
 -- src/voting.rt:91:17
 element-set-from-shared : tie.Need-element-set-from-shared
-element-set-from-shared c = let h : c .before .before .place-of .result < 8 = in-places (c .before .before) in search needs
+element-set-from-shared c = in-places (c .before .before)
 
 -- src/voting.rt:93:21
 copied-requires : tie.Need-copied-requires
@@ -129,7 +129,7 @@ mul-w c = let h : c .before .before .before .before .before .before .before .bef
 
 -- src/voting.rt:102:21
 element-set-from-w : tie.Need-element-set-from-w
-element-set-from-w c = let h : c .before .before .before .before .before .before .before .before .before .before .before .before .before .before .before .before .before .before .before .before .before .before .args .card < 16 = facts (c .before .before .before .before .before .before .before .before .before .before .before .before) .card in search needs
+element-set-from-w c = facts (c .before .before .before .before .before .before .before .before .before .before .before .before) .card
 
 -- src/voting.rt:103:21
 mul-w-2 : tie.Need-mul-w-2
@@ -137,7 +137,7 @@ mul-w-2 c = let h : c .before .before .before .before .before .before .before .b
 
 -- src/voting.rt:103:21
 element-set-from-w-2 : tie.Need-element-set-from-w-2
-element-set-from-w-2 c = let h : c .before .before .before .before .before .before .before .before .before .before .before .before .before .before .before .before .before .before .before .before .before .before .args .card < 16 = facts (c .before .before .before .before .before .before .before .before .before .before .before .before) .card in search needs
+element-set-from-w-2 c = facts (c .before .before .before .before .before .before .before .before .before .before .before .before) .card
 
 -- src/voting.rt:104:21
 mul-self : tie.Need-mul-self
@@ -145,7 +145,7 @@ mul-self c = let h : c .before .before .before .before .before .before .before .
 
 -- src/voting.rt:104:21
 element-write-self : tie.Need-element-write-self
-element-write-self c = let h : c .before .before .before .before .before .before .before .before .before .before .before .before .before .before .before .before .before .before .before .before .before .before .args .card < 16 = facts (c .before .before .before .before .before .before .before .before .before .before .before .before) .card in search needs
+element-write-self c = facts (c .before .before .before .before .before .before .before .before .before .before .before .before) .card
 
 -- src/voting.rt:105:21
 mul-self-2 : tie.Need-mul-self-2
@@ -153,7 +153,7 @@ mul-self-2 c = let h : c .before .before .before .before .before .before .before
 
 -- src/voting.rt:105:21
 element-write-self-2 : tie.Need-element-write-self-2
-element-write-self-2 c = let h : c .before .before .before .before .before .before .before .before .before .before .before .before .before .before .before .before .before .before .before .before .before .before .args .card < 16 = facts (c .before .before .before .before .before .before .before .before .before .before .before .before) .card in search needs
+element-write-self-2 c = facts (c .before .before .before .before .before .before .before .before .before .before .before .before) .card
 
 -- src/voting.rt:107:29
 mul-q : tie.Need-mul-q
@@ -173,7 +173,7 @@ mul-w-3 c = search needs
 
 -- src/voting.rt:111:21
 element-set-from-w-3 : tie.Need-element-set-from-w-3
-element-set-from-w-3 c = let h : c .before .before .before .before .before .before .before .before .before .before .before .before .before .before .before .before .before .before .before .before .args .card < 16 = facts (c .before .before .before .before .before .before .before .before .before .before) .card in search needs
+element-set-from-w-3 c = facts (c .before .before .before .before .before .before .before .before .before .before) .card
 
 enum-told-2 : tie.Need-enum-told-2
 enum-told-2 c = search needs

@@ -68,7 +68,7 @@ mul-o c = let h : c .place-of .result < 8 = in-places c in search needs
 
 -- src/voting.rt:65:25
 array-copy-out-o : tie.Need-array-copy-out-o
-array-copy-out-o c = let h : c .place-of .result < 8 = in-places c in search needs
+array-copy-out-o c = in-places c
 
 -- src/voting.rt:66:21
 after-vote-requires : tie.Need-after-vote-requires
@@ -80,7 +80,7 @@ mul-after c = let h : c .before .before .place-of .result < 8 = in-places (c .be
 
 -- src/voting.rt:67:17
 element-set-from-after : tie.Need-element-set-from-after
-element-set-from-after c = let h : c .before .before .place-of .result < 8 = in-places (c .before .before) in search needs
+element-set-from-after c = in-places (c .before .before)
 
 enum-told-2 : tie.Need-enum-told-2
 enum-told-2 c = search needs

@@ -67,7 +67,7 @@ mul-free c = let h : c .before .place-of .result < 8 = in-places (c .before) in 
 
 -- src/voting.rt:134:17
 element-set-from-free : tie.Need-element-set-from-free
-element-set-from-free c = let h : c .before .place-of .result < 8 = in-places (c .before) in search needs
+element-set-from-free c = in-places (c .before)
 
 enum-told-2 : tie.Need-enum-told-2
 enum-told-2 c = search needs
