@@ -11,10 +11,11 @@ use Rattle.history.specs.Vector.{noEntries}
 use Rattle.protocol.specs.Model.{freePlace, withCard}
 use Rattle.protocol.specs.Edit.{Edit, remembered}
 use Rattle.protocol.specs.Edit as edit
-use Rattle.verdicts.specs.declared.Phase.the-variants.{Up, Down}
+use Rattle.verdicts.specs.declared.Head.{Head}
 use Rattle.verdicts.specs.declared.Place.{Place}
 use Rattle.verdicts.specs.declared.Vector.{Vector}
 use Rattle.verdicts.specs.Shape.{limits16, at, openAt, setOf, listOf, vectorFor, placeFor}
+use Rattle.parts.specs.Heads.{downHead, upHead}
 use Rattle.cabinet.specs.declared.Cabinet.{Cabinet}
 use Rattle.cabinet.specs.Apply.{applyAll}
 use Rattle.cabinet.proofs.Roll.{none-rolled}
@@ -57,11 +58,12 @@ fallen-next s cards up held u h = (λ i. record {
   head = s .head;
 }) ∙ ap (λ (b : Bool). applyAll (lossEdits cards b) s) (sym u)
 
-pub halted-next : (s : Cabinet) (cards : CardSet) (up : Bool) (held ended : List ℕ) (places : List Place)
+pub halted-next : (s : Cabinet) (cards : CardSet) (up : Bool) (held ended : List ℕ) (places : List Place) (head : Head)
     → up ≡ true
     → held ≡ listOf (λ c. cond (cards c) (at (s .stored) c) (at (s .held) c))
     → ended ≡ tabulate (limits16 .places) (λ p. remembered limits16 (openAt (s .places) p))
     → places ≡ tabulate (limits16 .places) (λ p. placeFor freePlace)
+    → head ≡ downHead (s .head)
     → _≡_ {A = Cabinet} (record {
       entries = s .entries;
       makers = s .makers;
@@ -75,9 +77,9 @@ pub halted-next : (s : Cabinet) (cards : CardSet) (up : Bool) (held ended : List
       line = s .line;
       ended = ended;
       rolled = s .rolled;
-      head = record { session = s .head .session; cards = s .head .cards; count = s .head .count; phase = Down };
+      head = head;
     }) (applyAll (lossEdits cards up) s)
-halted-next s cards up held ended places u h e p = (λ i. record {
+halted-next s cards up held ended places head u h e p d = (λ i. record {
   entries = s .entries;
   makers = s .makers;
   last = s .last;
@@ -90,7 +92,7 @@ halted-next s cards up held ended places u h e p = (λ i. record {
   line = s .line;
   ended = e i;
   rolled = s .rolled;
-  head = record { session = s .head .session; cards = s .head .cards; count = s .head .count; phase = Down };
+  head = d i;
 }) ∙ ap (λ (b : Bool). applyAll (lossEdits cards b) s) (sym u)
 
 -- the edits of a roll, of the last card or not
@@ -131,10 +133,10 @@ lowered-next s c last rolled l r = (λ i. record {
   head = s .head;
 }) ∙ ap (λ (b : Bool). applyAll (rollEdits c b) s) (sym l)
 
-pub renewed-next : (s : Cabinet) (c : ℕ) (last : Bool) (none : List Vector) (session : ℕ)
+pub renewed-next : (s : Cabinet) (c : ℕ) (last : Bool) (none : List Vector) (head : Head)
     → last ≡ true
     → none ≡ tabulate (limits16 .width) (λ k. vectorFor noEntries)
-    → session ≡ suc (s .head .session)
+    → head ≡ upHead (suc (s .head .session)) (s .head .cards)
     → _≡_ {A = Cabinet} (record {
       entries = s .entries;
       makers = s .makers;
@@ -148,9 +150,9 @@ pub renewed-next : (s : Cabinet) (c : ℕ) (last : Bool) (none : List Vector) (s
       line = s .line;
       ended = s .ended;
       rolled = 0;
-      head = record { session = session; cards = s .head .cards; count = 0; phase = Up };
+      head = head;
     }) (applyAll (rollEdits c last) s)
-renewed-next s c last none session l n e = (λ i. record {
+renewed-next s c last none head l n e = (λ i. record {
   entries = s .entries;
   makers = s .makers;
   last = n i;
@@ -163,5 +165,5 @@ renewed-next s c last none session l n e = (λ i. record {
   line = s .line;
   ended = s .ended;
   rolled = sym none-rolled i;
-  head = record { session = e i; cards = s .head .cards; count = 0; phase = Up };
+  head = e i;
 }) ∙ ap (λ (b : Bool). applyAll (rollEdits c b) s) (sym l)

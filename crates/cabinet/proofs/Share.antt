@@ -13,7 +13,7 @@ use Rattle.history.specs.Change.{CardSet}
 use Rattle.verdicts.specs.declared.Place.{Place}
 use Rattle.verdicts.specs.declared.Vector.{Vector}
 use Rattle.history.specs.Vector.{joined}
-use Rattle.verdicts.specs.Shape.{limits16, at, listOf, vectorAt, ringPlace, openOf, placeFor}
+use Rattle.verdicts.specs.Shape.{limits16, at, listOf, vectorAt, vectorFor, ringPlace, openOf, placeFor}
 use Rattle.cabinet.specs.declared.Cabinet.{Cabinet}
 use Rattle.cabinet.specs.Apply.{applyAll, apply, grown, withPlaces, withHead}
 
@@ -21,20 +21,22 @@ use Rattle.cabinet.specs.Apply.{applyAll, apply, grown, withPlaces, with
 abbrev pub shareEdits : Place → ℕ → ℕ → List Edit
 shareEdits q p c = shareEdit (openOf q) c ∷ edit.place p (tookShare limits16 (openOf q) c) ∷ []
 
-pub share-grown : (s : Cabinet) (c x p : ℕ) (v es ms : List ℕ) (q sh : Place)
+abbrev kept : List ℕ → Vector
+kept l = record { entries = l }
+
+pub share-grown : (s : Cabinet) (c x p : ℕ) (w : Vector) (es ms : List ℕ) (q sh : Place)
     → member (q .writes) c ≡ true
     → x ≡ suc (at (s .reached) c)
-    → v ≡ q .vector
+    → w .entries ≡ q .vector
     → q .vector ≡ listOf (at (q .vector))
-    → es ≡ sets (s .entries) (ringPlace c x * 16) (listOf (at v))
+    → es ≡ sets (s .entries) (ringPlace c x * 16) (listOf (at (w .entries)))
     → ms ≡ set (s .makers) (ringPlace c x) (q .number)
     → sh ≡ placeFor (tookShare limits16 (openOf q) c)
-    → _≡_ {A = Cabinet}
-    (record {
+    → _≡_ {A = Cabinet} (record {
       entries = es;
       makers = ms;
-      last = set (s .last) c (record { entries = v });
-      pending = set (s .pending) c (record { entries = v });
+      last = set (s .last) c w;
+      pending = set (s .pending) c w;
       places = set (s .places) p sh;
       base = s .base;
       stored = s .stored;
@@ -44,18 +46,17 @@ pub share-grown : (s : Cabinet) (c x p : ℕ) (v es ms : List ℕ) (q sh : Place
       ended = s .ended;
       rolled = s .rolled;
       head = s .head;
-    })
-    (applyAll (shareEdits q p c) s)
-share-grown s c x p v es ms q sh w ex ev el ee em es′ =
+    }) (applyAll (shareEdits q p c) s)
+share-grown s c x p w es ms q sh ew ex ev el ee em es′ =
     let e : es ≡ sets (s .entries) (ringPlace c (suc (at (s .reached) c)) * 16) (listOf (at (q .vector))) =
     ee ∙ ap₂ (λ (y : ℕ) (l : List ℕ). sets (s .entries) (ringPlace c y * 16) (listOf (at l))) ex ev in
-    let l : v ≡ listOf (at (q .vector)) = ev ∙ el in
+    let l : w ≡ vectorFor (at (q .vector)) = ap (λ (y : List ℕ). kept y) (ev ∙ el) in
     let m : ms ≡ set (s .makers) (ringPlace c (suc (at (s .reached) c))) (q .number) = em ∙ ap (λ (y : ℕ). set (s .makers) (ringPlace c y) (q .number)) ex in
     let g : _≡_ {A = Cabinet} (record {
       entries = es;
       makers = ms;
-      last = set (s .last) c (record { entries = v });
-      pending = set (s .pending) c (record { entries = v });
+      last = set (s .last) c w;
+      pending = set (s .pending) c w;
       places = set (s .places) p sh;
       base = s .base;
       stored = s .stored;
@@ -69,8 +70,8 @@ share-grown s c x p v es ms q sh w ex ev el ee em es′ =
     λ i. record {
       entries = e i;
       makers = m i;
-      last = set (s .last) c (record { entries = l i });
-      pending = set (s .pending) c (record { entries = l i });
+      last = set (s .last) c (l i);
+      pending = set (s .pending) c (l i);
       places = set (s .places) p (es′ i);
       base = s .base;
       stored = s .stored;
@@ -81,19 +82,18 @@ share-grown s c x p v es ms q sh w ex ev el ee em es′ =
       rolled = s .rolled;
       head = s .head;
     } in
-    g ∙ ap (λ (b : Bool). applyAll (cond b (edit.grow c (q .number) (at (q .vector))) (edit.raise c (at (q .vector))) ∷ edit.place p (tookShare limits16 (openOf q) c) ∷ []) s) (sym w)
+    g ∙ ap (λ (b : Bool). applyAll (cond b (edit.grow c (q .number) (at (q .vector))) (edit.raise c (at (q .vector))) ∷ edit.place p (tookShare limits16 (openOf q) c) ∷ []) s) (sym ew)
 
-pub share-raised : (s : Cabinet) (c p : ℕ) (v j : List ℕ) (q sh : Place)
+pub share-raised : (s : Cabinet) (c p : ℕ) (w j : Vector) (q sh : Place)
     → member (q .writes) c ≡ false
-    → v ≡ q .vector
-    → j ≡ listOf (joined (vectorAt (s .pending) c) (at v))
+    → w .entries ≡ q .vector
+    → j ≡ vectorFor (joined (vectorAt (s .pending) c) (at (w .entries)))
     → sh ≡ placeFor (tookShare limits16 (openOf q) c)
-    → _≡_ {A = Cabinet}
-    (record {
+    → _≡_ {A = Cabinet} (record {
       entries = s .entries;
       makers = s .makers;
       last = s .last;
-      pending = set (s .pending) c (record { entries = j });
+      pending = set (s .pending) c j;
       places = set (s .places) p sh;
       base = s .base;
       stored = s .stored;
@@ -103,15 +103,14 @@ pub share-raised : (s : Cabinet) (c p : ℕ) (v j : List ℕ) (q sh : Place)
       ended = s .ended;
       rolled = s .rolled;
       head = s .head;
-    })
-    (applyAll (shareEdits q p c) s)
-share-raised s c p v j q sh w ev ej es′ =
-    let l : j ≡ listOf (joined (vectorAt (s .pending) c) (at (q .vector))) = ej ∙ ap (λ (y : List ℕ). listOf (joined (vectorAt (s .pending) c) (at y))) ev in
+    }) (applyAll (shareEdits q p c) s)
+share-raised s c p w j q sh ew ev ej es′ =
+    let l : j ≡ vectorFor (joined (vectorAt (s .pending) c) (at (q .vector))) = ej ∙ ap (λ (y : List ℕ). vectorFor (joined (vectorAt (s .pending) c) (at y))) ev in
     let g : _≡_ {A = Cabinet} (record {
       entries = s .entries;
       makers = s .makers;
       last = s .last;
-      pending = set (s .pending) c (record { entries = j });
+      pending = set (s .pending) c j;
       places = set (s .places) p sh;
       base = s .base;
       stored = s .stored;
@@ -126,7 +125,7 @@ share-raised s c p v j q sh w ev ej es′ =
       entries = s .entries;
       makers = s .makers;
       last = s .last;
-      pending = set (s .pending) c (record { entries = l i });
+      pending = set (s .pending) c (l i);
       places = set (s .places) p (es′ i);
       base = s .base;
       stored = s .stored;
@@ -137,7 +136,7 @@ share-raised s c p v j q sh w ev ej es′ =
       rolled = s .rolled;
       head = s .head;
     } in
-    g ∙ ap (λ (b : Bool). applyAll (cond b (edit.grow c (q .number) (at (q .vector))) (edit.raise c (at (q .vector))) ∷ edit.place p (tookShare limits16 (openOf q) c) ∷ []) s) (sym w)
+    g ∙ ap (λ (b : Bool). applyAll (cond b (edit.grow c (q .number) (at (q .vector))) (edit.raise c (at (q .vector))) ∷ edit.place p (tookShare limits16 (openOf q) c) ∷ []) s) (sym ew)
 
 -- what an opening leaves
 pub open-next : (s : Cabinet) (p p′ k k′ : ℕ) (o : Place) (reads writes : CardSet) → p ≡ p′ → k ≡ k′ → o ≡ placeFor (openedChange k reads writes)

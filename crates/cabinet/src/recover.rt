@@ -127,12 +127,7 @@ impl Cabinet {
                     self.last = none;
                     self.pending = none;
                     self.rolled = 0;
-                    let up = Head {
-                        session: head.session + 1,
-                        cards: head.cards,
-                        count: 0,
-                        phase: Phase::Up,
-                    };
+                    let up = parts::heads::up(head.session + 1, head.cards);
                     self.head = up;
                 }
             }

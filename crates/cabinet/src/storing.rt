@@ -8,8 +8,6 @@ ghost use Rattle.cabinet.specs.Apply.{Carried};
 use crate::Answer;
 use crate::Cabinet;
 use crate::SafeAnswer;
-use verdicts::Head;
-use verdicts::Phase;
 use verdicts::Reply;
 
 impl Cabinet {
@@ -85,12 +83,7 @@ impl Cabinet {
                     self.ended = ended;
                     let free = parts::writes::no_places();
                     self.places = free;
-                    let down = Head {
-                        session: head.session,
-                        cards: head.cards,
-                        count: head.count,
-                        phase: Phase::Down,
-                    };
+                    let down = parts::heads::down(head);
                     self.head = down;
                 }
             }

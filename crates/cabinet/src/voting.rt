@@ -9,7 +9,6 @@ use crate::Cabinet;
 use crate::OpenAnswer;
 use verdicts::Head;
 use verdicts::Reply;
-use verdicts::Vector;
 
 impl Cabinet {
     // 1. open. Of the cards that are barred the lowest is named.
@@ -89,26 +88,22 @@ impl Cabinet {
                 let o = places[at];
                 let shared = places::took(o, card);
                 self.places[at] = shared;
-                let v = o.vector;
-                let v = vectors::copied(v);
+                let w = parts::writes::vector_of(o);
                 let c = card as usize;
                 let written = bits::has(o.writes, card);
                 if written {
                     let x = self.reached[c] + 1;
                     let k = o.number;
                     parts::writes::put_maker(&mut self.makers, c, x, k);
-                    parts::writes::put_vector(&mut self.entries, c, x, v);
-                    let w = Vector { entries: v };
+                    parts::writes::put_vector(&mut self.entries, c, x, w);
                     self.last[c] = w;
                     self.pending[c] = w;
                     self.held[c] = x;
                     self.reached[c] = x;
                 } else {
                     let q = self.pending[c];
-                    let q = q.entries;
-                    let j = vectors::join(q, v);
-                    let w = Vector { entries: j };
-                    self.pending[c] = w;
+                    let q = parts::writes::raised(q, w);
+                    self.pending[c] = q;
                 }
             }
             Reply::Refused(_) => {}

@@ -1,2 +1,3 @@
+pub mod Heads
 pub mod Opening
 pub mod Standing

@@ -7,6 +7,7 @@ use verdicts::Head;
 use verdicts::Place;
 use verdicts::Vector;
 
+pub mod heads;
 pub mod writes;
 
 // What 28 looks at besides the frames.

@@ -6,13 +6,15 @@ ghost use lib.ListN.{set};
 ghost use lib.Seq.{sets};
 ghost use Rattle.laws.specs.Below.{tabulate};
 ghost use Rattle.bits.specs.Member.{member};
+ghost use Rattle.history.specs.Vector.{joined};
 ghost use Rattle.protocol.specs.Edit.{remembered};
 ghost use Rattle.protocol.specs.Model.{freePlace};
-ghost use Rattle.verdicts.specs.Shape.{limits16, at, ringPlace, listOf, openAt, placeFor};
+ghost use Rattle.verdicts.specs.Shape.{limits16, at, ringPlace, listOf, vectorFor, openAt, placeFor};
 ghost use Rattle.parts.specs.Opening.{openAnswer};
 use verdicts::OpenReply;
 use verdicts::Place;
 use verdicts::Reply;
+use verdicts::Vector;
 
 // The vector of a frame, at its place in the ring.
 fn put_frame(entries: &mut [u32; 12288], from: usize, v: [u32; 16])
@@ -26,13 +28,33 @@ fn put_frame(entries: &mut [u32; 12288], from: usize, v: [u32; 16])
     }
 }
 
+// The vector of a decided change, as a card keeps it.
+pub fn vector_of(o: Place) -> Vector
+    ensures { λ r. ⌜ (r .entries ≡ o .vector) × (o .vector ≡ listOf (at (o .vector))) ⌝ }
+{
+    let v = o.vector;
+    let v = vectors::copied(v);
+    Vector { entries: v }
+}
+
+// "A card only read raises its pending entry by entry."
+pub fn raised(pending: Vector, v: Vector) -> Vector
+    ensures { λ r. ⌜ r ≡ vectorFor (joined (at (pending .entries)) (at (v .entries))) ⌝ }
+{
+    let q = pending.entries;
+    let w = v.entries;
+    let j = vectors::join(q, w);
+    Vector { entries: j }
+}
+
 // The vector of state x of card c, at its place in the ring.
-pub fn put_vector(entries: &mut [u32; 12288], c: usize, x: u32, v: [u32; 16])
+pub fn put_vector(entries: &mut [u32; 12288], c: usize, x: u32, v: Vector)
     requires { ⌜ c < 16 ⌝ }
-    ensures { λ r. ⌜ now (entries .exit) ≡ sets (now (entries .entry)) (ringPlace c x * 16) (listOf (at v)) ⌝ }
+    ensures { λ r. ⌜ now (entries .exit) ≡ sets (now (entries .entry)) (ringPlace c x * 16) (listOf (at (v .entries))) ⌝ }
 {
     let place = c * 48 + (x % 48) as usize;
-    put_frame(entries, place * 16, v);
+    let w = v.entries;
+    put_frame(entries, place * 16, w);
 }
 
 // The change that made state x of card c, at its place in the ring.

@@ -5,6 +5,7 @@ use Rattle.bits.specs.Member.{member}
 use Rattle.protocol.specs.Model.{withCard}
 use Rattle.protocol.specs.Calls.{rollChecks, allRolled}
 use Rattle.cabinet.proofs.Call.{whole, carried-done, carried-refused}
+use Rattle.parts.specs.Heads.{upHead}
 use Rattle.cabinet.proofs.Roll.{Rolls, rolls}
 use Rattle.cabinet.proofs.Next.{rollEdits, lowered-next, renewed-next}
 use mathlib.Core.Path.{_≡_, refl, sym, _∙_, ap}
@@ -21,6 +22,7 @@ use Rattle.cabinet.proofs.Cabinet.roll.Tie as tie
 use Rattle.cabinet.proofs.Cabinet.roll.Reads as reads
 use Rattle.cabinet.proofs.Cabinet.roll.Lts as lts
 use Rattle.cabinet.proofs.Cabinet.parts.Reads as parts-reads
+use Rattle.parts.proofs.heads.up.Reads as up-reads
 use Rattle.parts.proofs.is_sound.Reads as is-sound-reads
 use Rattle.recovery.proofs.is_last.Reads as is-last-reads
 use Rattle.recovery.proofs.no_vectors.Reads as no-vectors-reads
@@ -106,16 +108,20 @@ is-last-requires c κs = search needs
 no-vectors-requires : tie.Need-no-vectors-requires
 no-vectors-requires c κs = search needs
 
--- src/recover.rt:140:34
-add-t31 : tie.Need-add-t31
-add-t31 c = let h : _ = facts (c .before .before .before .before .before .before) .room in omega (arith, h)
+-- src/recover.rt:139:47
+add-up : tie.Need-add-up
+add-up c = let h : _ = facts (c .before .before .before .before .before .before) .room in omega (arith, h)
+
+-- src/recover.rt:139:25
+up-requires : tie.Need-up-requires
+up-requires c κs = search needs
 
 enum-told-2 : tie.Need-enum-told-2
 enum-told-2 c = search needs
 
 -- src/recover.rt:115:5
 returns : tie.Need-returns
-returns c = let a : _ = c .before .before .before .before .before .before .before .before .before .before .before .before .before .before .before .args in let s : _ = a .t1 in let cs : List Check = rollChecks limits16 (view s) (a .card) in carried-done s _ cs (rollEdits (a .card) (allRolled limits16 (view s) (withCard (member (s .rolled)) (a .card)))) _ (first (c .before .before .before .before .before .before .before .before)) (c .before .before .before .before .before .before .enum-told .given .1) (renewed-next s (a .card) (allRolled limits16 (view s) (withCard (member (s .rolled)) (a .card))) _ _ (sym (c .before .before .before .is-last .ensures) ∙ c .before .before .if1 .taken) (c .before .no-vectors .ensures) (add-one (s .head .session)))
+returns c = let a : _ = c .before .before .before .before .before .before .before .before .before .before .before .before .before .before .before .before .args in let s : _ = a .t1 in let cs : List Check = rollChecks limits16 (view s) (a .card) in carried-done s _ cs (rollEdits (a .card) (allRolled limits16 (view s) (withCard (member (s .rolled)) (a .card)))) _ (first (c .before .before .before .before .before .before .before .before .before)) (c .before .before .before .before .before .before .before .enum-told .given .1) (renewed-next s (a .card) (allRolled limits16 (view s) (withCard (member (s .rolled)) (a .card))) _ _ (sym (c .before .before .before .before .is-last .ensures) ∙ c .before .before .before .if1 .taken) (c .before .before .no-vectors .ensures) (c .up .ensures ∙ ap (λ (n : ℕ). upHead n (s .head .cards)) (add-one (s .head .session))))
 
 -- src/recover.rt:115:5
 returns-2 : tie.Need-returns-2
@@ -146,7 +152,8 @@ roll-spec =
     rolled-with-requires
     is-last-requires
     no-vectors-requires
-    add-t31
+    add-up
+    up-requires
     enum-told-2
     returns
     returns-2

@@ -1,0 +1,19 @@
+use Prim.Native.Nat.{ℕ}
+use mathlib.Core.Path.{ap}
+use mathlib.Core.List.{List}
+use Rattle.verdicts.specs.declared.Vector.{Vector}
+use borrow.Author.Needs.{needs}
+use Rattle.parts.proofs.writes.raised.Statement.{statement}
+use Rattle.parts.proofs.writes.raised.Tie as tie
+use Rattle.parts.proofs.writes.raised.Reads as reads
+use Rattle.parts.proofs.writes.raised.Lts as lts
+use Rattle.vectors.proofs.join.Reads as join-reads
+
+join-requires : tie.Need-join-requires
+join-requires c κs = search needs
+
+returns : tie.Need-returns
+returns c = let f : List ℕ → Vector = λ l. record { entries = l } in ap f (c .join .ensures)
+
+pub raised-spec : {M : Type 1} → statement M
+raised-spec = tie.close (tie.spec join-requires returns)
