@@ -1,5 +1,5 @@
 -- What a line does: the cabinet that is present after it, where there is one, and the text of its answer; and what the lines of a text do one after the other.
-use Prim.Native.Nat.{ℕ, min}
+use Prim.Native.Nat.{ℕ}
 use mathlib.Core.Path.{_≡_}
 use mathlib.Core.Bool.{Bool, true, false, cond}
 use mathlib.Core.List.{List, [], _++_}
@@ -7,44 +7,18 @@ use Rattle.refusal.specs.declared.Refusal.the-variants.{CardCount}
 use Rattle.decimal.specs.declared.Writing.{Writing}
 use Rattle.decimal.specs.declared.Writing.the-variants.{Next, TooShort}
 use Rattle.protocol.specs.Plan.{Reply, accepted, refused, done}
-use Rattle.protocol.specs.Calls.{freshRefused, storePlan, takePlan, votePlan, withdrawPlan, safePlan, trimPlan, rollPlan}
-use Rattle.protocol.specs.Sheets.{sheetPlan}
-use Rattle.frame.specs.Format.{format}
+use Rattle.protocol.specs.Calls.{freshRefused}
 use Rattle.verdicts.specs.Shape.{limits16}
-use Rattle.cabinet.specs.declared.Cabinet.{Cabinet}
-use Rattle.cabinet.specs.View.{view}
 use Rattle.cabinet.specs.Fresh.{zeroCabinet, freshHead, voidHead}
 use Rattle.words.specs.declared.Request.{Request}
-use Rattle.words.specs.declared.Request.the-variants.{Open, Vote, Take, Withdraw, Store, Trim, Safe, Lose, Fix, Roll, Sheet, Restart, Show}
 use Rattle.words.specs.declared.Spoken.{Spoken}
 use Rattle.words.specs.declared.Spoken.the-variants.{Fresh, Asks, Unreadable}
 use Rattle.words.specs.declared.Heard.the-variants.{Line, End}
-use Rattle.words.specs.Calls.{saysLine, heardAt}
+use Rattle.words.specs.Calls.{heardAt}
 use Rattle.answers.specs.Put.{Put}
 use Rattle.answers.specs.Texts.{replyText, noneText, unreadableText}
-use Rattle.answers.specs.Show.{showText}
 use Rattle.trace.specs.declared.Replay.{Replay}
-use Rattle.trace.specs.Told.{Kept, Planned, OpenTold, LoseTold, FixSaid, RestartTold}
-
--- ---- a call on the present cabinet
-
--- the cabinet after it and the text of its answer
-abbrev pub Told : Cabinet → Request → Cabinet → List ℕ → Type 0
-Told c (Open reads writes) next text = OpenTold c reads writes next text
-Told c (Vote change card agrees) next text = Planned c (votePlan limits16 (view c) change card agrees) next text
-Told c (Take change card) next text = Planned c (takePlan limits16 (view c) change card) next text
-Told c (Withdraw change) next text = Planned c (withdrawPlan limits16 (view c) change) next text
-Told c (Store card state) next text = Planned c (storePlan limits16 (view c) card state) next text
-Told c Trim next text = Planned c (trimPlan limits16 (view c)) next text
-Told c (Safe change) next text = Planned c (safePlan limits16 (view c) change) next text
-Told c (Lose cards) next text = LoseTold c cards next text
--- a readable line lends 776 places at most
-Told c (Fix records numbers) next text = FixSaid c records (min numbers 776) next text
-Told c (Roll card) next text = Planned c (rollPlan limits16 (view c) card) next text
--- a readable line lends 65,536 bytes at most
-Told c (Sheet card bytes) next text = Planned c (sheetPlan format limits16 (view c) card (min bytes 65536)) next text
-Told c Restart next text = RestartTold c next text
-Told c Show next text = Kept c (showText (c .head) (c .base) (c .stored) (c .held) (c .reached)) next text
+use Rattle.asking.specs.Told.{Told}
 
 -- ---- a line
 

@@ -2,22 +2,14 @@
 ghost use mathlib.Core.Path.{_≡_};
 ghost use Rattle.decimal.specs.declared.Writing.the-variants.{Next};
 ghost use Rattle.words.specs.Calls.{saysLine};
-ghost use Rattle.trace.specs.Told.{Written};
-ghost use Rattle.trace.specs.Steps.{Told, Steps, Asked, Freshened, nothingYet, Replayed, Counted};
+ghost use Rattle.asking.specs.Told.{Written};
+ghost use Rattle.trace.specs.Steps.{Steps, Asked, Freshened, nothingYet, Replayed, Counted};
 use cabinet::Cabinet;
 use decimal::Writing;
 use verdicts::Reply;
 use words::Heard;
 use words::Request;
 use words::Spoken;
-
-mod calls;
-
-// The cabinet after a call, and how far the answers are written.
-pub struct Called {
-    pub cabinet: Cabinet,
-    pub written: Writing,
-}
 
 // The present cabinet, and whether there is one.
 pub struct Replay {
@@ -40,31 +32,6 @@ pub fn begin() -> Replay
     Replay {
         cabinet,
         begun: false,
-    }
-}
-
-// A call on the present cabinet.
-fn ask(c: Cabinet, q: Request, b: &mut [u8], w: Writing) -> Called
-    ensures { λ r. ⌜ Written (Told c q (r .cabinet)) (now (b .entry)) w (r .written) (now (b .exit)) ⌝ }
-{
-    match q {
-        Request::Open { reads, writes } => calls::open(c, reads, writes, b, w),
-        Request::Vote {
-            change,
-            card,
-            agrees,
-        } => calls::vote(c, change, card, agrees, b, w),
-        Request::Take { change, card } => calls::take(c, change, card, b, w),
-        Request::Withdraw(change) => calls::withdraw(c, change, b, w),
-        Request::Store { card, state } => calls::store(c, card, state, b, w),
-        Request::Trim => calls::trim(c, b, w),
-        Request::Safe(change) => calls::safe(c, change, b, w),
-        Request::Lose(cards) => calls::lose(c, cards, b, w),
-        Request::Fix { records, numbers } => calls::fix(c, records, numbers, b, w),
-        Request::Roll(card) => calls::roll(c, card, b, w),
-        Request::Sheet { card, bytes } => calls::sheet(c, card, bytes, b, w),
-        Request::Restart => calls::restart(c, b, w),
-        Request::Show => calls::show(c, b, w),
     }
 }
 
@@ -95,7 +62,7 @@ fn request(r: Replay, q: Request, b: &mut [u8], w: Writing) -> Stepped
     let begun = r.begun;
     if begun {
         let c = r.cabinet;
-        let a = ask(c, q, b, w);
+        let a = asking::ask(c, q, b, w);
         let cabinet = a.cabinet;
         let written = a.written;
         let replay = Replay {

@@ -1,7 +1,8 @@
 -- `trace::obey` does what a line says. Assumes nothing.
 use Rattle.words.specs.declared.Spoken.{Spoken}
 use Rattle.trace.specs.Steps.{Steps}
-use Rattle.trace.proofs.Laws.{told-for, stays}
+use Rattle.asking.proofs.Laws.{told-for}
+use Rattle.trace.proofs.Laws.{stays}
 use borrow.Author.Needs.{needs}
 use Rattle.trace.proofs.obey.Statement.{statement}
 use Rattle.trace.proofs.obey.Tie as tie

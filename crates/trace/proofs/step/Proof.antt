@@ -2,7 +2,7 @@
 use mathlib.Core.Path.{sym}
 use Rattle.words.specs.declared.Spoken.{Spoken}
 use Rattle.trace.specs.Steps.{Steps}
-use Rattle.trace.proofs.Laws.{told-for}
+use Rattle.asking.proofs.Laws.{told-for}
 use borrow.Author.Needs.{needs}
 use Rattle.trace.proofs.step.Statement.{statement}
 use Rattle.trace.proofs.step.Tie as tie

@@ -1,0 +1,83 @@
+-- Laws of the calls of a list. Assumes nothing.
+use Prim.Native.Nat.{ℕ, _≤_}
+use mathlib.Core.Path.{_≡_, refl, sym, _∙_, ap, subst}
+use mathlib.Core.List.{List}
+use lib.ListN.{length, take}
+use Rattle.decimal.specs.declared.Writing.{Writing}
+use Rattle.protocol.specs.Plan.{Plan, Reply}
+use Rattle.protocol.specs.Calls.{fixPlan}
+use Rattle.protocol.specs.Sheets.{sheetPlan}
+use Rattle.frame.specs.Format.{format}
+use Rattle.write.specs.declared.Written as sheets
+use Rattle.card_sheet.specs.Card.{sheetReplyOf}
+use Rattle.verdicts.specs.Shape.{limits16}
+use Rattle.recovery.specs.declared.FixReply.{FixReply}
+use Rattle.recovery.specs.Fix.{fixReplyOf}
+use Rattle.cabinet.specs.declared.Cabinet.{Cabinet}
+use Rattle.cabinet.specs.View.{view}
+use Rattle.cabinet.specs.Apply.{applyAll, Carried, OpenCarried}
+use Rattle.cabinet.specs.Fixing.{FixCarried}
+use Rattle.cabinet.specs.Writing.{SheetCarried}
+use Rattle.joined.specs.Joined.{FromOwnSheets}
+use Rattle.answers.specs.Put.{Put}
+use Rattle.answers.specs.Texts.{replyText}
+use Rattle.asking.specs.Told.{Written, Kept, Planned, OpenTold, openWithin, FixSaid, RestartTold}
+
+module _ {b : List ℕ} {w r : Writing} {e : List ℕ} where
+  -- a call that has a plan
+  pub by-plan : {c : Cabinet} {p : Plan} {q : Reply} {next : Cabinet} → Carried c p q next → Put b w (replyText q) r e → Written (Planned c p next) b w r e
+  by-plan {c} {p} {q} {next} k u = record { text = replyText q; told = record { cabinet = k .cabinet; answer = ap replyText (k .answer) }; put = u }
+
+  -- one that changes nothing
+  pub kept : (c : Cabinet) {t : List ℕ} → Put b w t r e → Written (Kept c t c) b w r e
+  kept c {t} u = record { text = t; told = record { cabinet = refl; answer = refl }; put = u }
+
+  -- the same text, told otherwise
+  pub told-as : {S T : List ℕ → Type 0} → ((t : List ℕ) → S t → T t) → Written S b w r e → Written T b w r e
+  told-as f u = record { text = u .text; told = f (u .text) (u .told); put = u .put }
+
+  pub opened-by : {c : Cabinet} {reads writes : ℕ} {q : Reply} {next : Cabinet} → reads ≤ 65535 → writes ≤ 65535 → OpenCarried c reads writes q next → Put b w (replyText q) r e → Written (OpenTold c reads writes next) b w r e
+  opened-by {q = q} h l k u = record { text = replyText q; told = openWithin h l q k refl; put = u }
+
+  -- fix, which was lent so many places at the front of a list: after it they hold what it left there
+  pub fixed-by : {c : Cabinet} {records : ℕ} {before after stored line : List ℕ} {q : FixReply} {next : Cabinet} (places numbers : ℕ) (whole : List ℕ)
+      → FixCarried c records before after stored line q next → length before ≡ numbers → take places whole ≡ after
+      → Put b w (replyText (fixReplyOf (c .head .cards) stored line (take places whole) q)) r e → Written (FixSaid c records numbers next) b w r e
+  fixed-by {c} {records} {before} {after} {stored} {line} {q} {next} places numbers whole f size left u =
+      record {
+        text = replyText (fixReplyOf (c .head .cards) stored line (take places whole) q);
+        told = record {
+          lost = f .told .lost;
+          once = f .told .once;
+          planned = record {
+            cabinet = f .cabinet ∙ ap (λ (n : ℕ). applyAll (fixPlan limits16 (view c) records n (f .told .lost) .edits) c) size;
+            answer = ap replyText
+                (ap (λ (l : List ℕ). fixReplyOf (c .head .cards) stored line l q) left ∙ f .told .answer
+                ∙ ap (λ (n : ℕ). fixPlan limits16 (view c) records n (f .told .lost) .reply) size);
+          };
+        };
+        put = u;
+      }
+
+  -- sheet writing, which was lent so many bytes at the front of a buffer
+  pub sheet-by : {c : Cabinet} {card : ℕ} {before after : List ℕ} {q : sheets.Written} {next : Cabinet} (places bytes : ℕ) (whole : List ℕ)
+      → SheetCarried c card before after q next → length before ≡ bytes → take places whole ≡ after
+      → Put b w (replyText (sheetReplyOf (take places whole) q)) r e → Written (Planned c (sheetPlan format limits16 (view c) card bytes) next) b w r e
+  sheet-by {c} {card} {before} {after} {q} {next} places bytes whole f size left u =
+      record {
+        text = replyText (sheetReplyOf (take places whole) q);
+        told = record {
+          cabinet = f .cabinet ∙ ap (λ (n : ℕ). applyAll (sheetPlan format limits16 (view c) card n .edits) c) size;
+          answer = ap replyText
+              (ap (λ (l : List ℕ). sheetReplyOf l q) left ∙ f .told .answer
+              ∙ ap (λ (n : ℕ). sheetPlan format limits16 (view c) card n .reply) size);
+        };
+        put = u;
+      }
+
+  pub restarted-by : {c : Cabinet} {q : Reply} {next : Cabinet} → FromOwnSheets c q next → Put b w (replyText q) r e → Written (RestartTold c next) b w r e
+  restarted-by {q = q} k u = record { text = replyText q; told = record { reply = q; restarted = k; answer = refl }; put = u }
+
+  -- what was asked or said, known by another name
+  pub told-for : {A : Type 0} (P : A → List ℕ → Type 0) {q k : A} → q ≡ k → Written (P k) b w r e → Written (P q) b w r e
+  told-for P z u = subst (λ x. Written (P x) b w r e) (sym z) u

@@ -1,0 +1,20 @@
+-- `asking::calls::store` calls store and writes its answer. Assumes nothing.
+use Rattle.asking.proofs.Laws.{by-plan}
+use borrow.Author.Needs.{needs}
+use Rattle.asking.proofs.calls.store.Statement.{statement}
+use Rattle.asking.proofs.calls.store.Tie as tie
+
+store-requires : tie.Need-store-requires
+store-requires c κs = search needs
+
+put-reply-requires : tie.Need-put-reply-requires
+put-reply-requires c κs = search needs
+
+same-length : tie.Need-same-length
+same-length c = search needs
+
+returns : tie.Need-returns
+returns c = by-plan (c .before .before .before .before .before .store .ensures) (c .before .before .before .put-reply .ensures)
+
+pub store-spec : {M : Type 1} → statement M
+store-spec = tie.close (tie.spec store-requires put-reply-requires same-length returns)

@@ -1,0 +1,80 @@
+-- What a call of a list does to the present cabinet, and the text of its answer.
+use Prim.Native.Nat.{ℕ, _<_, _≤_, min}
+use mathlib.Core.Path.{_≡_}
+use mathlib.Core.List.{List}
+use Rattle.laws.specs.Below.{occurs, one-if}
+use Rattle.bits.specs.Member.{member}
+use Rattle.refusal.specs.declared.Refusal.the-variants.{NoSuchCard}
+use Rattle.decimal.specs.declared.Writing.{Writing}
+use Rattle.protocol.specs.Plan.{Plan, Reply}
+use Rattle.protocol.specs.Calls.{storePlan, takePlan, votePlan, withdrawPlan, safePlan, trimPlan, rollPlan, losePlan, fixPlan, isLost}
+use Rattle.protocol.specs.Sheets.{sheetPlan}
+use Rattle.frame.specs.Format.{format}
+use Rattle.verdicts.specs.Shape.{limits16}
+use Rattle.cabinet.specs.declared.Cabinet.{Cabinet}
+use Rattle.cabinet.specs.View.{view}
+use Rattle.cabinet.specs.Apply.{applyAll, OpenCarried}
+use Rattle.joined.specs.Joined.{FromOwnSheets}
+use Rattle.words.specs.declared.Request.{Request}
+use Rattle.words.specs.declared.Request.the-variants.{Open, Vote, Take, Withdraw, Store, Trim, Safe, Lose, Fix, Roll, Sheet, Restart, Show}
+use Rattle.answers.specs.Put.{Put}
+use Rattle.answers.specs.Texts.{refusedText, replyText}
+use Rattle.answers.specs.Show.{showText}
+
+-- the text of some answer, written into the buffer b from w on
+pub record Written (Told : List ℕ → Type 0) (b : List ℕ) (w r : Writing) (e : List ℕ) : Type 0 where
+  pub text : List ℕ
+  pub told : Told text
+  pub put : Put b w text r e
+
+-- the cabinet stays, and the text is this
+pub record Kept (c : Cabinet) (t : List ℕ) (next : Cabinet) (text : List ℕ) : Type 0 where
+  pub cabinet : next ≡ c
+  pub answer : text ≡ t
+
+-- a call with a plan: the edits, applied, and the text of the reply
+pub record Planned (c : Cabinet) (p : Plan) (next : Cabinet) (text : List ℕ) : Type 0 where
+  pub cabinet : next ≡ applyAll (p .edits) c
+  pub answer : text ≡ replyText (p .reply)
+
+-- "A set over 65535 or a card over 15 names a card that no cabinet has: `refused 2`"
+pub data OpenTold (c : Cabinet) (reads writes : ℕ) (next : Cabinet) (text : List ℕ) : Type 0 where
+  readsBeyond : 65535 < reads → Kept c (refusedText NoSuchCard) next text → OpenTold c reads writes next text
+  writesBeyond : 65535 < writes → Kept c (refusedText NoSuchCard) next text → OpenTold c reads writes next text
+  openWithin : reads ≤ 65535 → writes ≤ 65535 → (q : Reply) → OpenCarried c reads writes q next → text ≡ replyText q → OpenTold c reads writes next text
+
+pub data LoseTold (c : Cabinet) (cards : ℕ) (next : Cabinet) (text : List ℕ) : Type 0 where
+  setBeyond : 65535 < cards → Kept c (refusedText NoSuchCard) next text → LoseTold c cards next text
+  lostWithin : cards ≤ 65535 → Planned c (losePlan limits16 (view c) (member cards)) next text → LoseTold c cards next text
+
+-- fix, with so many places for card records and change numbers: for some list with each lost change once, by its plan
+pub record FixSaid (c : Cabinet) (records numbers : ℕ) (next : Cabinet) (text : List ℕ) : Type 0 where
+  pub lost : List ℕ
+  pub once : (k : ℕ) → occurs k lost ≡ one-if (isLost limits16 (view c) k)
+  pub planned : Planned c (fixPlan limits16 (view c) records numbers lost) next text
+
+-- "the sheets of all cards as this cabinet writes them, joined, restart: the result takes the present cabinet's place"
+pub record RestartTold (c next : Cabinet) (text : List ℕ) : Type 0 where
+  pub reply : Reply
+  pub restarted : FromOwnSheets c reply next
+  pub answer : text ≡ replyText reply
+
+-- ---- a call on the present cabinet
+
+-- the cabinet after it and the text of its answer
+abbrev pub Told : Cabinet → Request → Cabinet → List ℕ → Type 0
+Told c (Open reads writes) next text = OpenTold c reads writes next text
+Told c (Vote change card agrees) next text = Planned c (votePlan limits16 (view c) change card agrees) next text
+Told c (Take change card) next text = Planned c (takePlan limits16 (view c) change card) next text
+Told c (Withdraw change) next text = Planned c (withdrawPlan limits16 (view c) change) next text
+Told c (Store card state) next text = Planned c (storePlan limits16 (view c) card state) next text
+Told c Trim next text = Planned c (trimPlan limits16 (view c)) next text
+Told c (Safe change) next text = Planned c (safePlan limits16 (view c) change) next text
+Told c (Lose cards) next text = LoseTold c cards next text
+-- a readable line lends 776 places at most
+Told c (Fix records numbers) next text = FixSaid c records (min numbers 776) next text
+Told c (Roll card) next text = Planned c (rollPlan limits16 (view c) card) next text
+-- a readable line lends 65,536 bytes at most
+Told c (Sheet card bytes) next text = Planned c (sheetPlan format limits16 (view c) card (min bytes 65536)) next text
+Told c Restart next text = RestartTold c next text
+Told c Show next text = Kept c (showText (c .head) (c .base) (c .stored) (c .held) (c .reached)) next text

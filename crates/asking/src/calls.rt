@@ -1,0 +1,210 @@
+// The calls of a list on the present cabinet, each with its answer written.
+ghost use Prim.Native.Nat.{min};
+ghost use mathlib.Core.Path.{_≡_};
+ghost use lib.ListN.{length};
+ghost use Rattle.refusal.specs.declared.Refusal.the-variants.{NoSuchCard};
+ghost use Rattle.protocol.specs.Calls.{storePlan, takePlan, votePlan, withdrawPlan, safePlan, trimPlan, rollPlan};
+ghost use Rattle.protocol.specs.Sheets.{sheetPlan};
+ghost use Rattle.frame.specs.Format.{format};
+ghost use Rattle.verdicts.specs.Shape.{limits16};
+ghost use Rattle.cabinet.specs.View.{view};
+ghost use Rattle.answers.specs.Texts.{refusedText};
+ghost use Rattle.answers.specs.Show.{showText};
+ghost use Rattle.asking.specs.Told.{Planned, OpenTold, LoseTold, FixSaid, RestartTold, Kept, Written};
+use crate::Called;
+use cabinet::Cabinet;
+use decimal::Writing;
+use refusal::Refusal;
+
+// The call is refused for a card that no cabinet has.
+fn no_such_card(c: Cabinet, b: &mut [u8], w: Writing) -> Called
+    ensures { λ r. ⌜ Written (Kept c (refusedText NoSuchCard) (r .cabinet)) (now (b .entry)) w (r .written) (now (b .exit)) ⌝ }
+{
+    let written = answers::put_refusal(b, w, Refusal::NoSuchCard);
+    Called {
+        cabinet: c,
+        written,
+    }
+}
+
+pub fn open(c: Cabinet, reads: u32, writes: u32, b: &mut [u8], w: Writing) -> Called
+    ensures { λ r. ⌜ Written (OpenTold c reads writes (r .cabinet)) (now (b .entry)) w (r .written) (now (b .exit)) ⌝ }
+{
+    if 65535 < reads {
+        return no_such_card(c, b, w);
+    }
+    if 65535 < writes {
+        return no_such_card(c, b, w);
+    }
+    let a = c.open(reads as u16, writes as u16);
+    let r = a.reply;
+    let written = answers::put_open(b, w, r);
+    let cabinet = a.cabinet;
+    Called { cabinet, written }
+}
+
+pub fn vote(c: Cabinet, change: u32, card: u32, agrees: bool, b: &mut [u8], w: Writing) -> Called
+    ensures { λ r. ⌜ Written (Planned c (votePlan limits16 (view c) change card agrees) (r .cabinet)) (now (b .entry)) w (r .written) (now (b .exit)) ⌝ }
+{
+    let a = c.vote(change, card, agrees);
+    let r = a.reply;
+    let written = answers::put_reply(b, w, r);
+    let cabinet = a.cabinet;
+    Called { cabinet, written }
+}
+
+pub fn take(c: Cabinet, change: u32, card: u32, b: &mut [u8], w: Writing) -> Called
+    ensures { λ r. ⌜ Written (Planned c (takePlan limits16 (view c) change card) (r .cabinet)) (now (b .entry)) w (r .written) (now (b .exit)) ⌝ }
+{
+    let a = c.take(change, card);
+    let r = a.reply;
+    let written = answers::put_reply(b, w, r);
+    let cabinet = a.cabinet;
+    Called { cabinet, written }
+}
+
+pub fn withdraw(c: Cabinet, change: u32, b: &mut [u8], w: Writing) -> Called
+    ensures { λ r. ⌜ Written (Planned c (withdrawPlan limits16 (view c) change) (r .cabinet)) (now (b .entry)) w (r .written) (now (b .exit)) ⌝ }
+{
+    let a = c.withdraw(change);
+    let r = a.reply;
+    let written = answers::put_reply(b, w, r);
+    let cabinet = a.cabinet;
+    Called { cabinet, written }
+}
+
+pub fn store(c: Cabinet, card: u32, state: u32, b: &mut [u8], w: Writing) -> Called
+    ensures { λ r. ⌜ Written (Planned c (storePlan limits16 (view c) card state) (r .cabinet)) (now (b .entry)) w (r .written) (now (b .exit)) ⌝ }
+{
+    let a = c.store(card, state);
+    let r = a.reply;
+    let written = answers::put_reply(b, w, r);
+    let cabinet = a.cabinet;
+    Called { cabinet, written }
+}
+
+pub fn trim(c: Cabinet, b: &mut [u8], w: Writing) -> Called
+    ensures { λ r. ⌜ Written (Planned c (trimPlan limits16 (view c)) (r .cabinet)) (now (b .entry)) w (r .written) (now (b .exit)) ⌝ }
+{
+    let a = c.trim();
+    let r = a.reply;
+    let written = answers::put_reply(b, w, r);
+    let cabinet = a.cabinet;
+    Called { cabinet, written }
+}
+
+pub fn safe(c: Cabinet, change: u32, b: &mut [u8], w: Writing) -> Called
+    ensures { λ r. ⌜ Written (Planned c (safePlan limits16 (view c) change) (r .cabinet)) (now (b .entry)) w (r .written) (now (b .exit)) ⌝ }
+{
+    let a = c.safe(change);
+    let r = a.reply;
+    let written = answers::put_safe(b, w, r);
+    let cabinet = a.cabinet;
+    Called { cabinet, written }
+}
+
+pub fn lose(c: Cabinet, cards: u32, b: &mut [u8], w: Writing) -> Called
+    ensures { λ r. ⌜ Written (LoseTold c cards (r .cabinet)) (now (b .entry)) w (r .written) (now (b .exit)) ⌝ }
+{
+    if 65535 < cards {
+        return no_such_card(c, b, w);
+    }
+    let a = c.lose(cards as u16);
+    let r = a.reply;
+    let written = answers::put_reply(b, w, r);
+    let cabinet = a.cabinet;
+    Called { cabinet, written }
+}
+
+// How many places for change numbers are lent: at most 776.
+fn lent_places(numbers: u32) -> usize
+    ensures { λ r. ⌜ r ≡ min numbers 776 ⌝ }
+{
+    if numbers < 776 { numbers as usize } else { 776 }
+}
+
+// A list for change numbers.
+fn blank_list() -> [u32; 776]
+    ensures { λ r. ⌜ length r ≡ 776 ⌝ }
+{
+    [0; 776]
+}
+
+pub fn fix(c: Cabinet, records: u32, numbers: u32, b: &mut [u8], w: Writing) -> Called
+    ensures { λ r. ⌜ Written (FixSaid c records (min numbers 776) (r .cabinet)) (now (b .entry)) w (r .written) (now (b .exit)) ⌝ }
+{
+    let head = c.head;
+    let cards = head.cards;
+    let mut list = blank_list();
+    let places = lent_places(numbers);
+    let a = c.fix(records as usize, &mut list[0..places]);
+    let r = a.reply;
+    let stored = a.stored;
+    let line = a.line;
+    let written = answers::put_fix(b, w, cards, stored, line, list, places, r);
+    let cabinet = a.cabinet;
+    Called { cabinet, written }
+}
+
+pub fn roll(c: Cabinet, card: u32, b: &mut [u8], w: Writing) -> Called
+    ensures { λ r. ⌜ Written (Planned c (rollPlan limits16 (view c) card) (r .cabinet)) (now (b .entry)) w (r .written) (now (b .exit)) ⌝ }
+{
+    let a = c.roll(card);
+    let r = a.reply;
+    let written = answers::put_reply(b, w, r);
+    let cabinet = a.cabinet;
+    Called { cabinet, written }
+}
+
+// How many bytes of a buffer for a sheet are lent: at most 65,536.
+fn lent_bytes(bytes: u32) -> usize
+    ensures { λ r. ⌜ r ≡ min bytes 65536 ⌝ }
+{
+    if bytes < 65536 { bytes as usize } else { 65536 }
+}
+
+// A buffer for a sheet.
+fn blank_buffer() -> [u8; 65536]
+    ensures { λ r. ⌜ length r ≡ 65536 ⌝ }
+{
+    [0; 65536]
+}
+
+pub fn sheet(c: Cabinet, card: u32, bytes: u32, b: &mut [u8], w: Writing) -> Called
+    ensures { λ r. ⌜ Written (Planned c (sheetPlan format limits16 (view c) card (min bytes 65536)) (r .cabinet)) (now (b .entry)) w (r .written) (now (b .exit)) ⌝ }
+{
+    let mut buffer = blank_buffer();
+    let places = lent_bytes(bytes);
+    let a = c.sheet(card, &mut buffer[0..places]);
+    let r = a.reply;
+    let written = answers::put_sheet(b, w, &buffer, places, r);
+    let cabinet = a.cabinet;
+    Called { cabinet, written }
+}
+
+// The result takes the cabinet's place.
+pub fn restart(c: Cabinet, b: &mut [u8], w: Writing) -> Called
+    ensures { λ r. ⌜ Written (RestartTold c (r .cabinet)) (now (b .entry)) w (r .written) (now (b .exit)) ⌝ }
+{
+    let a = joined::restart(c);
+    let r = a.reply;
+    let written = answers::put_reply(b, w, r);
+    let cabinet = a.cabinet;
+    Called { cabinet, written }
+}
+
+// What the cabinet is.
+pub fn show(c: Cabinet, b: &mut [u8], w: Writing) -> Called
+    ensures { λ r. ⌜ Written (Kept c (showText (c .head) (c .base) (c .stored) (c .held) (c .reached)) (r .cabinet)) (now (b .entry)) w (r .written) (now (b .exit)) ⌝ }
+{
+    let head = c.head;
+    let base = c.base;
+    let stored = c.stored;
+    let held = c.held;
+    let reached = c.reached;
+    let written = answers::put_show(b, w, head, base, stored, held, reached);
+    Called {
+        cabinet: c,
+        written,
+    }
+}
