@@ -7,7 +7,7 @@ use Rattle.verdicts.specs.declared.Phase.{Phase}
 use Rattle.verdicts.specs.declared.Phase.the-variants.{Up, Down, Rolling}
 use Rattle.verdicts.specs.declared.Head.{Head}
 use Rattle.verdicts.specs.Shape.{limits16, at, presentOf}
-use Rattle.answers.specs.Texts.{spaced, lineOf}
+use Rattle.text.specs.Lines.{spaced, lineOf}
 
 abbrev pub sessionWord : List ℕ
 sessionWord = 115 ∷ 101 ∷ 115 ∷ 115 ∷ 105 ∷ 111 ∷ 110 ∷ []

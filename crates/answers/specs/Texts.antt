@@ -6,21 +6,11 @@ use Rattle.decimal.specs.Digits.{decimal}
 use Rattle.refusal.specs.declared.Refusal.{Refusal}
 use Rattle.refusal.specs.declared.Refusal.the-variants.{CardCount, NoSuchCard, BothSetsEmpty, TooShort, BadLine, BadCheck, BadHeader, EndOrMore, BadFrame, TwoVectors, SessionsApart, TooLong, WrongPhase, Barred, NoPlace, InHandFull, LimitReached, NotAwaited, AlreadyDecided, StoreOutside, BadCabinet, NotDecided, AlreadyRolled}
 use Rattle.refusal.specs.Number.{numberOf}
+use Rattle.text.specs.Lines.{lineOf}
 use Rattle.answers.specs.declared.Named.{Named}
 use Rattle.answers.specs.declared.Named.the-variants.{Card, NoCard}
 use Rattle.recovery.specs.Fix.{rowsOf}
 use Rattle.protocol.specs.Plan.{CardRow, Answer, done, opened, safe, unsafe, fixed, written, Reply, accepted, refused}
-
--- ---- lines
-
--- numbers, each after a space
-abbrev pub spaced : List ℕ → List ℕ
-spaced [] = []
-spaced (n ∷ ns) = 32 ∷ (decimal n ++ spaced ns)
-
--- a word, numbers after it, and byte 10
-abbrev pub lineOf : List ℕ → List ℕ → List ℕ
-lineOf word ns = word ++ (spaced ns ++ (10 ∷ []))
 
 -- ---- the words, as bytes
 

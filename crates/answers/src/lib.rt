@@ -1,18 +1,17 @@
 // How the answers to a list of calls are written: lines of text into a lent buffer, cut off where the buffer ends.
-ghost use Prim.Native.Nat.{_-_, _≤_, min};
+ghost use Prim.Native.Nat.{min};
 ghost use mathlib.Core.Bool.{cond};
 ghost use mathlib.Core.List.{[], _∷_, _++_};
 ghost use lib.Dec.{ltb};
 ghost use mathlib.Core.Path.{_≡_};
-ghost use lib.ListN.{length, take};
-ghost use lib.Seq.{sets};
+ghost use lib.ListN.{take};
 ghost use Rattle.decimal.specs.Digits.{decimal};
-ghost use Rattle.decimal.specs.declared.Writing.the-variants.{Next};
 ghost use Rattle.verdicts.specs.Answers.{replyOf, openReplyOf, safeReplyOf};
 ghost use Rattle.recovery.specs.Fix.{rowsOf, fixReplyOf};
 ghost use Rattle.card_sheet.specs.Card.{sheetReplyOf};
-ghost use Rattle.answers.specs.Put.{Put};
-ghost use Rattle.answers.specs.Texts.{spaced, lineOf, namedBy, rowsText, fixedText, refusedText, replyText, noneText, unreadableText, rowCount, sheetWord};
+ghost use Rattle.text.specs.Put.{Put};
+ghost use Rattle.text.specs.Lines.{lineOf};
+ghost use Rattle.answers.specs.Texts.{namedBy, rowsText, fixedText, refusedText, replyText, noneText, unreadableText, rowCount, sheetWord};
 ghost use Rattle.answers.specs.Show.{phaseName, headText, cardsText, showText};
 use decimal::Writing;
 use recovery::FixReply;
@@ -30,103 +29,18 @@ enum Named {
     NoCard,
 }
 
-// Stores the first bytes of a text.
-fn fill(b: &mut [u8], at: usize, text: &[u8], count: usize)
-    requires { ⌜ (count ≤ length (now b) - at) × (count ≤ length (now text)) ⌝ }
-    ensures { λ _. ⌜ now (b .exit) ≡ sets (now (b .entry)) at (take count (now (text .entry))) ⌝ }
-{
-    let mut i = 0;
-    while i < count {
-        b[at + i] = text[i];
-        i += 1;
-    }
-}
-
-// How many bytes a buffer has from a place on.
-fn room_from(size: usize, at: usize) -> usize
-    ensures { λ r. ⌜ r ≡ size - at ⌝ }
-{
-    if size < at { 0 } else { size - at }
-}
-
-// Writes a text from a place on.
-fn put_at(b: &mut [u8], at: usize, text: &[u8]) -> Writing
-    ensures { λ r. ⌜ Put (now (b .entry)) (Next at) (now (text .entry)) r (now (b .exit)) ⌝ }
-{
-    let room = room_from(b.len(), at);
-    let count = text.len();
-    if room < count {
-        fill(b, at, text, room);
-        return Writing::TooShort;
-    }
-    fill(b, at, text, count);
-    Writing::Next(at + count)
-}
-
-// Writes a text after what is written already.
-fn put(b: &mut [u8], w: Writing, text: &[u8]) -> Writing
-    ensures { λ r. ⌜ Put (now (b .entry)) w (now (text .entry)) r (now (b .exit)) ⌝ }
-{
-    match w {
-        Writing::Next(at) => put_at(b, at, text),
-        Writing::TooShort => Writing::TooShort,
-    }
-}
-
-// Writes a number.
-fn put_number(b: &mut [u8], w: Writing, n: u32) -> Writing
-    ensures { λ r. ⌜ Put (now (b .entry)) w (decimal n) r (now (b .exit)) ⌝ }
-{
-    let mut digits = [0u8; 10];
-    let count = decimal::width(n);
-    decimal::write(&mut digits, 0, n);
-    put(b, w, &digits[0..count])
-}
-
-// Writes numbers, each after a space.
-fn put_numbers(b: &mut [u8], w: Writing, numbers: &[u32]) -> Writing
-    ensures { λ r. ⌜ Put (now (b .entry)) w (spaced (now (numbers .entry))) r (now (b .exit)) ⌝ }
-{
-    let mut at = w;
-    let mut i = 0;
-    while i < numbers.len() {
-        at = put(b, at, b" ");
-        at = put_number(b, at, numbers[i]);
-        i += 1;
-    }
-    at
-}
-
-// Writes a line: a word, and numbers after it.
-fn put_line(b: &mut [u8], w: Writing, word: &[u8], numbers: &[u32]) -> Writing
-    ensures { λ r. ⌜ Put (now (b .entry)) w (lineOf (now (word .entry)) (now (numbers .entry))) r (now (b .exit)) ⌝ }
-{
-    let w = put(b, w, word);
-    let w = put_numbers(b, w, numbers);
-    put(b, w, b"\n")
-}
-
-// Writes a line of numbers alone: a card's, and others after it.
-fn put_row(b: &mut [u8], w: Writing, card: u32, numbers: &[u32]) -> Writing
-    ensures { λ r. ⌜ Put (now (b .entry)) w (lineOf (decimal card) (now (numbers .entry))) r (now (b .exit)) ⌝ }
-{
-    let w = put_number(b, w, card);
-    let w = put_numbers(b, w, numbers);
-    put(b, w, b"\n")
-}
-
 // Before the first cabinet.
 pub fn put_none(b: &mut [u8], w: Writing) -> Writing
     ensures { λ r. ⌜ Put (now (b .entry)) w noneText r (now (b .exit)) ⌝ }
 {
-    put(b, w, b"none\n")
+    text::put(b, w, b"none\n")
 }
 
 // A line that is no call.
 pub fn put_unreadable(b: &mut [u8], w: Writing) -> Writing
     ensures { λ r. ⌜ Put (now (b .entry)) w unreadableText r (now (b .exit)) ⌝ }
 {
-    put(b, w, b"unreadable\n")
+    text::put(b, w, b"unreadable\n")
 }
 
 // The card that a refusal names.
@@ -169,11 +83,11 @@ pub fn put_refusal(b: &mut [u8], w: Writing, q: Refusal) -> Writing
     match named {
         Named::Card(card) => {
             let both = [n, card];
-            put_line(b, w, b"refused", &both)
+            text::put_line(b, w, b"refused", &both)
         }
         Named::NoCard => {
             let alone = [n];
-            put_line(b, w, b"refused", &alone)
+            text::put_line(b, w, b"refused", &alone)
         }
     }
 }
@@ -183,7 +97,7 @@ pub fn put_reply(b: &mut [u8], w: Writing, r: Reply) -> Writing
     ensures { λ x. ⌜ Put (now (b .entry)) w (replyText (replyOf r)) x (now (b .exit)) ⌝ }
 {
     match r {
-        Reply::Done => put(b, w, b"ok\n"),
+        Reply::Done => text::put(b, w, b"ok\n"),
         Reply::Refused(q) => put_refusal(b, w, q),
     }
 }
@@ -195,7 +109,7 @@ pub fn put_open(b: &mut [u8], w: Writing, r: OpenReply) -> Writing
     match r {
         OpenReply::Opened(k) => {
             let change = [k];
-            put_line(b, w, b"change", &change)
+            text::put_line(b, w, b"change", &change)
         }
         OpenReply::NotOpened(q) => put_refusal(b, w, q),
     }
@@ -206,8 +120,8 @@ pub fn put_safe(b: &mut [u8], w: Writing, r: SafeReply) -> Writing
     ensures { λ x. ⌜ Put (now (b .entry)) w (replyText (safeReplyOf r)) x (now (b .exit)) ⌝ }
 {
     match r {
-        SafeReply::Safe => put(b, w, b"safe\n"),
-        SafeReply::Unsafe => put(b, w, b"unsafe\n"),
+        SafeReply::Safe => text::put(b, w, b"safe\n"),
+        SafeReply::Unsafe => text::put(b, w, b"unsafe\n"),
         SafeReply::Unknown(q) => put_refusal(b, w, q),
     }
 }
@@ -217,7 +131,7 @@ fn put_card(b: &mut [u8], w: Writing, cards: u32, card: u32, numbers: &[u32]) ->
     ensures { λ x. ⌜ Put (now (b .entry)) w (cond (ltb card cards) (lineOf (decimal card) (now (numbers .entry))) []) x (now (b .exit)) ⌝ }
 {
     if card < cards {
-        return put_row(b, w, card, numbers);
+        return text::put_row(b, w, card, numbers);
     }
     w
 }
@@ -257,9 +171,9 @@ fn put_fixed(
     ensures { λ x. ⌜ Put (now (b .entry)) w (fixedText cards stored line (now (lost .entry)) count) x (now (b .exit)) ⌝ }
 {
     let counts = [row_count(cards), count];
-    let w = put_line(b, w, b"fixed", &counts);
+    let w = text::put_line(b, w, b"fixed", &counts);
     let w = put_rows(b, w, cards, stored, line);
-    put_line(b, w, b"lost", lost)
+    text::put_line(b, w, b"lost", lost)
 }
 
 // The lesser of two numbers.
@@ -297,8 +211,8 @@ fn put_bytes(b: &mut [u8], w: Writing, bytes: &[u8], count: u32) -> Writing
     ensures { λ x. ⌜ Put (now (b .entry)) w (lineOf sheetWord (count ∷ []) ++ now (bytes .entry)) x (now (b .exit)) ⌝ }
 {
     let length = [count];
-    let w = put_line(b, w, b"sheet", &length);
-    put(b, w, bytes)
+    let w = text::put_line(b, w, b"sheet", &length);
+    text::put(b, w, bytes)
 }
 
 // The answer of sheet writing, which was lent so many bytes of the buffer: the first of them hold the sheet.
@@ -327,9 +241,9 @@ fn put_phase(b: &mut [u8], w: Writing, phase: Phase) -> Writing
     ensures { λ x. ⌜ Put (now (b .entry)) w (phaseName phase) x (now (b .exit)) ⌝ }
 {
     match phase {
-        Phase::Up => put(b, w, b"up"),
-        Phase::Down => put(b, w, b"down"),
-        Phase::Rolling => put(b, w, b"rolling"),
+        Phase::Up => text::put(b, w, b"up"),
+        Phase::Down => text::put(b, w, b"down"),
+        Phase::Rolling => text::put(b, w, b"rolling"),
     }
 }
 
@@ -340,12 +254,12 @@ fn put_head(b: &mut [u8], w: Writing, head: Head) -> Writing
     let session = [head.session];
     let cards = [head.cards];
     let phase = head.phase;
-    let w = put(b, w, b"session");
-    let w = put_numbers(b, w, &session);
-    let w = put(b, w, b" ");
+    let w = text::put(b, w, b"session");
+    let w = text::put_numbers(b, w, &session);
+    let w = text::put(b, w, b" ");
     let w = put_phase(b, w, phase);
-    let w = put(b, w, b" ");
-    put_line(b, w, b"cards", &cards)
+    let w = text::put(b, w, b" ");
+    text::put_line(b, w, b"cards", &cards)
 }
 
 // The lines of the cards.

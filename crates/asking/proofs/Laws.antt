@@ -19,7 +19,7 @@ use Rattle.cabinet.specs.Apply.{applyAll, Carried, OpenCarried}
 use Rattle.cabinet.specs.Fixing.{FixCarried}
 use Rattle.cabinet.specs.Writing.{SheetCarried}
 use Rattle.joined.specs.Joined.{FromOwnSheets}
-use Rattle.answers.specs.Put.{Put}
+use Rattle.text.specs.Put.{Put}
 use Rattle.answers.specs.Texts.{replyText}
 use Rattle.asking.specs.Told.{Written, Kept, Planned, OpenTold, openWithin, FixSaid, RestartTold}
 

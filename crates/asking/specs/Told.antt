@@ -17,7 +17,7 @@ use Rattle.cabinet.specs.Apply.{applyAll, OpenCarried}
 use Rattle.joined.specs.Joined.{FromOwnSheets}
 use Rattle.words.specs.declared.Request.{Request}
 use Rattle.words.specs.declared.Request.the-variants.{Open, Vote, Take, Withdraw, Store, Trim, Safe, Lose, Fix, Roll, Sheet, Restart, Show}
-use Rattle.answers.specs.Put.{Put}
+use Rattle.text.specs.Put.{Put}
 use Rattle.answers.specs.Texts.{refusedText, replyText}
 use Rattle.answers.specs.Show.{showText}
 

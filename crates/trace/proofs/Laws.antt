@@ -22,9 +22,9 @@ use Rattle.words.specs.declared.Spoken.{Spoken}
 use Rattle.words.specs.declared.Heard.{Heard}
 use Rattle.words.specs.declared.Heard.the-variants.{Line, End}
 use Rattle.words.specs.Calls.{heardAt}
-use Rattle.answers.specs.Put.{Put}
+use Rattle.text.specs.Put.{Put}
 use Rattle.answers.specs.Texts.{replyText, noneText}
-use Rattle.answers.proofs.Puts.{put-nothing, put-then}
+use Rattle.text.proofs.Puts.{put-nothing, put-then}
 use Rattle.trace.specs.declared.Replay.{Replay}
 use Rattle.trace.specs.Steps.{Steps, Asked, Stays, Freshened, nothingYet, Ran, noLine, oneMore, Replayed}
 use Rattle.asking.specs.Told.{Told, Written}

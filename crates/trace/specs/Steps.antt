@@ -15,7 +15,7 @@ use Rattle.words.specs.declared.Spoken.{Spoken}
 use Rattle.words.specs.declared.Spoken.the-variants.{Fresh, Asks, Unreadable}
 use Rattle.words.specs.declared.Heard.the-variants.{Line, End}
 use Rattle.words.specs.Calls.{heardAt}
-use Rattle.answers.specs.Put.{Put}
+use Rattle.text.specs.Put.{Put}
 use Rattle.answers.specs.Texts.{replyText, noneText, unreadableText}
 use Rattle.trace.specs.declared.Replay.{Replay}
 use Rattle.asking.specs.Told.{Told}

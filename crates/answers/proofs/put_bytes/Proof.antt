@@ -1,5 +1,5 @@
 -- `answers::put_bytes` writes an accepted sheet. Assumes nothing.
-use Rattle.answers.proofs.Puts.{put-then}
+use Rattle.text.proofs.Puts.{put-then}
 use borrow.Author.Needs.{needs}
 use Rattle.answers.proofs.put_bytes.Statement.{statement}
 use Rattle.answers.proofs.put_bytes.Tie as tie

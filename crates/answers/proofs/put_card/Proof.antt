@@ -3,7 +3,7 @@ use mathlib.Core.Path.{sym}
 use mathlib.Core.List.{List, []}
 use Rattle.laws.proofs.Logic.{cond-true, cond-false}
 use borrow.Author.Tests.{lt-ltb, le-ltb}
-use Rattle.answers.proofs.Puts.{put-nothing, put-as}
+use Rattle.text.proofs.Puts.{put-nothing, put-as}
 use borrow.Author.Needs.{needs}
 use Rattle.answers.proofs.put_card.Statement.{statement}
 use Rattle.answers.proofs.put_card.Tie as tie

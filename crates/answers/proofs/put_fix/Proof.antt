@@ -4,7 +4,7 @@ use lib.ListN.{take}
 use Rattle.recovery.specs.declared.FixReply.{FixReply}
 use Rattle.recovery.specs.Fix.{fixReplyOf}
 use Rattle.answers.specs.Texts.{replyText}
-use Rattle.answers.proofs.Puts.{put-as}
+use Rattle.text.proofs.Puts.{put-as}
 use Rattle.answers.proofs.Spaced.{fixed-as}
 use borrow.Author.Needs.{needs}
 use Rattle.answers.proofs.put_fix.Statement.{statement}

@@ -3,8 +3,9 @@ use Prim.Native.Nat.{ℕ}
 use mathlib.Core.Path.{_∙_, ap}
 use mathlib.Core.List.{[], _∷_, _++_, append-assoc}
 use Rattle.recovery.specs.Fix.{rowsOf}
-use Rattle.answers.specs.Texts.{lineOf, fixedWord, lostWord, rowsText}
-use Rattle.answers.proofs.Puts.{put-then, put-as}
+use Rattle.text.specs.Lines.{lineOf}
+use Rattle.answers.specs.Texts.{fixedWord, lostWord, rowsText}
+use Rattle.text.proofs.Puts.{put-then, put-as}
 use borrow.Author.Needs.{needs}
 use Rattle.answers.proofs.put_fixed.Statement.{statement}
 use Rattle.answers.proofs.put_fixed.Tie as tie

@@ -1,5 +1,5 @@
 -- `answers::put_head` writes the first line of show. Assumes nothing.
-use Rattle.answers.proofs.Puts.{put-then, put-as}
+use Rattle.text.proofs.Puts.{put-then, put-as}
 use Rattle.answers.proofs.Spaced.{head-as}
 use borrow.Author.Needs.{needs}
 use Rattle.answers.proofs.put_head.Statement.{statement}

@@ -1,7 +1,7 @@
 -- `answers::put_phase` writes the word of a phase. Assumes nothing.
 use mathlib.Core.Path.{sym, ap}
 use Rattle.answers.specs.Show.{phaseName}
-use Rattle.answers.proofs.Puts.{put-as}
+use Rattle.text.proofs.Puts.{put-as}
 use borrow.Author.Needs.{needs}
 use Rattle.answers.proofs.put_phase.Statement.{statement}
 use Rattle.answers.proofs.put_phase.Tie as tie

@@ -3,8 +3,9 @@ use mathlib.Core.Path.{sym, _∙_, ap, ap₂}
 use Prim.Native.Nat.{ℕ}
 use mathlib.Core.List.{_∷_}
 use Rattle.answers.specs.declared.Named.{Named}
-use Rattle.answers.specs.Texts.{lineOf, refusedWord, cardsNamed}
-use Rattle.answers.proofs.Puts.{put-as}
+use Rattle.text.specs.Lines.{lineOf}
+use Rattle.answers.specs.Texts.{refusedWord, cardsNamed}
+use Rattle.text.proofs.Puts.{put-as}
 use borrow.Author.Needs.{needs}
 use Rattle.answers.proofs.put_refusal.Statement.{statement}
 use Rattle.answers.proofs.put_refusal.Tie as tie

@@ -6,10 +6,11 @@ use Rattle.laws.specs.Below.{selected}
 use Rattle.decimal.specs.Digits.{decimal}
 use Rattle.verdicts.specs.Shape.{at, presentOf}
 use Rattle.verdicts.proofs.Limits.{width16}
-use Rattle.answers.specs.Put.{Put}
+use Rattle.text.specs.Put.{Put}
 use Rattle.protocol.specs.Plan.{CardRow}
-use Rattle.answers.specs.Texts.{lineOf, rowsText}
-use Rattle.answers.proofs.Puts.{put-nothing, put-then, put-as, put-length}
+use Rattle.text.specs.Lines.{lineOf}
+use Rattle.answers.specs.Texts.{rowsText}
+use Rattle.text.proofs.Puts.{put-nothing, put-then, put-as, put-length}
 use Rattle.answers.proofs.Spaced.{rows-more}
 use borrow.Author.Needs.{needs}
 use Rattle.answers.proofs.put_rows.Statement.{statement}

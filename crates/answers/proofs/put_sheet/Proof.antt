@@ -4,7 +4,7 @@ use lib.ListN.{take}
 use Rattle.write.specs.declared.Written.{Written}
 use Rattle.card_sheet.specs.Card.{sheetReplyOf}
 use Rattle.answers.specs.Texts.{replyText}
-use Rattle.answers.proofs.Puts.{put-as}
+use Rattle.text.proofs.Puts.{put-as}
 use Rattle.answers.proofs.Spaced.{sheet-as}
 use borrow.Author.Needs.{needs}
 use Rattle.answers.proofs.put_sheet.Statement.{statement}

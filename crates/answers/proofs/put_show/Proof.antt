@@ -1,5 +1,5 @@
 -- `answers::put_show` writes what a cabinet is. Assumes nothing.
-use Rattle.answers.proofs.Puts.{put-then}
+use Rattle.text.proofs.Puts.{put-then}
 use borrow.Author.Needs.{needs}
 use Rattle.answers.proofs.put_show.Statement.{statement}
 use Rattle.answers.proofs.put_show.Tie as tie

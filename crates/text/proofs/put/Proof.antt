@@ -1,8 +1,8 @@
--- `answers::put` writes a text after what is written already. Assumes nothing.
-use Rattle.answers.proofs.Puts.{put-from, put-short}
+-- `text::put` writes a text after what is written already. Assumes nothing.
+use Rattle.text.proofs.Puts.{put-from, put-short}
 use borrow.Author.Needs.{needs}
-use Rattle.answers.proofs.put.Statement.{statement}
-use Rattle.answers.proofs.put.Tie as tie
+use Rattle.text.proofs.put.Statement.{statement}
+use Rattle.text.proofs.put.Tie as tie
 
 enum-known-w : tie.Need-enum-known-w
 enum-known-w c = search needs

@@ -1,12 +1,12 @@
--- `answers::fill` stores the first bytes of a text. Assumes nothing.
+-- `text::fill` stores the first bytes of a text. Assumes nothing.
 use Prim.Native.Nat.{ℕ, _-_, _≤_}
 use mathlib.Core.Path.{_≡_, _∙_, ap}
 use lib.ListN.{take}
 use lib.Seq.{sets}
-use Rattle.answers.proofs.Puts.{Filled, filled-none, filled-more}
+use Rattle.text.proofs.Puts.{Filled, filled-none, filled-more}
 use borrow.Author.Needs.{needs}
-use Rattle.answers.proofs.fill.Statement.{statement}
-use Rattle.answers.proofs.fill.Tie as tie
+use Rattle.text.proofs.fill.Statement.{statement}
+use Rattle.text.proofs.fill.Tie as tie
 
 abbrev Inv-loop : tie.InvT-loop
 Inv-loop b₀ at text count i₀ b i = (Filled b₀ at text b i) × (i ≤ count)

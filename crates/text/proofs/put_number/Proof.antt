@@ -1,11 +1,11 @@
--- `answers::put_number` writes the digits of a number. Assumes nothing.
+-- `text::put_number` writes the digits of a number. Assumes nothing.
 use native.Mathlib.Omega.{arith}
 use mathlib.Core.Path.{refl}
-use Rattle.answers.proofs.Puts.{put-as}
-use Rattle.answers.proofs.Spaced.{ten-digits, digits-written, wrote-length}
+use Rattle.text.proofs.Puts.{put-as}
+use Rattle.text.proofs.Spaced.{ten-digits, digits-written, wrote-length}
 use borrow.Author.Needs.{needs}
-use Rattle.answers.proofs.put_number.Statement.{statement}
-use Rattle.answers.proofs.put_number.Tie as tie
+use Rattle.text.proofs.put_number.Statement.{statement}
+use Rattle.text.proofs.put_number.Tie as tie
 
 width-requires : tie.Need-width-requires
 width-requires c κs = search needs

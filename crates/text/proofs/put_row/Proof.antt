@@ -1,10 +1,10 @@
--- `answers::put_row` writes the line of a card. Assumes nothing.
+-- `text::put_row` writes the line of a card. Assumes nothing.
 use Rattle.decimal.specs.Digits.{decimal}
-use Rattle.answers.proofs.Puts.{put-then, put-as}
-use Rattle.answers.proofs.Spaced.{line-as}
+use Rattle.text.proofs.Puts.{put-then, put-as}
+use Rattle.text.proofs.Spaced.{line-as}
 use borrow.Author.Needs.{needs}
-use Rattle.answers.proofs.put_row.Statement.{statement}
-use Rattle.answers.proofs.put_row.Tie as tie
+use Rattle.text.proofs.put_row.Statement.{statement}
+use Rattle.text.proofs.put_row.Tie as tie
 
 put-number-requires : tie.Need-put-number-requires
 put-number-requires c κs = search needs

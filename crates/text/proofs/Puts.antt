@@ -14,7 +14,7 @@ use Rattle.laws.proofs.Logic.{test}
 use Rattle.laws.proofs.Seq.{sets-append}
 use Rattle.decimal.specs.declared.Writing.{Writing}
 use Rattle.decimal.specs.declared.Writing.the-variants.{Next, TooShort}
-use Rattle.answers.specs.Put.{placeAfter, bufferAfter, Put}
+use Rattle.text.specs.Put.{placeAfter, bufferAfter, Put}
 
 -- ---- a text that has room, and one that has none
 

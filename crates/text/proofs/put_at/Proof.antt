@@ -1,9 +1,9 @@
--- `answers::put_at` writes a text from a place on, as far as there is room. Assumes nothing.
-use Rattle.answers.proofs.Puts.{put-cut, put-whole}
+-- `text::put_at` writes a text from a place on, as far as there is room. Assumes nothing.
+use Rattle.text.proofs.Puts.{put-cut, put-whole}
 use mathlib.Core.Path.{refl}
 use borrow.Author.Needs.{needs}
-use Rattle.answers.proofs.put_at.Statement.{statement}
-use Rattle.answers.proofs.put_at.Tie as tie
+use Rattle.text.proofs.put_at.Statement.{statement}
+use Rattle.text.proofs.put_at.Tie as tie
 
 room-from-requires : tie.Need-room-from-requires
 room-from-requires c κs = search needs

@@ -1,15 +1,15 @@
--- `answers::put_numbers` writes numbers, each after a space. Assumes nothing.
+-- `text::put_numbers` writes numbers, each after a space. Assumes nothing.
 use Prim.Native.Nat.{_-_, _≤_}
 use mathlib.Core.Path.{ap}
 use lib.ListN.{length, take}
 use lib.Seq.{take-all}
-use Rattle.answers.specs.Put.{Put}
-use Rattle.answers.specs.Texts.{spaced}
-use Rattle.answers.proofs.Puts.{put-nothing, put-then, put-as, put-length}
-use Rattle.answers.proofs.Spaced.{spaced-more}
+use Rattle.text.specs.Put.{Put}
+use Rattle.text.specs.Lines.{spaced}
+use Rattle.text.proofs.Puts.{put-nothing, put-then, put-as, put-length}
+use Rattle.text.proofs.Spaced.{spaced-more}
 use borrow.Author.Needs.{needs}
-use Rattle.answers.proofs.put_numbers.Statement.{statement}
-use Rattle.answers.proofs.put_numbers.Tie as tie
+use Rattle.text.proofs.put_numbers.Statement.{statement}
+use Rattle.text.proofs.put_numbers.Tie as tie
 
 abbrev Inv-loop : tie.InvT-loop
 Inv-loop b₀ numbers at₀ i₀ t6 b at i = (Put b₀ at₀ (spaced (take i numbers)) at b) × (i ≤ length numbers)

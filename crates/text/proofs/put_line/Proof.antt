@@ -1,9 +1,9 @@
--- `answers::put_line` writes a word and numbers as a line. Assumes nothing.
-use Rattle.answers.proofs.Puts.{put-then, put-as}
-use Rattle.answers.proofs.Spaced.{line-as}
+-- `text::put_line` writes a word and numbers as a line. Assumes nothing.
+use Rattle.text.proofs.Puts.{put-then, put-as}
+use Rattle.text.proofs.Spaced.{line-as}
 use borrow.Author.Needs.{needs}
-use Rattle.answers.proofs.put_line.Statement.{statement}
-use Rattle.answers.proofs.put_line.Tie as tie
+use Rattle.text.proofs.put_line.Statement.{statement}
+use Rattle.text.proofs.put_line.Tie as tie
 
 put-requires : tie.Need-put-requires
 put-requires c κs = search needs
