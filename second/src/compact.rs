@@ -4,13 +4,16 @@
 //! letter and the space after it is left off; a line that is no call is `%` and
 //! its bytes as hexadecimal digits. Behind the call stands nothing for `ok`,
 //! `!X` for `refused X`, `#K` for `change K`, `?` for `unreadable`, or `=` and
-//! the answer's lines with `/` between them.
+//! the answer's lines with `/` between them. Behind `!21` stands the set of the
+//! touched cards that are barred, any of which may be named.
 //!
 //! Read-outs: one a line. `+TEXT` is a read-out in full. `F B N TEXT` is the
 //! first F bytes of the last one in full, N times TEXT, and its last B bytes.
 //! In TEXT `/` is byte 10 and `%HH` any byte. Behind it `!X` or `=`, as above.
 
 use crate::call::read_call;
+use crate::cards::CardSet;
+use crate::compare::barred_by;
 use crate::replay::Place;
 use crate::restart::line_text;
 
@@ -63,6 +66,14 @@ fn unhex(hex: &str) -> Vec<u8> {
         .collect()
 }
 
+/// The answer to an opening that these cards bar, or to any other line.
+fn pack_call_answer(text: &str, barred: CardSet) -> String {
+    if text.starts_with("refused 21 ") {
+        return format!("!21 {barred}");
+    }
+    pack_answer(text)
+}
+
 fn pack_answer(text: &str) -> String {
     let text = text.trim_end_matches('\n');
     if text == "ok" {
@@ -78,13 +89,21 @@ fn pack_answer(text: &str) -> String {
     }
 }
 
+/// The refusal's line; of the cards that may be named, the lowest.
+fn unpack_refusal(packed: &str) -> String {
+    match packed.strip_prefix("21 ").and_then(|set| set.parse::<CardSet>().ok()) {
+        Some(barred) => format!("refused 21 {}\n", barred.trailing_zeros()),
+        None => format!("refused {packed}\n"),
+    }
+}
+
 /// A packed answer's lines.
 pub fn unpack_answer(packed: &str) -> String {
     let rest = packed.get(1..).unwrap_or("");
     match packed.chars().next() {
         None => "ok\n".to_string(),
         Some('?') => "unreadable\n".to_string(),
-        Some('!') => format!("refused {rest}\n"),
+        Some('!') => unpack_refusal(rest),
         Some('#') => format!("change {rest}\n"),
         Some(_) => rest.replace('/', "\n") + "\n",
     }
@@ -95,8 +114,9 @@ pub fn pack_list(lines: &[Vec<u8>]) -> String {
     let mut place = Place::default();
     let mut text = String::new();
     for line in lines {
+        let barred = barred_by(&place, line);
         text += &pack_line(line);
-        text += &pack_answer(&place.answer_line(line).text());
+        text += &pack_call_answer(&place.answer_line(line).text(), barred);
         text.push('\n');
     }
     text.push('\n');

@@ -140,7 +140,7 @@ fn different(place: usize, first: &[u8], second: &[u8]) -> Difference {
 }
 
 /// The touched cards that are barred, if the line is an opening.
-fn barred_by(place: &Place, line: &[u8]) -> CardSet {
+pub fn barred_by(place: &Place, line: &[u8]) -> CardSet {
     match (read_call(line), &place.cabinet) {
         (Some(Call::Open { reads, writes }), Some(cabinet)) => {
             cabinet.barred(reads as CardSet & !(writes as CardSet), writes as CardSet)
