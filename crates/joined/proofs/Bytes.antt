@@ -16,7 +16,7 @@ use Rattle.digits.proofs.Lines.{line-length}
 use Rattle.frame.specs.declared.Frame.{Frame}
 use Rattle.frame.specs.Format.{format, entryOf}
 use Rattle.frame.specs.Lines.{startOf, headerLine, frameWidths, frameNumbers, frameLine}
-use Rattle.frame.proofs.Puts.{header-line-length}
+use Rattle.line_writer.proofs.Puts.{header-line-length}
 use Rattle.sheet.specs.Pages.{framesBytes, pageBytes}
 use Rattle.protocol.specs.Model.{Model}
 use Rattle.protocol.specs.Sound.{sound}
