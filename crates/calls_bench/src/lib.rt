@@ -1,5 +1,5 @@
-// What bench/calls measures, exported to Rust: each call once, on a cabinet that was forged for it.
-// Every cabinet has 16 cards. A full one has 48 states in hand on each card, each made by a change of its own.
+// What bench/run.sh measures, exported to Rust: each call once, on a cabinet that was forged for it.
+// A cabinet has so many cards, and on each so many states in hand, each made by a change of its own.
 use cabinet::Cabinet;
 use recovery::FixReply;
 use verdicts::Head;
@@ -8,70 +8,89 @@ use verdicts::Phase;
 use verdicts::Place;
 use verdicts::Reply;
 use verdicts::SafeReply;
+use write::Written;
 
-// The changes that made the states of a full cabinet: state x of card c was made by change 16 * x + c.
-fn makers() -> [u32; 768] {
+// The number where the state is there, and 0 where it is not.
+fn kept(there: bool, n: u32) -> u32 {
+    if there { n } else { 0 }
+}
+
+// The changes that made the states: state x of card c was made by change 16 * x + c.
+fn makers(cards: u32, states: u32) -> [u32; 768] {
     let mut out = [0u32; 768];
     let mut p: u32 = 0;
     while p < 768 {
         let x = p % 48 + 1;
-        out[(p / 48 * 48 + x % 48) as usize] = x * 16 + p / 48;
+        let there = (x <= states) & (p / 48 < cards);
+        out[(p / 48 * 48 + x % 48) as usize] = kept(there, x * 16 + p / 48);
         p += 1;
     }
     out
 }
 
 // The vectors of these states: each change wrote its card alone.
-fn entries() -> [u32; 12288] {
+fn entries(cards: u32, states: u32) -> [u32; 12288] {
     let mut out = [0u32; 12288];
     let mut p: u32 = 0;
     while p < 768 {
         let x = p % 48 + 1;
-        out[((p / 48 * 48 + x % 48) * 16 + p / 48) as usize] = x;
+        let there = (x <= states) & (p / 48 < cards);
+        out[((p / 48 * 48 + x % 48) * 16 + p / 48) as usize] = kept(there, x);
         p += 1;
     }
     out
 }
 
-// The cabinet in that phase, with that stored number on each card and with that change in its first place.
-fn forged(full: bool, stored: u32, first: Place, phase: Phase) -> Cabinet {
-    let a = Cabinet::fresh(16);
-    let mut c = a.cabinet;
-    if full {
-        let e = entries();
-        c.entries = e;
-        let m = makers();
-        c.makers = m;
-        c.held = [48u32; 16];
-        c.reached = [48u32; 16];
-        c.stored = [stored; 16];
+// The number on each card that is there.
+fn numbers(cards: u32, n: u32) -> [u32; 16] {
+    let mut out = [0u32; 16];
+    let mut c: u32 = 0;
+    while c < 16 {
+        out[c as usize] = kept(c < cards, n);
+        c += 1;
     }
+    out
+}
+
+// The cabinet in that phase, with that stored number on each card and with that change in its first place. While rolling
+// the card 0 alone is not rolled.
+fn forged(cards: u32, states: u32, stored: u32, first: Place, phase: Phase) -> Cabinet {
+    let a = Cabinet::fresh(cards);
+    let mut c = a.cabinet;
+    let e = entries(cards, states);
+    c.entries = e;
+    let m = makers(cards, states);
+    c.makers = m;
+    let reached = numbers(cards, states);
+    c.held = reached;
+    c.reached = reached;
+    let s = numbers(cards, stored);
+    c.stored = s;
     c.places[0] = first;
     let h = Head {
         session: 1,
-        cards: 16,
+        cards: cards,
         count: 1000,
         phase: phase,
     };
     c.head = h;
-    c.rolled = 65534;
+    c.rolled = bits::without(bits::all_below(cards), 0);
     c
 }
 
 // A free place.
 fn free() -> Place {
-    change(0, false, 0)
+    change(0, 0, false, 0)
 }
 
-// Change 1000 that reads every card of a full cabinet, and writes every card of another, with those votes.
-fn change(number: u32, full: bool, yes: u16) -> Place {
-    let reads = if full { 65535 } else { 0 };
-    let writes = if full { 0 } else { 65535 };
+// A change that reads every card, or writes every card, with those votes.
+fn change(number: u32, cards: u32, reads: bool, yes: u16) -> Place {
+    let all = bits::all_below(cards);
     Place {
         vector: [0u32; 16],
         number: number,
-        reads: reads,
-        writes: writes,
+        reads: if reads { all } else { 0 },
+        writes: if reads { 0 } else { all },
         yes: yes,
         taken: 0,
     }
@@ -95,52 +114,23 @@ fn done(r: Reply) -> u32 {
 
 // Nothing but the making of the cabinet.
 #[no_mangle]
-pub extern "C" fn yerwaqis_nothing(full: bool, at: u32) -> u32 {
-    let c = forged(full, 48, free(), Phase::Up);
+pub extern "C" fn yerwaqis_nothing(cards: u32, states: u32, reads: bool, at: u32) -> u32 {
+    let c = forged(cards, states, states, free(), Phase::Up);
     seen(c, at, 0)
 }
 
 #[no_mangle]
-pub extern "C" fn yerwaqis_fresh(at: u32) -> u32 {
-    let a = Cabinet::fresh(at % 16 + 1);
+pub extern "C" fn yerwaqis_fresh(cards: u32, at: u32) -> u32 {
+    let a = Cabinet::fresh(cards);
     let r = a.reply;
     let c = a.cabinet;
     seen(c, at, done(r))
 }
 
-// The check for 28 alone.
 #[no_mangle]
-pub extern "C" fn yerwaqis_sound(full: bool, at: u32) -> u32 {
-    let c = forged(full, 48, free(), Phase::Up);
-    let last = c.last;
-    let pending = c.pending;
-    let places = c.places;
-    let base = c.base;
-    let stored = c.stored;
-    let held = c.held;
-    let reached = c.reached;
-    let line = c.line;
-    let head = c.head;
-    let sound = soundness::cabinet_sound(
-        &c.entries,
-        &c.makers,
-        last,
-        pending,
-        places,
-        base,
-        stored,
-        held,
-        reached,
-        line,
-        head,
-    );
-    if sound { seen(c, at, 0) } else { 28 }
-}
-
-#[no_mangle]
-pub extern "C" fn yerwaqis_open(full: bool, at: u32) -> u32 {
-    let c = forged(full, 48, free(), Phase::Up);
-    let o = change(0, full, 0);
+pub extern "C" fn yerwaqis_open(cards: u32, states: u32, reads: bool, at: u32) -> u32 {
+    let c = forged(cards, states, states, free(), Phase::Up);
+    let o = change(0, cards, reads, 0);
     let a = c.open(o.reads, o.writes);
     let r = a.reply;
     let c = a.cabinet;
@@ -151,10 +141,17 @@ pub extern "C" fn yerwaqis_open(full: bool, at: u32) -> u32 {
     seen(c, at, n)
 }
 
-// The vote that decides a change of all 16 cards.
+// The vote that decides a change of all cards.
 #[no_mangle]
-pub extern "C" fn yerwaqis_vote(full: bool, at: u32) -> u32 {
-    let c = forged(full, 48, change(1000, full, 65534), Phase::Up);
+pub extern "C" fn yerwaqis_vote(cards: u32, states: u32, reads: bool, at: u32) -> u32 {
+    let others = bits::without(bits::all_below(cards), 0);
+    let c = forged(
+        cards,
+        states,
+        states,
+        change(1000, cards, reads, others),
+        Phase::Up,
+    );
     let a = c.vote(1000, 0, true);
     let r = a.reply;
     let c = a.cabinet;
@@ -162,8 +159,15 @@ pub extern "C" fn yerwaqis_vote(full: bool, at: u32) -> u32 {
 }
 
 #[no_mangle]
-pub extern "C" fn yerwaqis_take(full: bool, at: u32) -> u32 {
-    let c = forged(full, 48, change(1000, full, 65535), Phase::Up);
+pub extern "C" fn yerwaqis_take(cards: u32, states: u32, reads: bool, at: u32) -> u32 {
+    let all = bits::all_below(cards);
+    let c = forged(
+        cards,
+        states,
+        states,
+        change(1000, cards, reads, all),
+        Phase::Up,
+    );
     let a = c.take(1000, 0);
     let r = a.reply;
     let c = a.cabinet;
@@ -171,8 +175,14 @@ pub extern "C" fn yerwaqis_take(full: bool, at: u32) -> u32 {
 }
 
 #[no_mangle]
-pub extern "C" fn yerwaqis_withdraw(full: bool, at: u32) -> u32 {
-    let c = forged(full, 48, change(1000, full, 65534), Phase::Up);
+pub extern "C" fn yerwaqis_withdraw(cards: u32, states: u32, reads: bool, at: u32) -> u32 {
+    let c = forged(
+        cards,
+        states,
+        states,
+        change(1000, cards, reads, 0),
+        Phase::Up,
+    );
     let a = c.withdraw(1000);
     let r = a.reply;
     let c = a.cabinet;
@@ -180,8 +190,8 @@ pub extern "C" fn yerwaqis_withdraw(full: bool, at: u32) -> u32 {
 }
 
 #[no_mangle]
-pub extern "C" fn yerwaqis_store(full: bool, at: u32) -> u32 {
-    let c = forged(full, 0, free(), Phase::Up);
+pub extern "C" fn yerwaqis_store(cards: u32, states: u32, reads: bool, at: u32) -> u32 {
+    let c = forged(cards, states, 0, free(), Phase::Up);
     let a = c.store(0, 0);
     let r = a.reply;
     let c = a.cabinet;
@@ -190,19 +200,19 @@ pub extern "C" fn yerwaqis_store(full: bool, at: u32) -> u32 {
 
 // Every state is stored, so that each line is climbed to the end.
 #[no_mangle]
-pub extern "C" fn yerwaqis_trim(full: bool, at: u32) -> u32 {
-    let c = forged(full, 48, free(), Phase::Up);
+pub extern "C" fn yerwaqis_trim(cards: u32, states: u32, reads: bool, at: u32) -> u32 {
+    let c = forged(cards, states, states, free(), Phase::Up);
     let a = c.trim();
     let r = a.reply;
     let c = a.cabinet;
     seen(c, at, done(r))
 }
 
-// Of the change that made the last state of the last card; there is none in an empty cabinet.
+// Of that change; there is none in an empty cabinet.
 #[no_mangle]
-pub extern "C" fn yerwaqis_safe(full: bool, at: u32) -> u32 {
-    let c = forged(full, 48, free(), Phase::Up);
-    let a = c.safe(783);
+pub extern "C" fn yerwaqis_safe(cards: u32, states: u32, change: u32, at: u32) -> u32 {
+    let c = forged(cards, states, states, free(), Phase::Up);
+    let a = c.safe(change);
     let r = a.reply;
     let c = a.cabinet;
     let n = match r {
@@ -215,18 +225,31 @@ pub extern "C" fn yerwaqis_safe(full: bool, at: u32) -> u32 {
 
 // All cards, with a decided change open.
 #[no_mangle]
-pub extern "C" fn yerwaqis_lose(full: bool, at: u32) -> u32 {
-    let c = forged(full, 48, change(1000, full, 65535), Phase::Up);
-    let a = c.lose(65535);
+pub extern "C" fn yerwaqis_lose(cards: u32, states: u32, reads: bool, at: u32) -> u32 {
+    let all = bits::all_below(cards);
+    let c = forged(
+        cards,
+        states,
+        states,
+        change(1000, cards, reads, all),
+        Phase::Up,
+    );
+    let a = c.lose(all);
     let r = a.reply;
     let c = a.cabinet;
     seen(c, at, done(r))
 }
 
-// With that stored number on each card: from 0 every state of a full cabinet is lost, from 48 none.
+// With that stored number on each card: from 0 every state is lost.
 #[no_mangle]
-pub extern "C" fn yerwaqis_fix(full: bool, stored: u32, at: u32, list: &mut [u32]) -> u32 {
-    let c = forged(full, stored, free(), Phase::Down);
+pub extern "C" fn yerwaqis_fix(
+    cards: u32,
+    states: u32,
+    stored: u32,
+    at: u32,
+    list: &mut [u32],
+) -> u32 {
+    let c = forged(cards, states, stored, free(), Phase::Down);
     let a = c.fix(16, list);
     let r = a.reply;
     let c = a.cabinet;
@@ -239,28 +262,32 @@ pub extern "C" fn yerwaqis_fix(full: bool, stored: u32, at: u32, list: &mut [u32
 
 // The last card rolled.
 #[no_mangle]
-pub extern "C" fn yerwaqis_roll(full: bool, at: u32) -> u32 {
-    let c = forged(full, 48, free(), Phase::Rolling);
+pub extern "C" fn yerwaqis_roll(cards: u32, states: u32, reads: bool, at: u32) -> u32 {
+    let c = forged(cards, states, states, free(), Phase::Rolling);
     let a = c.roll(0);
     let r = a.reply;
     let c = a.cabinet;
     seen(c, at, done(r))
 }
 
-// Each call once, one after the other, on the cabinet that the last one handed back.
+// The sheet of card 0.
 #[no_mangle]
-pub extern "C" fn yerwaqis_chain(full: bool, at: u32, list: &mut [u32]) -> u32 {
-    let c = forged(full, 48, free(), Phase::Up);
-    let a = c.open(65535, 0);
-    let a = a.cabinet.vote(1001, 0, true);
-    let a = a.cabinet.take(1001, 0);
-    let a = a.cabinet.withdraw(1001);
-    let a = a.cabinet.store(0, 0);
-    let a = a.cabinet.trim();
-    let a = a.cabinet.safe(783);
-    let a = a.cabinet.lose(65535);
-    let a = a.cabinet.fix(16, list);
-    let a = a.cabinet.roll(0);
+pub extern "C" fn yerwaqis_sheet(cards: u32, states: u32, at: u32, buffer: &mut [u8]) -> u32 {
+    let c = forged(cards, states, states, free(), Phase::Up);
+    let a = c.sheet(0, buffer);
+    let r = a.reply;
+    let c = a.cabinet;
+    let n = match r {
+        Written::Length(_) => 0,
+        Written::Refused(q) => refusal::number(q),
+    };
+    seen(c, at, n)
+}
+
+// From the sheets of all cards, joined.
+#[no_mangle]
+pub extern "C" fn yerwaqis_restart(bytes: &[u8], at: u32) -> u32 {
+    let a = restart::restart(bytes);
     let r = a.reply;
     let c = a.cabinet;
     seen(c, at, done(r))

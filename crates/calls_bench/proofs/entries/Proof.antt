@@ -3,64 +3,53 @@ use Prim.Native.Nat.{_-_}
 use borrow.Author.Needs.{needs}
 use Rattle.calls_bench.proofs.entries.Statement.{statement}
 use Rattle.calls_bench.proofs.entries.Tie as tie
-use Rattle.calls_bench.proofs.entries.Reads as reads
-use Rattle.calls_bench.proofs.entries.Lts as lts
+use Rattle.calls_bench.proofs.kept.Reads as kept-reads
 
 abbrev Inv-loop : tie.InvT-loop
-Inv-loop out₀ p₀ out p = Unit {0}
+Inv-loop cards states out₀ p₀ out p = Unit {0}
 
 abbrev μ-loop : tie.MeasureT-loop
-μ-loop out₀ p₀ out p = 768 - p
+μ-loop cards states out₀ p₀ out p = 768 - p
 
--- src/lib.rt:28:5
 loop-holds : tie.Need-loop-holds Inv-loop μ-loop
 loop-holds c = search needs
 
--- src/lib.rt:29:17
 add-x : tie.Need-add-x Inv-loop μ-loop
 add-x c = search needs
 
--- src/lib.rt:30:15
+kept-requires : tie.Need-kept-requires Inv-loop μ-loop
+kept-requires c κs = search needs
+
 mul-out : tie.Need-mul-out Inv-loop μ-loop
 mul-out c = search needs
 
--- src/lib.rt:30:15
 add-out : tie.Need-add-out Inv-loop μ-loop
 add-out c = search needs
 
--- src/lib.rt:30:14
 mul-out-2 : tie.Need-mul-out-2 Inv-loop μ-loop
 mul-out-2 c = search needs
 
--- src/lib.rt:30:14
 add-out-2 : tie.Need-add-out-2 Inv-loop μ-loop
 add-out-2 c = search needs
 
--- src/lib.rt:30:13
 cast-out : tie.Need-cast-out Inv-loop μ-loop
 cast-out c = search needs
 
--- src/lib.rt:30:9
 mul-out-3 : tie.Need-mul-out-3 Inv-loop μ-loop
 mul-out-3 c = search needs
 
--- src/lib.rt:30:9
 array-write-out : tie.Need-array-write-out Inv-loop μ-loop
 array-write-out c = search needs
 
--- src/lib.rt:31:9
 add-p : tie.Need-add-p Inv-loop μ-loop
 add-p c = search needs
 
--- src/lib.rt:28:5
 loop-less : tie.Need-loop-less Inv-loop μ-loop
 loop-less c = search needs
 
--- src/lib.rt:28:5
 loop-again : tie.Need-loop-again Inv-loop μ-loop
 loop-again c = search needs
 
--- src/lib.rt:25:1
 returns : tie.Need-returns Inv-loop μ-loop
 returns c = search needs
 
@@ -72,6 +61,7 @@ entries-spec =
     μ-loop
     loop-holds
     add-x
+    kept-requires
     mul-out
     add-out
     mul-out-2
