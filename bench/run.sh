@@ -21,7 +21,7 @@ $out/second/release/compare readouts target/bin/line $out/port/release/line 1 30
 # The instructions of each measured function, with all that it calls.
 counts() { # CARDS STATES KIND
     valgrind --tool=callgrind --callgrind-out-file=$out/run.out $out/run $1 $2 $3 2> $out/valgrind.log
-    callgrind_annotate --inclusive=yes --threshold=100 $out/run.out > $out/counts.$1.$2.$3
+    callgrind_annotate --inclusive=yes --tree=calling --threshold=100 $out/run.out > $out/counts.$1.$2.$3
 }
 
 for cards in 1 2 4 8 16; do counts $cards 48 reads; done

@@ -6,28 +6,50 @@ OUT = sys.argv[1]
 CALLS = "fresh open vote take withdraw store trim safe lose fix roll sheet restart".split()
 
 
+COPY = 55256
+
+
 def counts(cards, states, kind):
-    """The instructions of each measured function."""
-    found = {}
+    """Of each measured function its instructions and how many whole cabinets it copies."""
+    found, name = {}, None
     for line in open(f"{OUT}/counts.{cards}.{states}.{kind}"):
-        match = re.match(r"\s*([\d,]+) .*?[:?]((?:port::bench::)?(?:yerwaqis|port|lent)_\w+)", line)
-        if match:
-            name = match.group(2).split("::")[-1]
-            found.setdefault(name, int(match.group(1).replace(",", "")))
+        match = re.match(r"\s*([\d,]+) \(.*?\)\s+([*>])\s+\S*?:(.*?) ", line)
+        if not match:
+            continue
+        number, what = int(match.group(1).replace(",", "")), match.group(3)
+        if match.group(2) == "*":
+            measured = re.match(r"(?:port::bench::)?((?:yerwaqis|port|lent)_\w+)$", what)
+            name = measured.group(1) if measured else None
+            if name:
+                found[name] = [number, 0]
+        elif name and "memcpy" in what:
+            found[name][1] += round(number / COPY)
     return found
 
 
 def cost(found, who, call):
-    """A call's instructions, less the making of its cabinet."""
-    name = f"{who}_{call}"
-    if name not in found:
+    """A call's instructions outside copies of the cabinet, and its copies, less the making of its cabinet."""
+    if f"{who}_{call}" not in found:
         return None
-    made = "yerwaqis_nothing" if who == "yerwaqis" else "port_nothing"
-    return found[name] - (0 if call in ("fresh", "restart") else found[made])
+    number, copies = found[f"{who}_{call}"]
+    if call in ("fresh", "restart"):
+        return number, 0
+    made = found["yerwaqis_nothing" if who == "yerwaqis" else "port_nothing"]
+    # the port's copy is made below the measured function, in the method itself
+    copies = 1 if who == "port" else copies - made[1]
+    return number - made[0] - copies * COPY, copies
 
 
 def told(number):
     return "-" if number is None else f"{number:,}"
+
+
+def work(pair):
+    return None if pair is None else pair[0]
+
+
+def whole_of(pair):
+    return None if pair is None else pair[0] + pair[1] * COPY
 
 
 def ratio(a, b):
@@ -47,8 +69,12 @@ def call_table(title, found):
     rows = []
     for call in CALLS:
         engine, port, lent = (cost(found, who, call) for who in ("yerwaqis", "port", "lent"))
-        rows.append([call, told(engine), told(port), ratio(engine, port), told(lent), ratio(port, lent)])
-    table(["call", "engine", "port by value", "engine / port", "port by &mut", "by value / &mut"], rows)
+        copies = "-" if engine is None or call in ("fresh", "restart") else f"{engine[1]}, {port[1]}"
+        row = [call, told(work(engine)), told(work(port)), ratio(work(engine), work(port)), copies]
+        row += [ratio(whole_of(engine), whole_of(port)), told(work(lent)), ratio(whole_of(port), whole_of(lent))]
+        rows.append(row)
+    head = ["call", "engine", "port", "engine / port", "copies: engine, port", "with copies", "port by &mut"]
+    table(head + ["by value / &mut"], rows)
 
 
 def growth(title, runs):
@@ -57,8 +83,8 @@ def growth(title, runs):
     for call in CALLS:
         row = [call]
         for found in runs.values():
-            engine = cost(found, "yerwaqis", call)
-            row.append(f"{told(engine)} ({ratio(engine, cost(found, 'port', call))})")
+            engine, port = work(cost(found, "yerwaqis", call)), work(cost(found, "port", call))
+            row.append(f"{told(engine)} ({ratio(engine, port)})")
         rows.append(row)
     table(["call"] + list(runs), rows)
 
@@ -66,8 +92,8 @@ def growth(title, runs):
 full = counts(16, 48, "reads")
 call_table("16 cards, empty; the change writes every card", counts(16, 0, "writes"))
 call_table("16 cards, 48 states in hand on each; the change reads every card", full)
-growth("By cards, 48 states in hand on each: engine (engine / port)", {str(n): counts(n, 48, "reads") for n in (1, 2, 4, 8, 16)})
-growth("By states in hand, 16 cards: engine (engine / port)", {str(n): counts(16, n, "reads") for n in (0, 12, 24, 48)})
+growth("By cards, 48 states in hand on each, outside copies: engine (engine / port)", {str(n): counts(n, 48, "reads") for n in (1, 2, 4, 8, 16)})
+growth("By states in hand, 16 cards, outside copies: engine (engine / port)", {str(n): counts(16, n, "reads") for n in (0, 12, 24, 48)})
 whole = [line.split() for line in open(f"{OUT}/whole")]
 print("\nWhole programs, all instructions\n")
 rows = []

@@ -19,6 +19,9 @@ kept-requires c κs = search needs
 cast-out : tie.Need-cast-out Inv-loop μ-loop
 cast-out c = search needs
 
+mul-out : tie.Need-mul-out Inv-loop μ-loop
+mul-out c = search needs
+
 array-write-out : tie.Need-array-write-out Inv-loop μ-loop
 array-write-out c = search needs
 
@@ -43,6 +46,7 @@ numbers-spec =
     loop-holds
     kept-requires
     cast-out
+    mul-out
     array-write-out
     add-c
     loop-less
