@@ -6,8 +6,8 @@
 set -e
 out=target/bench
 mkdir -p $out
-rt staticlib calls_bench > $out/staticlib.log
-rt check replay line > $out/check.log
+rt staticlib calls_bench > $out/staticlib.log 2>&1
+rt check replay line > $out/check.log 2>&1
 cargo build --release --offline -j1 --manifest-path bench/port/Cargo.toml --target-dir $out/port 2> $out/port.log
 cargo build --release --offline -j1 --manifest-path second/Cargo.toml --target-dir $out/second 2> $out/second.log
 rustc -C opt-level=3 --edition 2021 -o $out/run bench/run.rs \
