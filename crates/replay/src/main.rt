@@ -1,5 +1,5 @@
 // Reads a list of calls from standard input and prints the answers, a line at a time: lists of any length in bounded memory.
-ghost use Prim.Native.Nat.{_<_};
+ghost use Prim.Native.Nat.{_<_, _≤_};
 ghost use lib.ListN.{length};
 use decimal::Writing;
 use libc::STDIN_FILENO;
@@ -26,11 +26,8 @@ struct Turned {
     more: bool,
 }
 
-// Does a line and prints its answer.
-fn answer(r: Replay, line: &[u8]) -> Replay {
-    let mut out = io::large_buffer();
-    let s = trace::step(r, line, &mut out);
-    let w = s.written;
+// Prints the answer to a line.
+fn print(out: &[u8], w: Writing) {
     match w {
         Writing::Next(n) => {
             if n <= out.len() {
@@ -39,8 +36,6 @@ fn answer(r: Replay, line: &[u8]) -> Replay {
         }
         Writing::TooShort => {}
     }
-    let next = s.replay;
-    next
 }
 
 // A byte more of the line, where it has room.
@@ -78,31 +73,34 @@ fn gather(line: &mut [u8], count: usize, part: &[u8], from: usize) -> Gathered
     }
 }
 
-// Does the line where it has ended.
-fn settle(r: Replay, line: &[u8], count: usize, ended: bool) -> Replay {
-    if ended {
-        if count <= line.len() {
-            return answer(r, &line[0..count]);
-        }
-    }
-    r
+// A count of bytes of the line.
+fn within(count: usize) -> usize
+    ensures { λ r. ⌜ r ≤ 129 ⌝ }
+{
+    if count < 129 { count } else { 129 }
 }
 
-fn left_over(count: usize, ended: bool) -> usize {
-    if ended { 0 } else { count }
-}
-
-// Does the lines of a part of the input.
-fn feed(f: Reader, part: &[u8]) -> Reader {
+// Does the lines of a part of the input, each where it ends. The cabinet goes by value, so the step stands in the loop itself.
+fn feed(f: Reader, part: &[u8], out: &mut [u8]) -> Reader {
     let mut r = f.replay;
     let mut line = f.line;
     let mut count = f.count;
     let mut at = 0;
     while at < part.len() {
         let g = gather(&mut line, count, part, at);
-        let next = settle(r, &line, g.count, g.ended);
-        r = next;
-        count = left_over(g.count, g.ended);
+        let n = within(g.count);
+        if !g.ended {
+            return Reader {
+                replay: r,
+                line,
+                count: n,
+            };
+        }
+        let s = trace::step(r, &line[0..n], out);
+        let w = s.written;
+        print(out, w);
+        r = s.replay;
+        count = 0;
         at = g.next;
     }
     Reader {
@@ -123,8 +121,21 @@ fn turn(f: Reader) -> Turned {
             more: false,
         };
     }
-    let reader = feed(f, &part[0..n]);
+    let mut out = io::large_buffer();
+    let reader = feed(f, &part[0..n], &mut out);
     Turned { reader, more: true }
+}
+
+// Does what is left of the input as a line.
+fn do_rest(r: Replay, line: &[u8], count: usize) {
+    if 0 < count {
+        if count <= line.len() {
+            let mut out = io::large_buffer();
+            let s = trace::step(r, &line[0..count], &mut out);
+            let w = s.written;
+            print(&out, w);
+        }
+    }
 }
 
 // A last line with no byte 10 counts as a line.
@@ -132,7 +143,7 @@ fn finish(f: Reader) {
     let r = f.replay;
     let line = f.line;
     let count = f.count;
-    settle(r, &line, count, 0 < count);
+    do_rest(r, &line, count);
 }
 
 fn main() {

@@ -5,39 +5,78 @@ use lib.ListN.{length}
 use borrow.Author.Needs.{needs}
 use Rattle.replay.proofs.feed.Statement.{statement}
 use Rattle.replay.proofs.feed.Tie as tie
+use Rattle.replay.proofs.feed.Reads as reads
+use Rattle.replay.proofs.feed.Lts as lts
+use Rattle.replay.proofs.gather.Reads as gather-reads
+use Rattle.replay.proofs.print.Reads as print-reads
+use Rattle.replay.proofs.within.Reads as within-reads
+use Rattle.trace.proofs.step.Reads as step-reads
 
 abbrev Inv-loop : tie.InvT-loop
-Inv-loop part r₀ line₀ count₀ at₀ r line count at = length line ≡ 129
+Inv-loop part out₀ r₀ line₀ count₀ at₀ out r line count at = (length line ≡ 129) × (length out ≡ length out₀)
 
 abbrev μ-loop : tie.MeasureT-loop
-μ-loop part r₀ line₀ count₀ at₀ r line count at = length part - at
+μ-loop part out₀ r₀ line₀ count₀ at₀ out r line count at = length part - at
 
+-- src/main.rt:89:5
 loop-holds : tie.Need-loop-holds Inv-loop μ-loop
 loop-holds c = search needs
 
+-- src/main.rt:90:24
 slice-aggregate-gather : tie.Need-slice-aggregate-gather Inv-loop μ-loop
 slice-aggregate-gather c = search needs
 
+-- src/main.rt:90:13
 gather-requires : tie.Need-gather-requires Inv-loop μ-loop
 gather-requires c κs = search needs
 
-slice-aggregate-settle : tie.Need-slice-aggregate-settle Inv-loop μ-loop
-slice-aggregate-settle c = search needs
+-- src/main.rt:91:13
+within-requires : tie.Need-within-requires Inv-loop μ-loop
+within-requires c κs = search needs
 
-settle-requires : tie.Need-settle-requires Inv-loop μ-loop
-settle-requires c κs = search needs
+-- src/main.rt:93:13
+same-length : tie.Need-same-length Inv-loop μ-loop
+same-length c = search needs
 
-left-over-requires : tie.Need-left-over-requires Inv-loop μ-loop
-left-over-requires c κs = search needs
+-- src/main.rt:93:13
+returns : tie.Need-returns Inv-loop μ-loop
+returns c = search needs
 
+-- src/main.rt:99:32
+sub-step : tie.Need-sub-step Inv-loop μ-loop
+sub-step c = search needs
+
+-- src/main.rt:99:32
+part-step-start : tie.Need-part-step-start Inv-loop μ-loop
+part-step-start c = search needs
+
+-- src/main.rt:99:32
+part-step-end : tie.Need-part-step-end Inv-loop μ-loop
+part-step-end c = search needs
+
+-- src/main.rt:99:13
+step-requires : tie.Need-step-requires Inv-loop μ-loop
+step-requires c κs = search needs
+
+-- src/main.rt:101:9
+print-requires : tie.Need-print-requires Inv-loop μ-loop
+print-requires c κs = search needs
+
+-- src/main.rt:89:5
 loop-less : tie.Need-loop-less Inv-loop μ-loop
 loop-less c = search needs
 
+-- src/main.rt:89:5
 loop-again : tie.Need-loop-again Inv-loop μ-loop
 loop-again c = search needs
 
-returns : tie.Need-returns Inv-loop μ-loop
-returns c = search needs
+-- src/main.rt:84:1
+same-length-2 : tie.Need-same-length-2 Inv-loop μ-loop
+same-length-2 c = search needs
+
+-- src/main.rt:84:1
+returns-2 : tie.Need-returns-2 Inv-loop μ-loop
+returns-2 c = search needs
 
 pub feed-spec : {M : Type 1} → statement M
 feed-spec =
@@ -48,9 +87,15 @@ feed-spec =
     loop-holds
     slice-aggregate-gather
     gather-requires
-    slice-aggregate-settle
-    settle-requires
-    left-over-requires
+    within-requires
+    same-length
+    returns
+    sub-step
+    part-step-start
+    part-step-end
+    step-requires
+    print-requires
     loop-less
     loop-again
-    returns)
+    same-length-2
+    returns-2)
