@@ -27,6 +27,7 @@ fn no_such_card(c: Cabinet, b: &mut [u8], w: Writing) -> Called
     }
 }
 
+// 1. open: a set over 65535 names a card that no cabinet has.
 pub fn open(c: Cabinet, reads: u32, writes: u32, b: &mut [u8], w: Writing) -> Called
     ensures { λ r. ⌜ Written (OpenTold c reads writes (r .cabinet)) (now (b .entry)) w (r .written) (now (b .exit)) ⌝ }
 {
@@ -43,6 +44,7 @@ pub fn open(c: Cabinet, reads: u32, writes: u32, b: &mut [u8], w: Writing) -> Ca
     Called { cabinet, written }
 }
 
+// 2. vote
 pub fn vote(c: Cabinet, change: u32, card: u32, agrees: bool, b: &mut [u8], w: Writing) -> Called
     ensures { λ r. ⌜ Written (Planned c (votePlan limits16 (view c) change card agrees) (r .cabinet)) (now (b .entry)) w (r .written) (now (b .exit)) ⌝ }
 {
@@ -53,6 +55,7 @@ pub fn vote(c: Cabinet, change: u32, card: u32, agrees: bool, b: &mut [u8], w: W
     Called { cabinet, written }
 }
 
+// 3. take
 pub fn take(c: Cabinet, change: u32, card: u32, b: &mut [u8], w: Writing) -> Called
     ensures { λ r. ⌜ Written (Planned c (takePlan limits16 (view c) change card) (r .cabinet)) (now (b .entry)) w (r .written) (now (b .exit)) ⌝ }
 {
@@ -63,6 +66,7 @@ pub fn take(c: Cabinet, change: u32, card: u32, b: &mut [u8], w: Writing) -> Cal
     Called { cabinet, written }
 }
 
+// 4. withdraw
 pub fn withdraw(c: Cabinet, change: u32, b: &mut [u8], w: Writing) -> Called
     ensures { λ r. ⌜ Written (Planned c (withdrawPlan limits16 (view c) change) (r .cabinet)) (now (b .entry)) w (r .written) (now (b .exit)) ⌝ }
 {
@@ -73,6 +77,7 @@ pub fn withdraw(c: Cabinet, change: u32, b: &mut [u8], w: Writing) -> Called
     Called { cabinet, written }
 }
 
+// 5. store
 pub fn store(c: Cabinet, card: u32, state: u32, b: &mut [u8], w: Writing) -> Called
     ensures { λ r. ⌜ Written (Planned c (storePlan limits16 (view c) card state) (r .cabinet)) (now (b .entry)) w (r .written) (now (b .exit)) ⌝ }
 {
@@ -83,6 +88,7 @@ pub fn store(c: Cabinet, card: u32, state: u32, b: &mut [u8], w: Writing) -> Cal
     Called { cabinet, written }
 }
 
+// 6. trim
 pub fn trim(c: Cabinet, b: &mut [u8], w: Writing) -> Called
     ensures { λ r. ⌜ Written (Planned c (trimPlan limits16 (view c)) (r .cabinet)) (now (b .entry)) w (r .written) (now (b .exit)) ⌝ }
 {
@@ -93,6 +99,7 @@ pub fn trim(c: Cabinet, b: &mut [u8], w: Writing) -> Called
     Called { cabinet, written }
 }
 
+// 7. safe
 pub fn safe(c: Cabinet, change: u32, b: &mut [u8], w: Writing) -> Called
     ensures { λ r. ⌜ Written (Planned c (safePlan limits16 (view c) change) (r .cabinet)) (now (b .entry)) w (r .written) (now (b .exit)) ⌝ }
 {
@@ -103,6 +110,7 @@ pub fn safe(c: Cabinet, change: u32, b: &mut [u8], w: Writing) -> Called
     Called { cabinet, written }
 }
 
+// 8. lose: a set over 65535 names a card that no cabinet has.
 pub fn lose(c: Cabinet, cards: u32, b: &mut [u8], w: Writing) -> Called
     ensures { λ r. ⌜ Written (LoseTold c cards (r .cabinet)) (now (b .entry)) w (r .written) (now (b .exit)) ⌝ }
 {
@@ -130,6 +138,7 @@ fn blank_list() -> [u32; 776]
     [0; 776]
 }
 
+// 9. fix: the list for change numbers has at most 776 places.
 pub fn fix(c: Cabinet, records: u32, numbers: u32, b: &mut [u8], w: Writing) -> Called
     ensures { λ r. ⌜ Written (FixSaid c records (min numbers 776) (r .cabinet)) (now (b .entry)) w (r .written) (now (b .exit)) ⌝ }
 {
@@ -146,6 +155,7 @@ pub fn fix(c: Cabinet, records: u32, numbers: u32, b: &mut [u8], w: Writing) -> 
     Called { cabinet, written }
 }
 
+// 10. roll
 pub fn roll(c: Cabinet, card: u32, b: &mut [u8], w: Writing) -> Called
     ensures { λ r. ⌜ Written (Planned c (rollPlan limits16 (view c) card) (r .cabinet)) (now (b .entry)) w (r .written) (now (b .exit)) ⌝ }
 {
@@ -170,6 +180,7 @@ fn blank_buffer() -> [u8; 65536]
     [0; 65536]
 }
 
+// A card's sheet: the buffer has at most 65,536 bytes.
 pub fn sheet(c: Cabinet, card: u32, bytes: u32, b: &mut [u8], w: Writing) -> Called
     ensures { λ r. ⌜ Written (Planned c (sheetPlan format limits16 (view c) card (min bytes 65536)) (r .cabinet)) (now (b .entry)) w (r .written) (now (b .exit)) ⌝ }
 {

@@ -93,6 +93,7 @@ fn answered(r: Reply, good: bool) -> SafeReply
     }
 }
 
+// 7. safe
 pub fn safe_reply(
     sound: bool,
     makers: &[u32; 768],
