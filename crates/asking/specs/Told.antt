@@ -1,6 +1,7 @@
 -- What a call of a list does to the present cabinet, and the text of its answer.
 use Prim.Native.Nat.{ℕ, _<_, _≤_, min}
 use mathlib.Core.Path.{_≡_}
+use mathlib.Core.Bool.{true}
 use mathlib.Core.List.{List}
 use Rattle.laws.specs.Below.{occurs, one-if}
 use Rattle.bits.specs.Member.{member}
@@ -13,6 +14,7 @@ use Rattle.frame.specs.Format.{format}
 use Rattle.verdicts.specs.Shape.{limits16}
 use Rattle.cabinet.specs.declared.Cabinet.{Cabinet}
 use Rattle.cabinet.specs.View.{view}
+use Rattle.asking.specs.declared.Replay.{Replay}
 use Rattle.cabinet.specs.Apply.{applyAll, OpenCarried}
 use Rattle.joined.specs.Joined.{FromOwnSheets}
 use Rattle.words.specs.declared.Request.{Request}
@@ -26,6 +28,11 @@ pub record Written (Told : List ℕ → Type 0) (b : List ℕ) (w r : Writing) (
   pub text : List ℕ
   pub told : Told text
   pub put : Put b w text r e
+
+-- after a call there is a cabinet, and this is told of it
+pub record Onward (Told : Cabinet → List ℕ → Type 0) (next : Replay) (text : List ℕ) : Type 0 where
+  pub begun : next .begun ≡ true
+  pub told : Told (next .cabinet) text
 
 -- the cabinet stays, and the text is this
 pub record Kept (c : Cabinet) (t : List ℕ) (next : Cabinet) (text : List ℕ) : Type 0 where

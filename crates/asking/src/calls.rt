@@ -10,26 +10,28 @@ ghost use Rattle.verdicts.specs.Shape.{limits16};
 ghost use Rattle.cabinet.specs.View.{view};
 ghost use Rattle.answers.specs.Texts.{refusedText};
 ghost use Rattle.answers.specs.Show.{showText};
-ghost use Rattle.asking.specs.Told.{Planned, OpenTold, LoseTold, FixSaid, RestartTold, Kept, Written};
-use crate::Called;
+ghost use Rattle.asking.specs.Told.{Planned, OpenTold, LoseTold, FixSaid, RestartTold, Kept, Written, Onward};
+use crate::Replay;
+use crate::Stepped;
 use cabinet::Cabinet;
 use decimal::Writing;
 use refusal::Refusal;
 
 // The call is refused for a card that no cabinet has.
-fn no_such_card(c: Cabinet, b: &mut [u8], w: Writing) -> Called
-    ensures { λ r. ⌜ Written (Kept c (refusedText NoSuchCard) (r .cabinet)) (now (b .entry)) w (r .written) (now (b .exit)) ⌝ }
+fn no_such_card(c: Cabinet, b: &mut [u8], w: Writing) -> Stepped
+    ensures { λ r. ⌜ Written (Onward (Kept c (refusedText NoSuchCard)) (r .replay)) (now (b .entry)) w (r .written) (now (b .exit)) ⌝ }
 {
     let written = answers::put_refusal(b, w, Refusal::NoSuchCard);
-    Called {
+    let replay = Replay {
         cabinet: c,
-        written,
-    }
+        begun: true,
+    };
+    Stepped { replay, written }
 }
 
 // 1. open: a set over 65535 names a card that no cabinet has.
-pub fn open(c: Cabinet, reads: u32, writes: u32, b: &mut [u8], w: Writing) -> Called
-    ensures { λ r. ⌜ Written (OpenTold c reads writes (r .cabinet)) (now (b .entry)) w (r .written) (now (b .exit)) ⌝ }
+pub fn open(c: Cabinet, reads: u32, writes: u32, b: &mut [u8], w: Writing) -> Stepped
+    ensures { λ r. ⌜ Written (Onward (OpenTold c reads writes) (r .replay)) (now (b .entry)) w (r .written) (now (b .exit)) ⌝ }
 {
     if 65535 < reads {
         return no_such_card(c, b, w);
@@ -41,78 +43,106 @@ pub fn open(c: Cabinet, reads: u32, writes: u32, b: &mut [u8], w: Writing) -> Ca
     let r = a.reply;
     let written = answers::put_open(b, w, r);
     let cabinet = a.cabinet;
-    Called { cabinet, written }
+    let replay = Replay {
+        cabinet,
+        begun: true,
+    };
+    Stepped { replay, written }
 }
 
 // 2. vote
-pub fn vote(c: Cabinet, change: u32, card: u32, agrees: bool, b: &mut [u8], w: Writing) -> Called
-    ensures { λ r. ⌜ Written (Planned c (votePlan limits16 (view c) change card agrees) (r .cabinet)) (now (b .entry)) w (r .written) (now (b .exit)) ⌝ }
+pub fn vote(c: Cabinet, change: u32, card: u32, agrees: bool, b: &mut [u8], w: Writing) -> Stepped
+    ensures { λ r. ⌜ Written (Onward (Planned c (votePlan limits16 (view c) change card agrees)) (r .replay)) (now (b .entry)) w (r .written) (now (b .exit)) ⌝ }
 {
     let a = c.vote(change, card, agrees);
     let r = a.reply;
     let written = answers::put_reply(b, w, r);
     let cabinet = a.cabinet;
-    Called { cabinet, written }
+    let replay = Replay {
+        cabinet,
+        begun: true,
+    };
+    Stepped { replay, written }
 }
 
 // 3. take
-pub fn take(c: Cabinet, change: u32, card: u32, b: &mut [u8], w: Writing) -> Called
-    ensures { λ r. ⌜ Written (Planned c (takePlan limits16 (view c) change card) (r .cabinet)) (now (b .entry)) w (r .written) (now (b .exit)) ⌝ }
+pub fn take(c: Cabinet, change: u32, card: u32, b: &mut [u8], w: Writing) -> Stepped
+    ensures { λ r. ⌜ Written (Onward (Planned c (takePlan limits16 (view c) change card)) (r .replay)) (now (b .entry)) w (r .written) (now (b .exit)) ⌝ }
 {
     let a = c.take(change, card);
     let r = a.reply;
     let written = answers::put_reply(b, w, r);
     let cabinet = a.cabinet;
-    Called { cabinet, written }
+    let replay = Replay {
+        cabinet,
+        begun: true,
+    };
+    Stepped { replay, written }
 }
 
 // 4. withdraw
-pub fn withdraw(c: Cabinet, change: u32, b: &mut [u8], w: Writing) -> Called
-    ensures { λ r. ⌜ Written (Planned c (withdrawPlan limits16 (view c) change) (r .cabinet)) (now (b .entry)) w (r .written) (now (b .exit)) ⌝ }
+pub fn withdraw(c: Cabinet, change: u32, b: &mut [u8], w: Writing) -> Stepped
+    ensures { λ r. ⌜ Written (Onward (Planned c (withdrawPlan limits16 (view c) change)) (r .replay)) (now (b .entry)) w (r .written) (now (b .exit)) ⌝ }
 {
     let a = c.withdraw(change);
     let r = a.reply;
     let written = answers::put_reply(b, w, r);
     let cabinet = a.cabinet;
-    Called { cabinet, written }
+    let replay = Replay {
+        cabinet,
+        begun: true,
+    };
+    Stepped { replay, written }
 }
 
 // 5. store
-pub fn store(c: Cabinet, card: u32, state: u32, b: &mut [u8], w: Writing) -> Called
-    ensures { λ r. ⌜ Written (Planned c (storePlan limits16 (view c) card state) (r .cabinet)) (now (b .entry)) w (r .written) (now (b .exit)) ⌝ }
+pub fn store(c: Cabinet, card: u32, state: u32, b: &mut [u8], w: Writing) -> Stepped
+    ensures { λ r. ⌜ Written (Onward (Planned c (storePlan limits16 (view c) card state)) (r .replay)) (now (b .entry)) w (r .written) (now (b .exit)) ⌝ }
 {
     let a = c.store(card, state);
     let r = a.reply;
     let written = answers::put_reply(b, w, r);
     let cabinet = a.cabinet;
-    Called { cabinet, written }
+    let replay = Replay {
+        cabinet,
+        begun: true,
+    };
+    Stepped { replay, written }
 }
 
 // 6. trim
-pub fn trim(c: Cabinet, b: &mut [u8], w: Writing) -> Called
-    ensures { λ r. ⌜ Written (Planned c (trimPlan limits16 (view c)) (r .cabinet)) (now (b .entry)) w (r .written) (now (b .exit)) ⌝ }
+pub fn trim(c: Cabinet, b: &mut [u8], w: Writing) -> Stepped
+    ensures { λ r. ⌜ Written (Onward (Planned c (trimPlan limits16 (view c))) (r .replay)) (now (b .entry)) w (r .written) (now (b .exit)) ⌝ }
 {
     let a = c.trim();
     let r = a.reply;
     let written = answers::put_reply(b, w, r);
     let cabinet = a.cabinet;
-    Called { cabinet, written }
+    let replay = Replay {
+        cabinet,
+        begun: true,
+    };
+    Stepped { replay, written }
 }
 
 // 7. safe
-pub fn safe(c: Cabinet, change: u32, b: &mut [u8], w: Writing) -> Called
-    ensures { λ r. ⌜ Written (Planned c (safePlan limits16 (view c) change) (r .cabinet)) (now (b .entry)) w (r .written) (now (b .exit)) ⌝ }
+pub fn safe(c: Cabinet, change: u32, b: &mut [u8], w: Writing) -> Stepped
+    ensures { λ r. ⌜ Written (Onward (Planned c (safePlan limits16 (view c) change)) (r .replay)) (now (b .entry)) w (r .written) (now (b .exit)) ⌝ }
 {
     let a = c.safe(change);
     let r = a.reply;
     let written = answers::put_safe(b, w, r);
     let cabinet = a.cabinet;
-    Called { cabinet, written }
+    let replay = Replay {
+        cabinet,
+        begun: true,
+    };
+    Stepped { replay, written }
 }
 
 // 8. lose: a set over 65535 names a card that no cabinet has.
-pub fn lose(c: Cabinet, cards: u32, b: &mut [u8], w: Writing) -> Called
-    ensures { λ r. ⌜ Written (LoseTold c cards (r .cabinet)) (now (b .entry)) w (r .written) (now (b .exit)) ⌝ }
+pub fn lose(c: Cabinet, cards: u32, b: &mut [u8], w: Writing) -> Stepped
+    ensures { λ r. ⌜ Written (Onward (LoseTold c cards) (r .replay)) (now (b .entry)) w (r .written) (now (b .exit)) ⌝ }
 {
     if 65535 < cards {
         return no_such_card(c, b, w);
@@ -121,7 +151,11 @@ pub fn lose(c: Cabinet, cards: u32, b: &mut [u8], w: Writing) -> Called
     let r = a.reply;
     let written = answers::put_reply(b, w, r);
     let cabinet = a.cabinet;
-    Called { cabinet, written }
+    let replay = Replay {
+        cabinet,
+        begun: true,
+    };
+    Stepped { replay, written }
 }
 
 // How many places for change numbers are lent: at most 776.
@@ -139,8 +173,8 @@ fn blank_list() -> [u32; 776]
 }
 
 // 9. fix: the list for change numbers has at most 776 places.
-pub fn fix(c: Cabinet, records: u32, numbers: u32, b: &mut [u8], w: Writing) -> Called
-    ensures { λ r. ⌜ Written (FixSaid c records (min numbers 776) (r .cabinet)) (now (b .entry)) w (r .written) (now (b .exit)) ⌝ }
+pub fn fix(c: Cabinet, records: u32, numbers: u32, b: &mut [u8], w: Writing) -> Stepped
+    ensures { λ r. ⌜ Written (Onward (FixSaid c records (min numbers 776)) (r .replay)) (now (b .entry)) w (r .written) (now (b .exit)) ⌝ }
 {
     let head = c.head;
     let cards = head.cards;
@@ -152,18 +186,26 @@ pub fn fix(c: Cabinet, records: u32, numbers: u32, b: &mut [u8], w: Writing) -> 
     let line = a.line;
     let written = answers::put_fix(b, w, cards, stored, line, list, places, r);
     let cabinet = a.cabinet;
-    Called { cabinet, written }
+    let replay = Replay {
+        cabinet,
+        begun: true,
+    };
+    Stepped { replay, written }
 }
 
 // 10. roll
-pub fn roll(c: Cabinet, card: u32, b: &mut [u8], w: Writing) -> Called
-    ensures { λ r. ⌜ Written (Planned c (rollPlan limits16 (view c) card) (r .cabinet)) (now (b .entry)) w (r .written) (now (b .exit)) ⌝ }
+pub fn roll(c: Cabinet, card: u32, b: &mut [u8], w: Writing) -> Stepped
+    ensures { λ r. ⌜ Written (Onward (Planned c (rollPlan limits16 (view c) card)) (r .replay)) (now (b .entry)) w (r .written) (now (b .exit)) ⌝ }
 {
     let a = c.roll(card);
     let r = a.reply;
     let written = answers::put_reply(b, w, r);
     let cabinet = a.cabinet;
-    Called { cabinet, written }
+    let replay = Replay {
+        cabinet,
+        begun: true,
+    };
+    Stepped { replay, written }
 }
 
 // How many bytes of a buffer for a sheet are lent: at most 65,536.
@@ -181,8 +223,8 @@ fn blank_buffer() -> [u8; 65536]
 }
 
 // A card's sheet: the buffer has at most 65,536 bytes.
-pub fn sheet(c: Cabinet, card: u32, bytes: u32, b: &mut [u8], w: Writing) -> Called
-    ensures { λ r. ⌜ Written (Planned c (sheetPlan format limits16 (view c) card (min bytes 65536)) (r .cabinet)) (now (b .entry)) w (r .written) (now (b .exit)) ⌝ }
+pub fn sheet(c: Cabinet, card: u32, bytes: u32, b: &mut [u8], w: Writing) -> Stepped
+    ensures { λ r. ⌜ Written (Onward (Planned c (sheetPlan format limits16 (view c) card (min bytes 65536))) (r .replay)) (now (b .entry)) w (r .written) (now (b .exit)) ⌝ }
 {
     let mut buffer = blank_buffer();
     let places = lent_bytes(bytes);
@@ -190,23 +232,31 @@ pub fn sheet(c: Cabinet, card: u32, bytes: u32, b: &mut [u8], w: Writing) -> Cal
     let r = a.reply;
     let written = answers::put_sheet(b, w, &buffer, places, r);
     let cabinet = a.cabinet;
-    Called { cabinet, written }
+    let replay = Replay {
+        cabinet,
+        begun: true,
+    };
+    Stepped { replay, written }
 }
 
 // The result takes the cabinet's place.
-pub fn restart(c: Cabinet, b: &mut [u8], w: Writing) -> Called
-    ensures { λ r. ⌜ Written (RestartTold c (r .cabinet)) (now (b .entry)) w (r .written) (now (b .exit)) ⌝ }
+pub fn restart(c: Cabinet, b: &mut [u8], w: Writing) -> Stepped
+    ensures { λ r. ⌜ Written (Onward (RestartTold c) (r .replay)) (now (b .entry)) w (r .written) (now (b .exit)) ⌝ }
 {
     let a = joined::restart(c);
     let r = a.reply;
     let written = answers::put_reply(b, w, r);
     let cabinet = a.cabinet;
-    Called { cabinet, written }
+    let replay = Replay {
+        cabinet,
+        begun: true,
+    };
+    Stepped { replay, written }
 }
 
 // What the cabinet is.
-pub fn show(c: Cabinet, b: &mut [u8], w: Writing) -> Called
-    ensures { λ r. ⌜ Written (Kept c (showText (c .head) (c .base) (c .stored) (c .held) (c .reached)) (r .cabinet)) (now (b .entry)) w (r .written) (now (b .exit)) ⌝ }
+pub fn show(c: Cabinet, b: &mut [u8], w: Writing) -> Stepped
+    ensures { λ r. ⌜ Written (Onward (Kept c (showText (c .head) (c .base) (c .stored) (c .held) (c .reached))) (r .replay)) (now (b .entry)) w (r .written) (now (b .exit)) ⌝ }
 {
     let head = c.head;
     let base = c.base;
@@ -214,8 +264,9 @@ pub fn show(c: Cabinet, b: &mut [u8], w: Writing) -> Called
     let held = c.held;
     let reached = c.reached;
     let written = answers::put_show(b, w, head, base, stored, held, reached);
-    Called {
+    let replay = Replay {
         cabinet: c,
-        written,
-    }
+        begun: true,
+    };
+    Stepped { replay, written }
 }

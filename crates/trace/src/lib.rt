@@ -3,25 +3,13 @@ ghost use mathlib.Core.Path.{_≡_};
 ghost use Rattle.decimal.specs.declared.Writing.the-variants.{Next};
 ghost use Rattle.words.specs.Calls.{saysLine};
 ghost use Rattle.asking.specs.Told.{Written};
-ghost use Rattle.trace.specs.Steps.{Steps, Asked, Freshened, nothingYet, Replayed, Counted};
+ghost use Rattle.asking.specs.Step.{Steps};
+ghost use Rattle.trace.specs.Steps.{nothingYet, Replayed, Counted};
+use asking::Replay;
+use asking::Stepped;
 use cabinet::Cabinet;
 use decimal::Writing;
-use verdicts::Reply;
 use words::Heard;
-use words::Request;
-use words::Spoken;
-
-// The present cabinet, and whether there is one.
-pub struct Replay {
-    pub cabinet: Cabinet,
-    pub begun: bool,
-}
-
-// A replay after a line, and how far the answers are written.
-pub struct Stepped {
-    pub replay: Replay,
-    pub written: Writing,
-}
 
 // Before the first cabinet.
 pub fn begin() -> Replay
@@ -35,66 +23,12 @@ pub fn begin() -> Replay
     }
 }
 
-// A fresh cabinet in the place of the present one.
-fn freshen(r: Replay, cards: u32, b: &mut [u8], w: Writing) -> Stepped
-    ensures { λ s. ⌜ Written (Freshened cards r (s .replay)) (now (b .entry)) w (s .written) (now (b .exit)) ⌝ }
-{
-    let a = Cabinet::fresh(cards);
-    let reply = a.reply;
-    let written = answers::put_reply(b, w, reply);
-    match reply {
-        Reply::Done => {
-            let cabinet = a.cabinet;
-            let replay = Replay {
-                cabinet,
-                begun: true,
-            };
-            Stepped { replay, written }
-        }
-        Reply::Refused(_) => Stepped { replay: r, written },
-    }
-}
-
-// A request, where there is a cabinet.
-fn request(r: Replay, q: Request, b: &mut [u8], w: Writing) -> Stepped
-    ensures { λ s. ⌜ Written (Asked (r .begun) q r (s .replay)) (now (b .entry)) w (s .written) (now (b .exit)) ⌝ }
-{
-    let begun = r.begun;
-    if begun {
-        let c = r.cabinet;
-        let a = asking::ask(c, q, b, w);
-        let cabinet = a.cabinet;
-        let written = a.written;
-        let replay = Replay {
-            cabinet,
-            begun: true,
-        };
-        return Stepped { replay, written };
-    }
-    let written = answers::put_none(b, w);
-    Stepped { replay: r, written }
-}
-
-// What a line says is done, and its answer written after those before.
-fn obey(r: Replay, said: Spoken, b: &mut [u8], w: Writing) -> Stepped
-    ensures { λ s. ⌜ Written (Steps said r (s .replay)) (now (b .entry)) w (s .written) (now (b .exit)) ⌝ }
-{
-    match said {
-        Spoken::Fresh(cards) => freshen(r, cards, b, w),
-        Spoken::Asks(q) => request(r, q, b, w),
-        Spoken::Unreadable => {
-            let written = answers::put_unreadable(b, w);
-            Stepped { replay: r, written }
-        }
-    }
-}
-
 // One line, its byte 10 left out: the answer goes to the front of the buffer.
 pub fn step(r: Replay, line: &[u8], out: &mut [u8]) -> Stepped
     ensures { λ s. ⌜ Written (Steps (saysLine (now (line .entry))) r (s .replay)) (now (out .entry)) (Next 0) (s .written) (now (out .exit)) ⌝ }
 {
     let said = words::says(line);
-    obey(r, said, out, Writing::Next(0))
+    asking::obey(r, said, out, Writing::Next(0))
 }
 
 // A whole list of calls: the count of bytes of the answers, or that the buffer is too short for them.
@@ -111,7 +45,7 @@ pub fn run(text: &[u8], out: &mut [u8]) -> Writing
                 return w;
             }
             Heard::Line(said, next) => {
-                let s = obey(r, said, out, w);
+                let s = asking::obey(r, said, out, w);
                 let n = s.replay;
                 r = n;
                 w = s.written;

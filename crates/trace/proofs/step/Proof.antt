@@ -1,7 +1,7 @@
 -- `trace::step` reads a line and does what it says. Assumes nothing.
 use mathlib.Core.Path.{sym}
 use Rattle.words.specs.declared.Spoken.{Spoken}
-use Rattle.trace.specs.Steps.{Steps}
+use Rattle.asking.specs.Step.{Steps}
 use Rattle.asking.proofs.Laws.{told-for}
 use borrow.Author.Needs.{needs}
 use Rattle.trace.proofs.step.Statement.{statement}

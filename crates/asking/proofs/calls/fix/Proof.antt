@@ -3,7 +3,7 @@ use Prim.Native.Nat.{_-_}
 use mathlib.Core.Path.{_≡_, _∙_}
 use native.Mathlib.Omega.{arith}
 use lib.Seq.{take-at}
-use Rattle.asking.proofs.Laws.{fixed-by}
+use Rattle.asking.proofs.Laws.{fixed-by, onward}
 use borrow.Author.Needs.{needs}
 use Rattle.asking.proofs.calls.fix.Statement.{statement}
 use Rattle.asking.proofs.calls.fix.Tie as tie
@@ -34,8 +34,8 @@ same-length c = search needs
 
 returns : tie.Need-returns
 returns c = let z : c .before .before .before .before .before .before .before .before .before .before .lent-places .result - 0 ≡ c .before .before .before .before .before .before .before .before .before .before .lent-places .result = omega arith in
-    fixed-by (c .before .before .before .before .before .before .before .before .before .before .lent-places .result) _ _ (c .before .before .before .before .before .before .before .before .fix .ensures) (c .before .before .before .before .before .before .before .before .before .list .given .2 ∙ z ∙ c .before .before .before .before .before .before .before .before .before .before .lent-places .ensures)
-    (take-at _ _ _ (c .before .before .before .before .before .before .before .list2 .given ∙ c .before .before .before .before .before .before .before .before .before .list .given .2 ∙ z)) (c .before .before .before .put-fix .ensures)
+    onward _ (fixed-by (c .before .before .before .before .before .before .before .before .before .before .lent-places .result) _ _ (c .before .before .before .before .before .before .before .before .fix .ensures) (c .before .before .before .before .before .before .before .before .before .list .given .2 ∙ z ∙ c .before .before .before .before .before .before .before .before .before .before .lent-places .ensures)
+    (take-at _ _ _ (c .before .before .before .before .before .before .before .list2 .given ∙ c .before .before .before .before .before .before .before .before .before .list .given .2 ∙ z)) (c .before .before .before .put-fix .ensures))
 
 pub fix-spec : {M : Type 1} → statement M
 fix-spec =

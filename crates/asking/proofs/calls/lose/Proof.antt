@@ -1,6 +1,6 @@
 -- `asking::calls::lose` calls lose and writes its answer. Assumes nothing.
 use Rattle.asking.specs.Told.{setBeyond, lostWithin}
-use Rattle.asking.proofs.Laws.{by-plan, told-as}
+use Rattle.asking.proofs.Laws.{by-plan, told-as, onward, onward-as}
 use borrow.Author.Needs.{needs}
 use Rattle.asking.proofs.calls.lose.Statement.{statement}
 use Rattle.asking.proofs.calls.lose.Tie as tie
@@ -12,7 +12,7 @@ same-length : tie.Need-same-length
 same-length c = search needs
 
 returns : tie.Need-returns
-returns c = told-as (λ t k. setBeyond (search needs) k) (c .before .before .no-such-card .ensures)
+returns c = onward-as (λ t k. setBeyond (search needs) k) (c .before .before .no-such-card .ensures)
 
 cast-lose : tie.Need-cast-lose
 cast-lose c = search needs
@@ -27,7 +27,7 @@ same-length-2 : tie.Need-same-length-2
 same-length-2 c = search needs
 
 returns-2 : tie.Need-returns-2
-returns-2 c = told-as (λ t k. lostWithin (search needs) k) (by-plan (c .before .before .before .before .before .lose .ensures) (c .before .before .before .put-reply .ensures))
+returns-2 c = onward _ (told-as (λ t k. lostWithin (search needs) k) (by-plan (c .before .before .before .before .before .lose .ensures) (c .before .before .before .put-reply .ensures)))
 
 pub lose-spec : {M : Type 1} → statement M
 lose-spec =

@@ -1,6 +1,6 @@
 -- `asking::calls::open` calls open and writes its answer. Assumes nothing.
 use Rattle.asking.specs.Told.{readsBeyond, writesBeyond}
-use Rattle.asking.proofs.Laws.{told-as, opened-by}
+use Rattle.asking.proofs.Laws.{told-as, opened-by, onward, onward-as}
 use borrow.Author.Needs.{needs}
 use Rattle.asking.proofs.calls.open.Statement.{statement}
 use Rattle.asking.proofs.calls.open.Tie as tie
@@ -12,7 +12,7 @@ same-length : tie.Need-same-length
 same-length c = search needs
 
 returns : tie.Need-returns
-returns c = told-as (λ t k. readsBeyond (search needs) k) (c .before .before .no-such-card .ensures)
+returns c = onward-as (λ t k. readsBeyond (search needs) k) (c .before .before .no-such-card .ensures)
 
 no-such-card-requires-2 : tie.Need-no-such-card-requires-2
 no-such-card-requires-2 c κs = search needs
@@ -21,7 +21,7 @@ same-length-2 : tie.Need-same-length-2
 same-length-2 c = search needs
 
 returns-2 : tie.Need-returns-2
-returns-2 c = told-as (λ t k. writesBeyond (search needs) k) (c .before .before .no-such-card2 .ensures)
+returns-2 c = onward-as (λ t k. writesBeyond (search needs) k) (c .before .before .no-such-card2 .ensures)
 
 cast-open : tie.Need-cast-open
 cast-open c = search needs
@@ -39,7 +39,7 @@ same-length-3 : tie.Need-same-length-3
 same-length-3 c = search needs
 
 returns-3 : tie.Need-returns-3
-returns-3 c = opened-by (search needs) (search needs) (c .before .before .before .before .before .«open» .ensures) (c .before .before .before .put-open .ensures)
+returns-3 c = onward _ (opened-by (search needs) (search needs) (c .before .before .before .before .before .«open» .ensures) (c .before .before .before .put-open .ensures))
 
 pub open-spec : {M : Type 1} → statement M
 open-spec =

@@ -1,5 +1,5 @@
 -- `asking::calls::restart` restarts from the sheets as the cabinet writes them and writes its answer. Assumes nothing.
-use Rattle.asking.proofs.Laws.{restarted-by}
+use Rattle.asking.proofs.Laws.{restarted-by, onward}
 use borrow.Author.Needs.{needs}
 use Rattle.asking.proofs.calls.restart.Statement.{statement}
 use Rattle.asking.proofs.calls.restart.Tie as tie
@@ -14,7 +14,7 @@ same-length : tie.Need-same-length
 same-length c = search needs
 
 returns : tie.Need-returns
-returns c = restarted-by (c .before .before .before .before .before .restart .ensures) (c .before .before .before .put-reply .ensures)
+returns c = onward _ (restarted-by (c .before .before .before .before .before .restart .ensures) (c .before .before .before .put-reply .ensures))
 
 pub restart-spec : {M : Type 1} → statement M
 restart-spec = tie.close (tie.spec restart-requires put-reply-requires same-length returns)

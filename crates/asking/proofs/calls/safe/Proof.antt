@@ -1,5 +1,5 @@
 -- `asking::calls::safe` calls safe and writes its answer. Assumes nothing.
-use Rattle.asking.proofs.Laws.{by-plan}
+use Rattle.asking.proofs.Laws.{by-plan, onward}
 use borrow.Author.Needs.{needs}
 use Rattle.asking.proofs.calls.safe.Statement.{statement}
 use Rattle.asking.proofs.calls.safe.Tie as tie
@@ -14,7 +14,7 @@ same-length : tie.Need-same-length
 same-length c = search needs
 
 returns : tie.Need-returns
-returns c = by-plan (c .before .before .before .before .before .safe .ensures) (c .before .before .before .put-safe .ensures)
+returns c = onward _ (by-plan (c .before .before .before .before .before .safe .ensures) (c .before .before .before .put-safe .ensures))
 
 pub safe-spec : {M : Type 1} → statement M
 safe-spec = tie.close (tie.spec safe-requires put-safe-requires same-length returns)

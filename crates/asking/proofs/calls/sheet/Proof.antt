@@ -3,7 +3,7 @@ use Prim.Native.Nat.{_-_}
 use mathlib.Core.Path.{_≡_, _∙_}
 use native.Mathlib.Omega.{arith}
 use lib.Seq.{take-at}
-use Rattle.asking.proofs.Laws.{sheet-by}
+use Rattle.asking.proofs.Laws.{sheet-by, onward}
 use borrow.Author.Needs.{needs}
 use Rattle.asking.proofs.calls.sheet.Statement.{statement}
 use Rattle.asking.proofs.calls.sheet.Tie as tie
@@ -35,8 +35,8 @@ same-length c = search needs
 returns : tie.Need-returns
 returns c = let d = c .before .before .before .before .before .before .before .before in
     let z : d .before .lent-bytes .result - 0 ≡ d .before .lent-bytes .result = omega arith in
-    sheet-by (d .before .lent-bytes .result) _ _ (c .before .before .before .before .before .before .before .sheet .ensures) (d .buffer .given .2 ∙ z ∙ d .before .lent-bytes .ensures)
-    (take-at _ _ _ (c .before .before .before .before .before .before .buffer2 .given ∙ d .buffer .given .2 ∙ z)) (c .before .before .before .put-sheet .ensures)
+    onward _ (sheet-by (d .before .lent-bytes .result) _ _ (c .before .before .before .before .before .before .before .sheet .ensures) (d .buffer .given .2 ∙ z ∙ d .before .lent-bytes .ensures)
+    (take-at _ _ _ (c .before .before .before .before .before .before .buffer2 .given ∙ d .buffer .given .2 ∙ z)) (c .before .before .before .put-sheet .ensures))
 
 pub sheet-spec : {M : Type 1} → statement M
 sheet-spec =

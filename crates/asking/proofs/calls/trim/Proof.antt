@@ -1,5 +1,5 @@
 -- `asking::calls::trim` calls trim and writes its answer. Assumes nothing.
-use Rattle.asking.proofs.Laws.{by-plan}
+use Rattle.asking.proofs.Laws.{by-plan, onward}
 use borrow.Author.Needs.{needs}
 use Rattle.asking.proofs.calls.trim.Statement.{statement}
 use Rattle.asking.proofs.calls.trim.Tie as tie
@@ -14,7 +14,7 @@ same-length : tie.Need-same-length
 same-length c = search needs
 
 returns : tie.Need-returns
-returns c = by-plan (c .before .before .before .before .before .trim .ensures) (c .before .before .before .put-reply .ensures)
+returns c = onward _ (by-plan (c .before .before .before .before .before .trim .ensures) (c .before .before .before .put-reply .ensures))
 
 pub trim-spec : {M : Type 1} → statement M
 trim-spec = tie.close (tie.spec trim-requires put-reply-requires same-length returns)

@@ -1,5 +1,5 @@
 -- `asking::calls::withdraw` calls withdraw and writes its answer. Assumes nothing.
-use Rattle.asking.proofs.Laws.{by-plan}
+use Rattle.asking.proofs.Laws.{by-plan, onward}
 use borrow.Author.Needs.{needs}
 use Rattle.asking.proofs.calls.withdraw.Statement.{statement}
 use Rattle.asking.proofs.calls.withdraw.Tie as tie
@@ -14,7 +14,7 @@ same-length : tie.Need-same-length
 same-length c = search needs
 
 returns : tie.Need-returns
-returns c = by-plan (c .before .before .before .before .before .withdraw .ensures) (c .before .before .before .put-reply .ensures)
+returns c = onward _ (by-plan (c .before .before .before .before .before .withdraw .ensures) (c .before .before .before .put-reply .ensures))
 
 pub withdraw-spec : {M : Type 1} → statement M
 withdraw-spec = tie.close (tie.spec withdraw-requires put-reply-requires same-length returns)

@@ -1,8 +1,8 @@
--- `trace::freshen` puts a fresh cabinet in the place of the present one. Assumes nothing.
-use Rattle.trace.proofs.Laws.{freshened-done, freshened-refused}
+-- `asking::freshen` puts a fresh cabinet in the place of the present one. Assumes nothing.
+use Rattle.asking.proofs.Laws.{freshened-done, freshened-refused}
 use borrow.Author.Needs.{needs}
-use Rattle.trace.proofs.freshen.Statement.{statement}
-use Rattle.trace.proofs.freshen.Tie as tie
+use Rattle.asking.proofs.freshen.Statement.{statement}
+use Rattle.asking.proofs.freshen.Tie as tie
 
 fresh-requires : tie.Need-fresh-requires
 fresh-requires c κs = search needs
