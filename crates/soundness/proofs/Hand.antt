@@ -5,7 +5,7 @@ use mathlib.Core.Bool.{Bool, true, false, not, _&&_, _||_, cond}
 use mathlib.Core.List.{List, []}
 use native.Mathlib.Omega.{arith}
 use lib.Dec.{eqb, leb, ltb}
-use borrow.Author.Tests.{lt-ltb, le-leb}
+use borrow.Author.Tests.{lt-ltb, le-leb, eq-eqb, ne-eqb}
 use Rattle.laws.specs.Below.{allBelow, anyBelow}
 use Rattle.laws.proofs.Logic.{and-intro}
 use Rattle.laws.proofs.Fill.{all-same, not-any}
@@ -89,16 +89,31 @@ card-whole entries makers last pending base stored kept reached line h c n a b w
     ew ∙ ap (λ (x : Bool). numbersSound limits16 (numbersOf (at base c) (at stored c) (at kept c) (at reached c)) c && lineSound (partOf (h .cards) (phaseOf (h .phase)) (numbersOf (at base c) (at stored c) (at kept c) (at reached c)) (ring entries makers) (at line c)) c && x) f in
     ap₂ (λ (x y : Bool). x && y) (ap₂ (λ (x y : Bool). x && y) (ea ∙ there (vectorAt last c)) (eb ∙ there (vectorAt pending c))) (ap (λ (x : Bool). not (presentOf (h .cards) c) || x) whole)
 
--- and so of an open change
+-- what is looked at of an open change
+abbrev openSound : (o : Place) (base reached : List ℕ) → Head → Bool
+openSound o base reached h =
+    not (strays limits16 (modelOf [] [] [] [] [] base [] [] reached [] [] 0 h) (either (member (o .reads)) (member (o .writes))))
+    && allBelow (limits16 .width) (λ c. not (toWrite (openOf o) c) || roomToWrite limits16 (numbersOf (at base c) 0 0 (at reached c)) 0)
+    && entriesSound limits16 (presentOf (h .cards)) (at (o .vector))
+
+-- a free place is sound
+pub place-free : (o : Place) (base reached : List ℕ) (h : Head) → o .number ≡ 0
+    → true ≡ placeSound limits16 (modelOf [] [] [] [] [] base [] [] reached [] [] 0 h) (openOf o)
+place-free o base reached h z =
+    sym (ap (λ (b : Bool). not (not b) || openSound o base reached h) (eq-eqb (o .number) 0 z))
+
+-- the flags that the check of an open change works out are what the definition says of it
 pub place-whole : (o : Place) (base reached : List ℕ) (h : Head) (touched : ℕ) (i f e : Bool)
+    → (o .number ≡ 0 → ⊥)
     → member touched ≡ either (member (o .reads)) (member (o .writes))
     → i ≡ subset 16 (member touched) (below (h .cards))
     → f ≡ allBelow (limits16 .width) (λ c. not (toWrite (openOf o) c) || roomToWrite limits16 (numbersOf (at base c) 0 0 (at reached c)) 0)
     → e ≡ entriesSound limits16 (presentOf (h .cards)) (at (o .vector))
-    → not (not (eqb (o .number) 0)) || i && f && e ≡ placeSound limits16 (modelOf [] [] [] [] [] base [] [] reached [] [] 0 h) (openOf o)
-place-whole o base reached h touched i f e et ei ef ee =
+    → i && f && e ≡ placeSound limits16 (modelOf [] [] [] [] [] base [] [] reached [] [] 0 h) (openOf o)
+place-whole o base reached h touched i f e full et ei ef ee =
     let s : CardSet = either (member (o .reads)) (member (o .writes)) in
     let inside : i ≡ not (strays limits16 (modelOf [] [] [] [] [] base [] [] reached [] [] 0 h) s) =
     ei ∙ ap (λ (p : CardSet). subset 16 p (below (h .cards))) et ∙ sym (strays-within 16 (h .cards) s)
     ∙ ap (λ (w : ℕ). not (anyBelow w (λ c. s c && not (presentOf (h .cards) c)))) (sym width16) in
-    ap (λ (x : Bool). not (not (eqb (o .number) 0)) || x) (ap₂ (λ (x y : Bool). x && y) (ap₂ (λ (x y : Bool). x && y) inside ef) ee)
+    ap₂ (λ (x y : Bool). x && y) (ap₂ (λ (x y : Bool). x && y) inside ef) ee
+    ∙ sym (ap (λ (b : Bool). not (not b) || openSound o base reached h) (ne-eqb (o .number) 0 full))

@@ -230,17 +230,20 @@ fn writes_fit(o: Place, base: [u32; 16], reached: [u32; 16]) -> bool
     ok
 }
 
-// An open change "that touches an absent card or has yet to write a card at base + 48 or 60,000", or whose vector is outside the limits, is not.
+// An open change "that touches an absent card or has yet to write a card at base + 48 or 60,000", or whose vector is outside the limits, is not. A free place is.
 pub fn place_sound(o: Place, base: [u32; 16], reached: [u32; 16], head: Head) -> bool
     ensures { λ r. ⌜ r ≡ placeSound limits16 (modelOf [] [] [] [] [] base [] [] reached [] [] 0 head) (openOf o) ⌝ }
 {
+    if o.number == 0 {
+        return true;
+    }
     let touched = bits::union(o.reads, o.writes);
     let inside = bits::within(touched, head.cards);
     let fit = writes_fit(o, base, reached);
     let v = o.vector;
     let cards = head.cards as usize;
     let entries = limits::entries_sound(v, cards);
-    !(o.number != 0) | (inside & fit & entries)
+    inside & fit & entries
 }
 
 fn all_places_sound(places: [Place; 8], base: [u32; 16], reached: [u32; 16], head: Head) -> bool
