@@ -73,21 +73,29 @@ module _ (entries makers base reached : List ℕ) (last pending : List Vector) w
           let i : inHand base reached c (at base c + suc k) ≡ true = ap (λ (x : ℕ). inHand base reached c x) (let e : at base c + suc k ≡ suc (at base c + k) = omega arith in e) ∙ in-hand c k l in
           ap₂ (λ (a b : Bool). a && (eqb (suc k) 0 || b)) (frame-here n c (suc (at base c + suc k)) b16 (in-hand c (suc k) h)) (rises-here c (at base c + suc k) i (in-hand c (suc k) h))
 
--- the flags that the check of a card works out are what the definition says of it
-pub card-whole : (entries makers : List ℕ) (last pending : List Vector) (base stored kept reached line : List ℕ) (h : Head) (c n : ℕ) (a b w : Bool)
-    → c < 16
+-- the flags that the check of a card works out, with the cards that its vectors may have entries of
+pub card-flags : (h : Head) (c n : ℕ) (last pending : List ℕ) (a b w there : Bool)
     → n ≡ cond (presentOf (h .cards) c) (h .cards) 0
-    → a ≡ entriesSound limits16 (presentOf n) (vectorAt last c)
-    → b ≡ entriesSound limits16 (presentOf n) (vectorAt pending c)
-    → w ≡ thereSound (partOf (h .cards) (phaseOf (h .phase)) (numbersOf (at base c) (at stored c) (at kept c) (at reached c)) (ring entries makers) (at line c)) c
-    → a && b && (not (presentOf (h .cards) c) || w) ≡ cardSound limits16 (modelOf entries makers last pending [] base stored kept reached line [] 0 h) c
-card-whole entries makers last pending base stored kept reached line h c n a b w b16 en ea eb ew =
-    let there : (v : history.Vector) → entriesSound limits16 (presentOf n) v ≡ entriesSound limits16 (λ j. presentOf (h .cards) c && presentOf (h .cards) j) v =
+    → a ≡ entriesSound limits16 (presentOf n) (at last)
+    → b ≡ entriesSound limits16 (presentOf n) (at pending)
+    → w ≡ there
+    → a && b && (not (presentOf (h .cards) c) || w)
+    ≡ entriesSound limits16 (λ j. presentOf (h .cards) c && presentOf (h .cards) j) (at last) && entriesSound limits16 (λ j. presentOf (h .cards) c && presentOf (h .cards) j) (at pending) && (not (presentOf (h .cards) c) || there)
+card-flags h c n last pending a b w there en ea eb ew =
+    let seen : (v : history.Vector) → entriesSound limits16 (presentOf n) v ≡ entriesSound limits16 (λ j. presentOf (h .cards) c && presentOf (h .cards) j) v =
     λ v. ap (λ (k : ℕ). entriesSound limits16 (presentOf k) v) en ∙ entries-absent (presentOf (h .cards) c) (h .cards) v in
-    let f : _ = sym (frames-in-hand entries makers base reached last pending (h .cards) c b16) in
-    let whole : w ≡ thereSound (modelOf entries makers last pending [] base stored kept reached line [] 0 h) c =
-    ew ∙ ap (λ (x : Bool). numbersSound limits16 (numbersOf (at base c) (at stored c) (at kept c) (at reached c)) c && lineSound (partOf (h .cards) (phaseOf (h .phase)) (numbersOf (at base c) (at stored c) (at kept c) (at reached c)) (ring entries makers) (at line c)) c && x) f in
-    ap₂ (λ (x y : Bool). x && y) (ap₂ (λ (x y : Bool). x && y) (ea ∙ there (vectorAt last c)) (eb ∙ there (vectorAt pending c))) (ap (λ (x : Bool). not (presentOf (h .cards) c) || x) whole)
+    ap₂ (λ (x y : Bool). x && y) (ap₂ (λ (x y : Bool). x && y) (ea ∙ seen (at last)) (eb ∙ seen (at pending))) (ap (λ (x : Bool). not (presentOf (h .cards) c) || x) ew)
+
+-- what the check of a card says of its elements is what the definition says of the card
+pub card-whole : (entries makers : List ℕ) (last pending : List Vector) (base stored kept reached line : List ℕ) (h : Head) (c : ℕ)
+    → c < 16
+    → entriesSound limits16 (λ j. presentOf (h .cards) c && presentOf (h .cards) j) (vectorAt last c) && entriesSound limits16 (λ j. presentOf (h .cards) c && presentOf (h .cards) j) (vectorAt pending c)
+    && (not (presentOf (h .cards) c) || thereSound (partOf (h .cards) (phaseOf (h .phase)) (numbersOf (at base c) (at stored c) (at kept c) (at reached c)) (ring entries makers) (at line c)) c)
+    ≡ cardSound limits16 (modelOf entries makers last pending [] base stored kept reached line [] 0 h) c
+card-whole entries makers last pending base stored kept reached line h c b16 =
+    ap (λ (x : Bool). entriesSound limits16 (λ j. presentOf (h .cards) c && presentOf (h .cards) j) (vectorAt last c) && entriesSound limits16 (λ j. presentOf (h .cards) c && presentOf (h .cards) j) (vectorAt pending c)
+    && (not (presentOf (h .cards) c) || (numbersSound limits16 (numbersOf (at base c) (at stored c) (at kept c) (at reached c)) c && lineSound (partOf (h .cards) (phaseOf (h .phase)) (numbersOf (at base c) (at stored c) (at kept c) (at reached c)) (ring entries makers) (at line c)) c && x)))
+    (sym (frames-in-hand entries makers base reached last pending (h .cards) c b16))
 
 -- what is looked at of an open change
 abbrev openSound : (o : Place) (base reached : List ℕ) → Head → Bool

@@ -139,43 +139,29 @@ fn seen(there: bool, cards: usize) -> usize
     if there { cards } else { 0 }
 }
 
-// What is looked at of card c.
+// What is looked at of card c: its two vectors, its numbers and its frames.
 fn card_sound<'a>(
     entries: &'a [u32; 12288],
     makers: &'a [u32; 768],
-    last: [Vector; 16],
-    pending: [Vector; 16],
-    base: [u32; 16],
-    stored: [u32; 16],
-    held: [u32; 16],
-    reached: [u32; 16],
-    line: [u32; 16],
+    last: [u32; 16],
+    pending: [u32; 16],
+    base: u32,
+    stored: u32,
+    held: u32,
+    reached: u32,
+    line: u32,
     head: Head,
     c: usize,
 ) -> bool
     requires { ⌜ c < 16 ⌝ }
-    ensures { λ r. ⌜ r ≡ cardSound limits16 (modelOf (now (entries .entry)) (now (makers .entry)) last pending [] base stored held reached line [] 0 head) c ⌝ }
+    ensures { λ r. ⌜ r ≡ entriesSound limits16 (λ j. presentOf (head .cards) c && presentOf (head .cards) j) (at last) && entriesSound limits16 (λ j. presentOf (head .cards) c && presentOf (head .cards) j) (at pending) && (not (presentOf (head .cards) c) || thereSound (partOf (head .cards) (phaseOf (head .phase)) (numbersOf base stored held reached) (ring (now (entries .entry)) (now (makers .entry))) line) c) ⌝ }
 {
     let cards = head.cards as usize;
     let there = c < cards;
     let n = seen(there, cards);
-    let l = last[c];
-    let l = l.entries;
-    let lasts = limits::entries_sound(l, n);
-    let p = pending[c];
-    let p = p.entries;
-    let pendings = limits::entries_sound(p, n);
-    let whole = there_sound(
-        entries,
-        makers,
-        head,
-        c,
-        base[c],
-        stored[c],
-        held[c],
-        reached[c],
-        line[c],
-    );
+    let lasts = limits::entries_sound(last, n);
+    let pendings = limits::entries_sound(pending, n);
+    let whole = there_sound(entries, makers, head, c, base, stored, held, reached, line);
     lasts & pendings & (!there | whole)
 }
 
@@ -196,17 +182,21 @@ fn all_cards_sound<'a>(
     let mut ok = true;
     let mut c: usize = 0;
     while c < 16 {
+        let l = last[c];
+        let l = l.entries;
+        let p = pending[c];
+        let p = p.entries;
         ok = ok
             & card_sound(
                 entries,
                 makers,
-                last,
-                pending,
-                base,
-                stored,
-                held,
-                reached,
-                line,
+                l,
+                p,
+                base[c],
+                stored[c],
+                held[c],
+                reached[c],
+                line[c],
                 head,
                 c,
             );
