@@ -1,11 +1,14 @@
 -- The frames in hand are those at the ring's places, where the check for 28 looks. Assumes nothing.
-use Prim.Native.Nat.{ℕ, zero, suc, _+_, _-_, _≤_, _<_}
+use Prim.Native.Nat.{ℕ, zero, suc, _+_, _*_, _-_, _%_, _≤_, _<_}
 use mathlib.Core.Path.{_≡_, refl, sym, _∙_, ap, ap₂}
 use mathlib.Core.Bool.{Bool, true, false, not, _&&_, _||_, cond}
 use mathlib.Core.List.{List, []}
 use native.Mathlib.Omega.{arith}
 use lib.Dec.{eqb, leb, ltb}
-use borrow.Author.Tests.{lt-ltb, le-leb, eq-eqb, ne-eqb}
+use native.Mathlib.Numerals.{add-one}
+use native.Mathlib.Decide.{decLe}
+use mathlib.Core.Logic.{by-cases}
+use borrow.Author.Tests.{lt-ltb, le-ltb, le-leb, eq-eqb, ne-eqb}
 use Rattle.laws.specs.Below.{allBelow, anyBelow}
 use Rattle.laws.proofs.Logic.{and-intro}
 use Rattle.laws.proofs.Fill.{all-same, not-any}
@@ -72,6 +75,34 @@ module _ (entries makers base reached : List ℕ) (last pending : List Vector) w
           let l : k < at reached c - at base c = omega arith in
           let i : inHand base reached c (at base c + suc k) ≡ true = ap (λ (x : ℕ). inHand base reached c x) (let e : at base c + suc k ≡ suc (at base c + k) = omega arith in e) ∙ in-hand c k l in
           ap₂ (λ (a b : Bool). a && (eqb (suc k) 0 || b)) (frame-here n c (suc (at base c + suc k)) b16 (in-hand c (suc k) h)) (rises-here c (at base c + suc k) i (in-hand c (suc k) h))
+
+-- carried along, the place of a state among the 48 of its card is the state's remainder
+pub next-slot : (x s r : ℕ) → s ≡ x % 48 → r ≡ cond (ltb s 47) (s + 1) 0 → r ≡ suc x % 48
+next-slot x s r es er =
+    by-cases (decLe 47 s)
+    (λ (h : 47 ≤ s). let e : r ≡ 0 = er ∙ ap (λ (b : Bool). cond b (s + 1) 0) (le-ltb s 47 h) in omega (arith, es, e, h))
+    (λ (h : 47 ≤ s → ⊥). let l : s < 47 = omega (arith, h) in let e : r ≡ s + 1 = er ∙ ap (λ (b : Bool). cond b (s + 1) 0) (lt-ltb s 47 l) in omega (arith, es, e, l))
+
+-- a frame and its step from the one before, at places of the ring
+abbrev frameAt : (entries makers : List ℕ) (n c place x : ℕ) → Bool
+frameAt entries makers n c place x =
+    not (eqb (at makers place) 0) && eqb (at entries (place * 16 + c)) x && entriesSound limits16 (presentOf n) (λ j. at entries (place * 16 + j))
+
+abbrev risesAt : (entries makers : List ℕ) (place next : ℕ) → Bool
+risesAt entries makers place next =
+    ltb (at makers place) (at makers next) && allBelow (limits16 .width) (λ j. leb (at entries (place * 16 + j)) (at entries (next * 16 + j)))
+
+pub step-whole : (entries makers : List ℕ) (n c base reached k s r : ℕ) (f g : Bool)
+    → s ≡ (base + k) % 48
+    → r ≡ suc (base + k) % 48
+    → f ≡ frameAt entries makers n c (c * 48 + r) (base + k + 1)
+    → g ≡ risesAt entries makers (c * 48 + s) (c * 48 + r)
+    → f && (eqb k 0 || g)
+    ≡ frameSound limits16 (partOf n up (numbersOf base 0 0 reached) (ring entries makers) 0) c (suc (base + k)) && (eqb k 0 || risesSound limits16 (ring entries makers) c (base + k))
+step-whole entries makers n c base reached k s r f g es er ef eg =
+    ap₂ (λ (a b : Bool). a && (eqb k 0 || b))
+    (ef ∙ ap₂ (λ (y x : ℕ). frameAt entries makers n c (c * 48 + y) x) er (add-one (base + k)))
+    (eg ∙ ap₂ (λ (y z : ℕ). risesAt entries makers (c * 48 + y) (c * 48 + z)) es er)
 
 -- the flags that the check of a card works out, with the cards that its vectors may have entries of
 pub card-flags : (h : Head) (c n : ℕ) (last pending : List ℕ) (a b w there : Bool)

@@ -4,7 +4,7 @@ ghost use mathlib.Core.Path.{_≡_};
 ghost use mathlib.Core.Bool.{not, _&&_, _||_, cond};
 ghost use mathlib.Core.List.{[]};
 ghost use lib.ListN.{getD};
-ghost use lib.Dec.{leb};
+ghost use lib.Dec.{eqb, leb, ltb};
 ghost use Rattle.laws.specs.Below.{allBelow};
 ghost use Rattle.bits.specs.Member.{member};
 ghost use Rattle.protocol.specs.Model.{toWrite, up};
@@ -30,18 +30,18 @@ fn frame_entries_sound(entries: &[u32; 12288], from: usize, cards: usize) -> boo
     ok
 }
 
-// "a kept frame that breaks 9": the frame of state x of card c, by itself.
+// "a kept frame that breaks 9": the frame of state x of card c, by itself, at its place in the ring.
 fn frame_sound<'a>(
     entries: &'a [u32; 12288],
     makers: &'a [u32; 768],
     c: usize,
+    place: usize,
     x: u32,
     cards: usize,
 ) -> bool
-    requires { ⌜ c < 16 ⌝ }
-    ensures { λ r. ⌜ r ≡ frameSound limits16 (partOf cards up (numbersOf 0 0 0 0) (ring (now (entries .entry)) (now (makers .entry))) 0) c x ⌝ }
+    requires { ⌜ (c < 16) × (place < 768) ⌝ }
+    ensures { λ r. ⌜ r ≡ not (eqb (at (now (makers .entry)) place) 0) && eqb (at (now (entries .entry)) (place * 16 + c)) x && entriesSound limits16 (presentOf cards) (λ j. at (now (entries .entry)) (place * 16 + j)) ⌝ }
 {
-    let place = c * 48 + (x % 48) as usize;
     let from = place * 16;
     let whole = frame_entries_sound(entries, from, cards);
     (makers[place] != 0) & (entries[from + c] == x) & whole
@@ -61,15 +61,25 @@ fn rising_entries(entries: &[u32; 12288], from: usize, next: usize) -> bool
     ok
 }
 
-// "change .. not rising, .. an entry falling": the frame of state x of card c and the next.
-fn rises_sound<'a>(entries: &'a [u32; 12288], makers: &'a [u32; 768], c: usize, x: u32) -> bool
-    requires { ⌜ (c < 16) × (x ≤ 60000) ⌝ }
-    ensures { λ r. ⌜ r ≡ risesSound limits16 (ring (now (entries .entry)) (now (makers .entry))) c x ⌝ }
+// "change .. not rising, .. an entry falling": the frames at two places of the ring, one after the other.
+fn rises_sound<'a>(
+    entries: &'a [u32; 12288],
+    makers: &'a [u32; 768],
+    place: usize,
+    next: usize,
+) -> bool
+    requires { ⌜ (place < 768) × (next < 768) ⌝ }
+    ensures { λ r. ⌜ r ≡ ltb (at (now (makers .entry)) place) (at (now (makers .entry)) next) && allBelow (limits16 .width) (λ j. leb (at (now (entries .entry)) (place * 16 + j)) (at (now (entries .entry)) (next * 16 + j))) ⌝ }
 {
-    let place = c * 48 + (x % 48) as usize;
-    let next = c * 48 + ((x + 1) % 48) as usize;
     let whole = rising_entries(entries, place * 16, next * 16);
     (makers[place] < makers[next]) & whole
+}
+
+// The place after this one among the 48 of a card: the first comes after the last.
+fn after(slot: u32) -> u32
+    ensures { λ r. ⌜ r ≡ cond (ltb slot 47) (slot + 1) 0 ⌝ }
+{
+    if slot < 47 { slot + 1 } else { 0 }
 }
 
 // The frames of card c, from base + 1 to reached.
@@ -85,12 +95,17 @@ fn frames_sound<'a>(
     ensures { λ r. ⌜ r ≡ framesSound limits16 (partOf cards up (numbersOf base 0 0 reached) (ring (now (entries .entry)) (now (makers .entry))) 0) c ⌝ }
 {
     let n = reached - base;
+    let first = c * 48;
     let mut ok = true;
+    let mut slot = base % 48;
     let mut k: u32 = 0;
     while k < n {
-        let x = base + k;
-        let frame = frame_sound(entries, makers, c, x + 1, cards);
-        let rises = rises_sound(entries, makers, c, x);
+        let x = base + k + 1;
+        let place = first + slot as usize;
+        slot = after(slot);
+        let next = first + slot as usize;
+        let frame = frame_sound(entries, makers, c, next, x, cards);
+        let rises = rises_sound(entries, makers, place, next);
         ok = ok & (frame & ((k == 0) | rises));
         k += 1;
     }

@@ -1,70 +1,91 @@
-use Rattle.protocol.specs.Sound.{frameSound, risesSound}
-use Rattle.protocol.specs.Model.{up}
-use Rattle.verdicts.specs.Shape.{limits16, at, presentOf, ring, numbersOf, partOf, openOf, openAt, modelOf, phaseOf}
-use Rattle.verdicts.proofs.Limits.{width16, inHand48, places8, greatest60000}
-use Rattle.laws.proofs.Fill.{AllSoFar, all-none, all-more, all-done}
-use Prim.Native.Nat.{ℕ, zero, suc, _+_, _*_, _-_, _/_, _%_, _^_, _≤_, _<_, max}
-use mathlib.Core.Path.{_≡_, refl, sym, _∙_, ap, ap₂}
-use mathlib.Core.Bool.{Bool, true, false, not, _&&_, _||_, cond}
-use mathlib.Core.List.{List, [], _∷_}
-use mathlib.Core.Logic.{⊎-elim, by-cases, inl, inr}
-use native.Mathlib.Numerals.{add-one}
+use Prim.Native.Nat.{ℕ, suc, _+_, _-_, _%_}
+use mathlib.Core.Path.{_≡_, refl}
+use mathlib.Core.Bool.{_&&_, _||_}
 use native.Mathlib.Omega.{arith}
-use lib.ListN.{length, getD, set, List·getD-eq-default}
-use lib.Dec.{leb, ltb, eqb}
+use lib.Dec.{eqb}
+use Rattle.laws.proofs.Fill.{AllSoFar, all-none, all-more, all-done}
+use Rattle.protocol.specs.Model.{up}
+use Rattle.protocol.specs.Sound.{frameSound, risesSound}
+use Rattle.verdicts.specs.Shape.{limits16, ring, numbersOf, partOf}
+use Rattle.soundness.proofs.Hand.{next-slot, step-whole}
 use borrow.Author.Needs.{needs}
 use Rattle.soundness.proofs.frames_sound.Statement.{statement}
 use Rattle.soundness.proofs.frames_sound.Tie as tie
 use Rattle.soundness.proofs.frames_sound.Reads as reads
 use Rattle.soundness.proofs.frames_sound.Lts as lts
+use Rattle.soundness.proofs.after.Reads as after-reads
 use Rattle.soundness.proofs.frame_sound.Reads as frame-sound-reads
 use Rattle.soundness.proofs.rises_sound.Reads as rises-sound-reads
 
 abbrev Inv-loop : tie.InvT-loop
-Inv-loop entries makers c base reached cards n ok₀ k₀ ok k = AllSoFar n (λ k. frameSound limits16 (partOf cards up (numbersOf base 0 0 reached) (ring entries makers) 0) c (suc (base + k)) && (eqb k 0 || risesSound limits16 (ring entries makers) c (base + k))) ok k
+Inv-loop entries makers c base reached cards n first ok₀ slot₀ k₀ ok slot k = AllSoFar n (λ k. frameSound limits16 (partOf cards up (numbersOf base 0 0 reached) (ring entries makers) 0) c (suc (base + k)) && (eqb k 0 || risesSound limits16 (ring entries makers) c (base + k))) ok k × (slot ≡ (base + k) % 48)
 
 abbrev μ-loop : tie.MeasureT-loop
-μ-loop entries makers c base reached cards n ok₀ k₀ ok k = n - k
+μ-loop entries makers c base reached cards n first ok₀ slot₀ k₀ ok slot k = n - k
 
--- src/sound.rt:118:13
+-- src/lib.rt:97:13
 sub-n : tie.Need-sub-n Inv-loop μ-loop
 sub-n c = search needs
 
--- src/sound.rt:121:5
-loop-holds : tie.Need-loop-holds Inv-loop μ-loop
-loop-holds c = all-none
+-- src/lib.rt:98:17
+mul-first : tie.Need-mul-first Inv-loop μ-loop
+mul-first c = search needs
 
--- src/sound.rt:122:17
+-- src/lib.rt:102:5
+loop-holds : tie.Need-loop-holds Inv-loop μ-loop
+loop-holds c = (all-none, omega arith)
+
+-- src/lib.rt:103:17
 add-x : tie.Need-add-x Inv-loop μ-loop
 add-x c = search needs
 
--- src/sound.rt:123:53
-add-frame-sound : tie.Need-add-frame-sound Inv-loop μ-loop
-add-frame-sound c = search needs
+-- src/lib.rt:103:17
+add-x-2 : tie.Need-add-x-2 Inv-loop μ-loop
+add-x-2 c = search needs
 
--- src/sound.rt:123:13
+-- src/lib.rt:104:29
+cast-place : tie.Need-cast-place Inv-loop μ-loop
+cast-place c = search needs
+
+-- src/lib.rt:104:21
+add-place : tie.Need-add-place Inv-loop μ-loop
+add-place c = search needs
+
+-- src/lib.rt:105:9
+after-requires : tie.Need-after-requires Inv-loop μ-loop
+after-requires c κs = search needs
+
+-- src/lib.rt:106:28
+cast-next : tie.Need-cast-next Inv-loop μ-loop
+cast-next c = search needs
+
+-- src/lib.rt:106:20
+add-next : tie.Need-add-next Inv-loop μ-loop
+add-next c = search needs
+
+-- src/lib.rt:107:13
 frame-sound-requires : tie.Need-frame-sound-requires Inv-loop μ-loop
-frame-sound-requires c κs = search needs
+frame-sound-requires c κs = let q : _ = next-slot _ _ _ (c .before .before .loop .inv .1) (c .after .ensures) in (c .before .before .before .pre .0, omega (arith, q, c .before .before .before .pre .0))
 
--- src/sound.rt:124:13
+-- src/lib.rt:108:13
 rises-sound-requires : tie.Need-rises-sound-requires Inv-loop μ-loop
-rises-sound-requires c κs = search needs
+rises-sound-requires c κs = let q : _ = next-slot _ _ _ (c .before .before .before .loop .inv .1) (c .before .after .ensures) in (omega (arith, c .before .before .before .loop .inv .1, c .before .before .before .before .pre .0), omega (arith, q, c .before .before .before .before .pre .0))
 
--- src/sound.rt:126:9
+-- src/lib.rt:110:9
 add-k : tie.Need-add-k Inv-loop μ-loop
 add-k c = search needs
 
--- src/sound.rt:121:5
+-- src/lib.rt:102:5
 loop-less : tie.Need-loop-less Inv-loop μ-loop
 loop-less c = search needs
 
--- src/sound.rt:121:5
+-- src/lib.rt:102:5
 loop-again : tie.Need-loop-again Inv-loop μ-loop
-loop-again c = all-more (c .before .before .before .loop .inv) (c .before .before .loop-test .taken) (rw (c .before .frame-sound .ensures, c .rises-sound .ensures, add-one (c .before .before .before .before .args .base + c .before .before .before .loop .k)))
+loop-again c = let a : _ = c .before .before .before .before .before .args in let i : _ = c .before .before .before .before .loop .inv in let q : _ = next-slot (a .base + c .before .before .before .before .loop .k) _ _ (i .1) (c .before .before .after .ensures) in (all-more (i .0) (c .before .before .before .loop-test .taken) (step-whole (a .entries .now) (a .makers .now) (a .cards) (a .c) (a .base) (a .reached) (c .before .before .before .before .loop .k) _ _ _ _ (i .1) q (c .before .frame-sound .ensures) (c .rises-sound .ensures)), omega (arith, q))
 
--- src/sound.rt:114:1
+-- src/lib.rt:86:1
 returns : tie.Need-returns Inv-loop μ-loop
-returns c = all-done (c .before .loop .inv) (c .loop-test .left) refl
+returns c = all-done (c .before .loop .inv .0) (c .loop-test .left) refl
 
 pub frames-sound-spec : {M : Type 1} → statement M
 frames-sound-spec =
@@ -73,9 +94,15 @@ frames-sound-spec =
     Inv-loop
     μ-loop
     sub-n
+    mul-first
     loop-holds
     add-x
-    add-frame-sound
+    add-x-2
+    cast-place
+    add-place
+    after-requires
+    cast-next
+    add-next
     frame-sound-requires
     rises-sound-requires
     add-k
