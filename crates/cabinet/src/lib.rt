@@ -24,6 +24,7 @@ pub struct Cabinet {
     pub entries: [u32; (Cabinet::WIDTH * Cabinet::IN_HAND * Cabinet::WIDTH) as usize],
     // the changes that made the states of the frames
     pub makers: [u32; (Cabinet::WIDTH * Cabinet::IN_HAND) as usize],
+    pub head: Head,
     pub last: [Vector; Cabinet::WIDTH as usize],
     pub pending: [Vector; Cabinet::WIDTH as usize],
     pub places: [Place; Cabinet::PLACES as usize],
@@ -37,7 +38,6 @@ pub struct Cabinet {
     pub ended: [u32; Cabinet::PLACES as usize],
     // while rolling: the cards already rolled
     pub rolled: u16,
-    pub head: Head,
 }
 
 // What safe hands back.
