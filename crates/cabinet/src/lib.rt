@@ -81,6 +81,7 @@ pub fn zeros(head: Head) -> Cabinet
     Cabinet {
         entries: entries,
         makers: makers,
+        head: head,
         last: last,
         pending: pending,
         places: places,
@@ -91,7 +92,6 @@ pub fn zeros(head: Head) -> Cabinet
         line: none,
         ended: ended,
         rolled: 0,
-        head: head,
     }
 }
 
