@@ -62,35 +62,37 @@ impl Cabinet {
     }
 
     // 8. lose
-    pub fn lose(mut self, cards: u16) -> Answer
+    pub fn lose(self, cards: u16) -> Answer
         ensures { λ r. ⌜ Carried self (losePlan limits16 (view self) (member cards)) (replyOf (r .reply)) (r .cabinet) ⌝ }
     {
         let p = self.parts();
-        let sound = parts::is_sound(&self.entries, &self.makers, p);
+        let makers = self.makers;
+        let sound = parts::is_sound(&self.entries, &makers, p);
         let places = self.places;
         let stored = self.stored;
         let held = self.held;
         let head = self.head;
         let r = replies::lose_reply(sound, head, cards);
+        let mut next = self;
         match r {
             Reply::Done => {
                 let fallen = parts::writes::fallen(held, stored, cards);
-                self.held = fallen;
+                next.held = fallen;
                 let phase = head.phase;
                 let up = verdicts::is_up(phase);
                 if up {
                     let ended = parts::writes::ended_numbers(places);
-                    self.ended = ended;
+                    next.ended = ended;
                     let free = parts::writes::no_places();
-                    self.places = free;
+                    next.places = free;
                     let down = parts::heads::down(head);
-                    self.head = down;
+                    next.head = down;
                 }
             }
             Reply::Refused(_) => {}
         }
         Answer {
-            cabinet: self,
+            cabinet: next,
             reply: r,
         }
     }
