@@ -48,7 +48,7 @@ impl Cabinet {
     }
 
     // 9. fix: the numbers of the changes lost go into the lent list; `places` is the number of places for card records.
-    pub fn fix<'a>(mut self, places: usize, list: &'a mut [u32]) -> FixAnswer
+    pub fn fix<'a>(self, places: usize, list: &'a mut [u32]) -> FixAnswer
         ensures { λ r. ⌜ FixCarried self places (now (list .entry)) (now (list .exit)) (r .stored) (r .line) (r .reply) (r .cabinet) ⌝ }
     {
         let last = self.last;
@@ -79,23 +79,24 @@ impl Cabinet {
         );
         let r = out.reply;
         let lines = out.line;
+        let mut next = self;
         match r {
             FixReply::Fixed(_) => {
-                self.line = lines;
-                self.ended = [0u32; 8];
-                self.rolled = 0;
+                next.line = lines;
+                next.ended = [0u32; 8];
+                next.rolled = 0;
                 let rolling = Head {
                     session: head.session,
                     cards: head.cards,
                     count: head.count,
                     phase: Phase::Rolling,
                 };
-                self.head = rolling;
+                next.head = rolling;
             }
             FixReply::NotFixed(_) => {}
         }
         FixAnswer {
-            cabinet: self,
+            cabinet: next,
             stored: stored,
             line: lines,
             reply: r,
