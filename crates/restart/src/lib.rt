@@ -127,6 +127,7 @@ fn restarted(r: Readout) -> Cabinet
     Cabinet {
         entries: entries,
         makers: makers,
+        head: head,
         last: last,
         pending: last,
         places: places,
@@ -137,7 +138,6 @@ fn restarted(r: Readout) -> Cabinet
         line: line,
         ended: [0u32; 8],
         rolled: rolled,
-        head: head,
     }
 }
 
