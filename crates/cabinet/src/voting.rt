@@ -12,11 +12,12 @@ use verdicts::Reply;
 
 impl Cabinet {
     // 1. open. Of the cards that are barred the lowest is named.
-    pub fn open(mut self, reads: u16, writes: u16) -> OpenAnswer
+    pub fn open(self, reads: u16, writes: u16) -> OpenAnswer
         ensures { λ r. ⌜ OpenCarried self reads writes (openReplyOf (r .reply)) (r .cabinet) ⌝ }
     {
         let p = self.parts();
-        let sound = parts::is_sound(&self.entries, &self.makers, p);
+        let makers = self.makers;
+        let sound = parts::is_sound(&self.entries, &makers, p);
         let places = self.places;
         let base = self.base;
         let reached = self.reached;
@@ -24,24 +25,25 @@ impl Cabinet {
         let phase = head.phase;
         let r = changes::open_verdict(sound, head, places, base, reached, reads, writes);
         let answer = parts::writes::open_answer(r, head.count);
+        let mut next = self;
         match r {
             Reply::Done => {
                 let at = places::free_at(places);
                 let k = head.count + 1;
                 let o = changes::opened(k, reads, writes);
-                self.places[at] = o;
+                next.places[at] = o;
                 let h = Head {
                     session: head.session,
                     cards: head.cards,
                     count: k,
                     phase: phase,
                 };
-                self.head = h;
+                next.head = h;
             }
             Reply::Refused(_) => {}
         }
         OpenAnswer {
-            cabinet: self,
+            cabinet: next,
             reply: answer,
         }
     }
@@ -74,42 +76,50 @@ impl Cabinet {
     }
 
     // 3. take
-    pub fn take(mut self, change: u32, card: u32) -> Answer
+    pub fn take(self, change: u32, card: u32) -> Answer
         ensures { λ r. ⌜ Carried self (takePlan limits16 (view self) change card) (replyOf (r .reply)) (r .cabinet) ⌝ }
     {
         let p = self.parts();
-        let sound = parts::is_sound(&self.entries, &self.makers, p);
+        let makers = self.makers;
+        let sound = parts::is_sound(&self.entries, &makers, p);
         let places = self.places;
         let head = self.head;
         let r = replies::take_reply(sound, head, places, change, card);
+        let mut next = self;
         match r {
             Reply::Done => {
                 let at = places::place_of(places, change);
                 let o = places[at];
                 let shared = places::took(o, card);
-                self.places[at] = shared;
+                next.places[at] = shared;
                 let w = parts::writes::vector_of(o);
                 let c = card as usize;
                 let written = bits::has(o.writes, card);
                 if written {
-                    let x = self.reached[c] + 1;
+                    let x = next.reached[c] + 1;
                     let k = o.number;
-                    parts::writes::put_maker(&mut self.makers, c, x, k);
-                    parts::writes::put_vector(&mut self.entries, c, x, w);
-                    self.last[c] = w;
-                    self.pending[c] = w;
-                    self.held[c] = x;
-                    self.reached[c] = x;
+                    parts::writes::put_maker(&mut next.makers, c, x, k);
+                    parts::writes::put_vector(&mut next.entries, c, x, w);
+                    let mut last = self.last;
+                    last[c] = w;
+                    next.last = last;
+                    let mut pending = self.pending;
+                    pending[c] = w;
+                    next.pending = pending;
+                    next.held[c] = x;
+                    next.reached[c] = x;
                 } else {
-                    let q = self.pending[c];
+                    let mut pending = self.pending;
+                    let q = pending[c];
                     let q = parts::writes::raised(q, w);
-                    self.pending[c] = q;
+                    pending[c] = q;
+                    next.pending = pending;
                 }
             }
             Reply::Refused(_) => {}
         }
         Answer {
-            cabinet: self,
+            cabinet: next,
             reply: r,
         }
     }
