@@ -78,6 +78,11 @@ fn forged(cards: u32, states: u32, stored: u32, first: Place, phase: Phase) -> C
     c
 }
 
+// The card 0, not known beforehand.
+fn card(at: u32) -> u32 {
+    at / 12288
+}
+
 // A free place.
 fn free() -> Place {
     change(0, 0, false, 0)
@@ -96,13 +101,9 @@ fn change(number: u32, cards: u32, reads: bool, yes: u16) -> Place {
     }
 }
 
-// A number out of the cabinet that was handed back, at a place not known beforehand; 1000000 after a refusal.
-fn seen(c: Cabinet, at: u32, refused: u32) -> u32 {
-    if refused == 0 {
-        c.entries[(at % 12288) as usize]
-    } else {
-        1000000
-    }
+// A number out of the cabinet that was handed back; 1000000 after a refusal.
+fn seen(entry: u32, refused: u32) -> u32 {
+    if refused == 0 { entry } else { 1000000 }
 }
 
 fn done(r: Reply) -> u32 {
@@ -116,7 +117,8 @@ fn done(r: Reply) -> u32 {
 #[no_mangle]
 pub extern "C" fn yerwaqis_nothing(cards: u32, states: u32, reads: bool, at: u32) -> u32 {
     let c = forged(cards, states, states, free(), Phase::Up);
-    seen(c, at, 0)
+    let e = c.entries[(at % 12288) as usize];
+    seen(e, 0)
 }
 
 #[no_mangle]
@@ -124,7 +126,8 @@ pub extern "C" fn yerwaqis_fresh(cards: u32, at: u32) -> u32 {
     let a = Cabinet::fresh(cards);
     let r = a.reply;
     let c = a.cabinet;
-    seen(c, at, done(r))
+    let e = c.entries[(at % 12288) as usize];
+    seen(e, done(r))
 }
 
 #[no_mangle]
@@ -134,11 +137,12 @@ pub extern "C" fn yerwaqis_open(cards: u32, states: u32, reads: bool, at: u32) -
     let a = c.open(o.reads, o.writes);
     let r = a.reply;
     let c = a.cabinet;
+    let e = c.entries[(at % 12288) as usize];
     let n = match r {
         OpenReply::Opened(_) => 0,
         OpenReply::NotOpened(q) => refusal::number(q),
     };
-    seen(c, at, n)
+    seen(e, n)
 }
 
 // The vote that decides a change of all cards.
@@ -152,10 +156,11 @@ pub extern "C" fn yerwaqis_vote(cards: u32, states: u32, reads: bool, at: u32) -
         change(1000, cards, reads, others),
         Phase::Up,
     );
-    let a = c.vote(1000, 0, true);
+    let a = c.vote(1000, card(at), true);
     let r = a.reply;
     let c = a.cabinet;
-    seen(c, at, done(r))
+    let e = c.entries[(at % 12288) as usize];
+    seen(e, done(r))
 }
 
 #[no_mangle]
@@ -168,10 +173,11 @@ pub extern "C" fn yerwaqis_take(cards: u32, states: u32, reads: bool, at: u32) -
         change(1000, cards, reads, all),
         Phase::Up,
     );
-    let a = c.take(1000, 0);
+    let a = c.take(1000, card(at));
     let r = a.reply;
     let c = a.cabinet;
-    seen(c, at, done(r))
+    let e = c.entries[(at % 12288) as usize];
+    seen(e, done(r))
 }
 
 #[no_mangle]
@@ -186,16 +192,18 @@ pub extern "C" fn yerwaqis_withdraw(cards: u32, states: u32, reads: bool, at: u3
     let a = c.withdraw(1000);
     let r = a.reply;
     let c = a.cabinet;
-    seen(c, at, done(r))
+    let e = c.entries[(at % 12288) as usize];
+    seen(e, done(r))
 }
 
 #[no_mangle]
 pub extern "C" fn yerwaqis_store(cards: u32, states: u32, reads: bool, at: u32) -> u32 {
     let c = forged(cards, states, 0, free(), Phase::Up);
-    let a = c.store(0, 0);
+    let a = c.store(card(at), 0);
     let r = a.reply;
     let c = a.cabinet;
-    seen(c, at, done(r))
+    let e = c.entries[(at % 12288) as usize];
+    seen(e, done(r))
 }
 
 // Every state is stored, so that each line is climbed to the end.
@@ -205,7 +213,8 @@ pub extern "C" fn yerwaqis_trim(cards: u32, states: u32, reads: bool, at: u32) -
     let a = c.trim();
     let r = a.reply;
     let c = a.cabinet;
-    seen(c, at, done(r))
+    let e = c.entries[(at % 12288) as usize];
+    seen(e, done(r))
 }
 
 // Of that change; there is none in an empty cabinet.
@@ -215,12 +224,13 @@ pub extern "C" fn yerwaqis_safe(cards: u32, states: u32, change: u32, at: u32) -
     let a = c.safe(change);
     let r = a.reply;
     let c = a.cabinet;
+    let e = c.entries[(at % 12288) as usize];
     let n = match r {
         SafeReply::Safe => 0,
         SafeReply::Unsafe => 0,
         SafeReply::Unknown(q) => refusal::number(q),
     };
-    seen(c, at, n)
+    seen(e, n)
 }
 
 // All cards, with a decided change open.
@@ -237,7 +247,8 @@ pub extern "C" fn yerwaqis_lose(cards: u32, states: u32, reads: bool, at: u32) -
     let a = c.lose(all);
     let r = a.reply;
     let c = a.cabinet;
-    seen(c, at, done(r))
+    let e = c.entries[(at % 12288) as usize];
+    seen(e, done(r))
 }
 
 // With that stored number on each card: from 0 every state is lost.
@@ -253,35 +264,38 @@ pub extern "C" fn yerwaqis_fix(
     let a = c.fix(16, list);
     let r = a.reply;
     let c = a.cabinet;
+    let e = c.entries[(at % 12288) as usize];
     let n = match r {
         FixReply::Fixed(_) => 0,
         FixReply::NotFixed(q) => refusal::number(q),
     };
-    seen(c, at, n)
+    seen(e, n)
 }
 
 // The last card rolled.
 #[no_mangle]
 pub extern "C" fn yerwaqis_roll(cards: u32, states: u32, reads: bool, at: u32) -> u32 {
     let c = forged(cards, states, states, free(), Phase::Rolling);
-    let a = c.roll(0);
+    let a = c.roll(card(at));
     let r = a.reply;
     let c = a.cabinet;
-    seen(c, at, done(r))
+    let e = c.entries[(at % 12288) as usize];
+    seen(e, done(r))
 }
 
 // The sheet of card 0.
 #[no_mangle]
 pub extern "C" fn yerwaqis_sheet(cards: u32, states: u32, at: u32, buffer: &mut [u8]) -> u32 {
     let c = forged(cards, states, states, free(), Phase::Up);
-    let a = c.sheet(0, buffer);
+    let a = c.sheet(card(at), buffer);
     let r = a.reply;
     let c = a.cabinet;
+    let e = c.entries[(at % 12288) as usize];
     let n = match r {
         Written::Length(_) => 0,
         Written::Refused(q) => refusal::number(q),
     };
-    seen(c, at, n)
+    seen(e, n)
 }
 
 // From the sheets of all cards, joined.
@@ -290,5 +304,6 @@ pub extern "C" fn yerwaqis_restart(bytes: &[u8], at: u32) -> u32 {
     let a = restart::restart(bytes);
     let r = a.reply;
     let c = a.cabinet;
-    seen(c, at, done(r))
+    let e = c.entries[(at % 12288) as usize];
+    seen(e, done(r))
 }

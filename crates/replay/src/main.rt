@@ -1,10 +1,10 @@
 // Reads a list of calls from standard input and prints the answers, a line at a time: lists of any length in bounded memory.
 ghost use Prim.Native.Nat.{_<_, _≤_};
 ghost use lib.ListN.{length};
+use asking::Replay;
 use decimal::Writing;
 use libc::STDIN_FILENO;
 use libc::STDOUT_FILENO;
-use trace::Replay;
 
 // The replay, and the bytes of a line that has not ended yet: 129 of them tell that it is too long.
 struct Reader {
@@ -96,7 +96,8 @@ fn feed(f: Reader, part: &[u8], out: &mut [u8]) -> Reader {
                 count: n,
             };
         }
-        let s = trace::step(r, &line[0..n], out);
+        let said = words::says(&line[0..n]);
+        let s = asking::obey(r, said, out, Writing::Next(0));
         let w = s.written;
         print(out, w);
         r = s.replay;
@@ -131,7 +132,8 @@ fn do_rest(r: Replay, line: &[u8], count: usize) {
     if 0 < count {
         if count <= line.len() {
             let mut out = io::large_buffer();
-            let s = trace::step(r, &line[0..count], &mut out);
+            let said = words::says(&line[0..count]);
+            let s = asking::obey(r, said, &mut out, Writing::Next(0));
             let w = s.written;
             print(&out, w);
         }

@@ -1,8 +1,8 @@
 // The lists of calls: one call a line, an empty line after each list.
 use crate::Tally;
 use crate::unpack;
+use asking::Replay;
 use decimal::Writing;
-use trace::Replay;
 
 // The replay after a line, and what was matched with it.
 struct Matched {

@@ -2,9 +2,9 @@
 // list of calls reaches. It prints each answer that is neither `ok`, nor `change` and a number, nor that of fix, and all of the
 // last ones.
 ghost use Prim.Native.Nat.{_<_};
+use asking::Replay;
 use decimal::Writing;
 use libc::STDOUT_FILENO;
-use trace::Replay;
 
 // A line that is being put together.
 struct Line {
