@@ -10,7 +10,7 @@ COPY = 55256
 
 
 def counts(cards, states, kind):
-    """Of each measured function its instructions and how many whole cabinets it copies."""
+    """Of each measured function its instructions, how many cabinets it copies, and the instructions of its copies."""
     found, name = {}, None
     for line in open(f"{OUT}/counts.{cards}.{states}.{kind}"):
         match = re.match(r"\s*([\d,]+) \(.*?\)\s+([*>])\s+\S*?:(.*?) ", line)
@@ -21,9 +21,10 @@ def counts(cards, states, kind):
             measured = re.match(r"(?:port::bench::)?((?:yerwaqis|port|lent)_\w+)$", what)
             name = measured.group(1) if measured else None
             if name:
-                found[name] = [number, 0]
+                found[name] = [number, 0, 0]
         elif name and "memcpy" in what:
             found[name][1] += round(number / COPY)
+            found[name][2] += number
     return found
 
 
@@ -31,13 +32,17 @@ def cost(found, who, call):
     """A call's instructions outside copies of the cabinet, and its copies, less the making of its cabinet."""
     if f"{who}_{call}" not in found:
         return None
-    number, copies = found[f"{who}_{call}"]
+    number, copies, copied = found[f"{who}_{call}"]
     if call in ("fresh", "restart"):
-        return number, 0
+        return number, 0, number
     made = found["yerwaqis_nothing" if who == "yerwaqis" else "port_nothing"]
+    whole = number - made[0]
     # the port's copy is made below the measured function, in the method itself
-    copies = 1 if who == "port" else copies - made[1]
-    return number - made[0] - copies * COPY, copies
+    if who == "port":
+        return whole - COPY, 1, whole
+    # a copy of the frames alone, where the call writes the rest anew, is a little shorter than one of the cabinet
+    copies -= made[1]
+    return whole - min(copied - made[2], copies * COPY), copies, whole
 
 
 def told(number):
@@ -49,7 +54,7 @@ def work(pair):
 
 
 def whole_of(pair):
-    return None if pair is None else pair[0] + pair[1] * COPY
+    return None if pair is None else pair[2]
 
 
 def ratio(a, b):

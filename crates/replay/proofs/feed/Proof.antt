@@ -10,7 +10,8 @@ use Rattle.replay.proofs.feed.Lts as lts
 use Rattle.replay.proofs.gather.Reads as gather-reads
 use Rattle.replay.proofs.print.Reads as print-reads
 use Rattle.replay.proofs.within.Reads as within-reads
-use Rattle.trace.proofs.step.Reads as step-reads
+use Rattle.asking.proofs.obey.Reads as obey-reads
+use Rattle.words.proofs.says.Reads as says-reads
 
 abbrev Inv-loop : tie.InvT-loop
 Inv-loop part out₀ r₀ line₀ count₀ at₀ out r line count at = (length line ≡ 129) × (length out ≡ length out₀)
@@ -43,22 +44,26 @@ returns : tie.Need-returns Inv-loop μ-loop
 returns c = search needs
 
 -- src/main.rt:99:32
-sub-step : tie.Need-sub-step Inv-loop μ-loop
-sub-step c = search needs
+sub-says : tie.Need-sub-says Inv-loop μ-loop
+sub-says c = search needs
 
 -- src/main.rt:99:32
-part-step-start : tie.Need-part-step-start Inv-loop μ-loop
-part-step-start c = search needs
+part-says-start : tie.Need-part-says-start Inv-loop μ-loop
+part-says-start c = search needs
 
 -- src/main.rt:99:32
-part-step-end : tie.Need-part-step-end Inv-loop μ-loop
-part-step-end c = search needs
+part-says-end : tie.Need-part-says-end Inv-loop μ-loop
+part-says-end c = search needs
 
 -- src/main.rt:99:13
-step-requires : tie.Need-step-requires Inv-loop μ-loop
-step-requires c κs = search needs
+says-requires : tie.Need-says-requires Inv-loop μ-loop
+says-requires c κs = search needs
 
--- src/main.rt:101:9
+-- src/main.rt:100:13
+obey-requires : tie.Need-obey-requires Inv-loop μ-loop
+obey-requires c κs = search needs
+
+-- src/main.rt:102:9
 print-requires : tie.Need-print-requires Inv-loop μ-loop
 print-requires c κs = search needs
 
@@ -90,10 +95,11 @@ feed-spec =
     within-requires
     same-length
     returns
-    sub-step
-    part-step-start
-    part-step-end
-    step-requires
+    sub-says
+    part-says-start
+    part-says-end
+    says-requires
+    obey-requires
     print-requires
     loop-less
     loop-again
