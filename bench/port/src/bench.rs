@@ -1,7 +1,7 @@
 //! What bench/run.sh measures of the port: each call once, on a cabinet forged
 //! for it, as crates/calls_bench does it. `port_..` by value, `lent_..` by `&mut`.
 
-use crate::{all_below, restart, Answer, Cabinet, Head, Phase, Place, FREE, IN_HAND, WIDTH};
+use crate::{all_below, restart, Answer, Cabinet, Head, Phase, Place, FREE, IN_HAND, PLACES, WIDTH};
 
 #[inline(never)]
 fn forged(cards: u32, states: u32, stored: u32, first: Place, phase: Phase) -> Cabinet {
@@ -30,12 +30,21 @@ fn change(number: u32, cards: u32, reads: bool, yes: u16) -> Place {
     Place { number, reads, writes, yes, ..FREE }
 }
 
+/// A number out of every part of a cabinet, so that all that a call wrote is
+/// looked at.
 fn entry(cabinet: &Cabinet, at: u32, refused: bool) -> u32 {
     if refused {
-        1_000_000
-    } else {
-        cabinet.entries[at as usize % cabinet.entries.len()]
+        return 1_000_000;
     }
+    let (at, card) = (at as usize, at as usize % WIDTH);
+    let place = &cabinet.places[at % PLACES];
+    let frames = cabinet.entries[at % cabinet.entries.len()] ^ cabinet.makers[at % cabinet.makers.len()];
+    let vectors = cabinet.last[card][card] ^ cabinet.pending[card][card] ^ place.vector[card];
+    let sets = place.reads ^ place.writes ^ place.yes ^ place.taken ^ cabinet.rolled;
+    let numbers = [cabinet.base, cabinet.stored, cabinet.held, cabinet.reached, cabinet.line];
+    let numbers = numbers.iter().fold(cabinet.ended[at % PLACES], |sum, list| sum ^ list[card]);
+    let head = cabinet.head.session ^ cabinet.head.cards ^ cabinet.head.count ^ cabinet.head.phase as u32;
+    frames ^ vectors ^ u32::from(sets) ^ numbers ^ place.number ^ head
 }
 
 #[inline(always)]

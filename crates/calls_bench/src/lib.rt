@@ -101,9 +101,38 @@ fn change(number: u32, cards: u32, reads: bool, yes: u16) -> Place {
     }
 }
 
-// A number out of the cabinet that was handed back; 1000000 after a refusal.
-fn seen(entry: u32, refused: u32) -> u32 {
-    if refused == 0 { entry } else { 1000000 }
+fn phase_number(phase: Phase) -> u32 {
+    match phase {
+        Phase::Up => 0,
+        Phase::Down => 1,
+        Phase::Rolling => 2,
+    }
+}
+
+fn wide(set: u16) -> u32 {
+    set as u32
+}
+
+// A number out of every part of a cabinet, at places not known beforehand, so that all that a call wrote is looked at.
+fn looked(c: Cabinet, at: u32) -> u32 {
+    let i = (at % 16) as usize;
+    let k = (at % 8) as usize;
+    let l = c.last[i];
+    let p = c.pending[i];
+    let o = c.places[k];
+    let h = c.head;
+    let phase = h.phase;
+    let frames = c.entries[(at % 12288) as usize] ^ c.makers[(at % 768) as usize];
+    let vectors = l.entries[i] ^ p.entries[i] ^ o.vector[i];
+    let sets = wide(o.reads) ^ wide(o.writes) ^ wide(o.yes) ^ wide(o.taken) ^ wide(c.rolled);
+    let numbers = c.base[i] ^ c.stored[i] ^ c.held[i] ^ c.reached[i] ^ c.line[i] ^ c.ended[k];
+    let head = h.session ^ h.cards ^ h.count ^ phase_number(phase);
+    frames ^ vectors ^ sets ^ numbers ^ o.number ^ head
+}
+
+// What was looked at; 1000000 after a refusal.
+fn seen(number: u32, refused: u32) -> u32 {
+    if refused == 0 { number } else { 1000000 }
 }
 
 fn done(r: Reply) -> u32 {
@@ -117,7 +146,7 @@ fn done(r: Reply) -> u32 {
 #[no_mangle]
 pub extern "C" fn yerwaqis_nothing(cards: u32, states: u32, reads: bool, at: u32) -> u32 {
     let c = forged(cards, states, states, free(), Phase::Up);
-    let e = c.entries[(at % 12288) as usize];
+    let e = looked(c, at);
     seen(e, 0)
 }
 
@@ -126,7 +155,7 @@ pub extern "C" fn yerwaqis_fresh(cards: u32, at: u32) -> u32 {
     let a = Cabinet::fresh(cards);
     let r = a.reply;
     let c = a.cabinet;
-    let e = c.entries[(at % 12288) as usize];
+    let e = looked(c, at);
     seen(e, done(r))
 }
 
@@ -137,7 +166,7 @@ pub extern "C" fn yerwaqis_open(cards: u32, states: u32, reads: bool, at: u32) -
     let a = c.open(o.reads, o.writes);
     let r = a.reply;
     let c = a.cabinet;
-    let e = c.entries[(at % 12288) as usize];
+    let e = looked(c, at);
     let n = match r {
         OpenReply::Opened(_) => 0,
         OpenReply::NotOpened(q) => refusal::number(q),
@@ -159,7 +188,7 @@ pub extern "C" fn yerwaqis_vote(cards: u32, states: u32, reads: bool, at: u32) -
     let a = c.vote(1000, card(at), true);
     let r = a.reply;
     let c = a.cabinet;
-    let e = c.entries[(at % 12288) as usize];
+    let e = looked(c, at);
     seen(e, done(r))
 }
 
@@ -176,7 +205,7 @@ pub extern "C" fn yerwaqis_take(cards: u32, states: u32, reads: bool, at: u32) -
     let a = c.take(1000, card(at));
     let r = a.reply;
     let c = a.cabinet;
-    let e = c.entries[(at % 12288) as usize];
+    let e = looked(c, at);
     seen(e, done(r))
 }
 
@@ -192,7 +221,7 @@ pub extern "C" fn yerwaqis_withdraw(cards: u32, states: u32, reads: bool, at: u3
     let a = c.withdraw(1000);
     let r = a.reply;
     let c = a.cabinet;
-    let e = c.entries[(at % 12288) as usize];
+    let e = looked(c, at);
     seen(e, done(r))
 }
 
@@ -202,7 +231,7 @@ pub extern "C" fn yerwaqis_store(cards: u32, states: u32, reads: bool, at: u32) 
     let a = c.store(card(at), 0);
     let r = a.reply;
     let c = a.cabinet;
-    let e = c.entries[(at % 12288) as usize];
+    let e = looked(c, at);
     seen(e, done(r))
 }
 
@@ -213,7 +242,7 @@ pub extern "C" fn yerwaqis_trim(cards: u32, states: u32, reads: bool, at: u32) -
     let a = c.trim();
     let r = a.reply;
     let c = a.cabinet;
-    let e = c.entries[(at % 12288) as usize];
+    let e = looked(c, at);
     seen(e, done(r))
 }
 
@@ -224,7 +253,7 @@ pub extern "C" fn yerwaqis_safe(cards: u32, states: u32, change: u32, at: u32) -
     let a = c.safe(change);
     let r = a.reply;
     let c = a.cabinet;
-    let e = c.entries[(at % 12288) as usize];
+    let e = looked(c, at);
     let n = match r {
         SafeReply::Safe => 0,
         SafeReply::Unsafe => 0,
@@ -247,7 +276,7 @@ pub extern "C" fn yerwaqis_lose(cards: u32, states: u32, reads: bool, at: u32) -
     let a = c.lose(all);
     let r = a.reply;
     let c = a.cabinet;
-    let e = c.entries[(at % 12288) as usize];
+    let e = looked(c, at);
     seen(e, done(r))
 }
 
@@ -264,7 +293,7 @@ pub extern "C" fn yerwaqis_fix(
     let a = c.fix(16, list);
     let r = a.reply;
     let c = a.cabinet;
-    let e = c.entries[(at % 12288) as usize];
+    let e = looked(c, at);
     let n = match r {
         FixReply::Fixed(_) => 0,
         FixReply::NotFixed(q) => refusal::number(q),
@@ -279,7 +308,7 @@ pub extern "C" fn yerwaqis_roll(cards: u32, states: u32, reads: bool, at: u32) -
     let a = c.roll(card(at));
     let r = a.reply;
     let c = a.cabinet;
-    let e = c.entries[(at % 12288) as usize];
+    let e = looked(c, at);
     seen(e, done(r))
 }
 
@@ -290,7 +319,7 @@ pub extern "C" fn yerwaqis_sheet(cards: u32, states: u32, at: u32, buffer: &mut 
     let a = c.sheet(card(at), buffer);
     let r = a.reply;
     let c = a.cabinet;
-    let e = c.entries[(at % 12288) as usize];
+    let e = looked(c, at);
     let n = match r {
         Written::Length(_) => 0,
         Written::Refused(q) => refusal::number(q),
@@ -304,6 +333,6 @@ pub extern "C" fn yerwaqis_restart(bytes: &[u8], at: u32) -> u32 {
     let a = restart::restart(bytes);
     let r = a.reply;
     let c = a.cabinet;
-    let e = c.entries[(at % 12288) as usize];
+    let e = looked(c, at);
     seen(e, done(r))
 }
