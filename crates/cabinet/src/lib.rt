@@ -24,6 +24,7 @@ pub struct Cabinet {
     pub entries: [u32; (Cabinet::WIDTH * Cabinet::IN_HAND * Cabinet::WIDTH) as usize],
     // the changes that made the states of the frames
     pub makers: [u32; (Cabinet::WIDTH * Cabinet::IN_HAND) as usize],
+    // session, number of cards, last change number and phase; right after the frames, which then are copied once
     pub head: Head,
     pub last: [Vector; Cabinet::WIDTH as usize],
     pub pending: [Vector; Cabinet::WIDTH as usize],

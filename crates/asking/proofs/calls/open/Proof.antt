@@ -1,6 +1,6 @@
 -- `asking::calls::open` calls open and writes its answer. Assumes nothing.
 use Rattle.asking.specs.Told.{readsBeyond, writesBeyond}
-use Rattle.asking.proofs.Laws.{told-as, opened-by, onward, onward-as}
+use Rattle.asking.proofs.Laws.{opened-by, onward, onward-as}
 use borrow.Author.Needs.{needs}
 use Rattle.asking.proofs.calls.open.Statement.{statement}
 use Rattle.asking.proofs.calls.open.Tie as tie
