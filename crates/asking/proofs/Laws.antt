@@ -14,8 +14,9 @@ use Rattle.protocol.specs.Calls.{fixPlan, freshRefused}
 use Rattle.verdicts.specs.declared.Reply as verdict
 use Rattle.verdicts.specs.declared.Reply.the-variants.{Done, Refused}
 use Rattle.verdicts.specs.Answers.{replyOf}
-use Rattle.protocol.specs.Sheets.{sheetPlan}
-use Rattle.frame.specs.Format.{format}
+use Rattle.protocol.specs.Codec.{sheetPlan}
+use Rattle.codec.specs.Sheets.{codec}
+use Rattle.frame.specs.Format.{formats}
 use Rattle.write.specs.declared.Written as sheets
 use Rattle.card_sheet.specs.Card.{sheetReplyOf}
 use Rattle.verdicts.specs.Shape.{limits16}
@@ -70,19 +71,19 @@ module _ {b : List ℕ} {w r : Writing} {e : List ℕ} where
   opened-by {q = q} h l k u = record { text = replyText q; told = openWithin h l q k refl; put = u }
 
   -- fix, which was lent so many places at the front of a list: after it they hold what it left there
-  pub fixed-by : {c : Cabinet} {records : ℕ} {before after stored line : List ℕ} {q : FixReply} {next : Cabinet} (places numbers : ℕ) (whole : List ℕ)
-      → FixCarried c records before after stored line q next → length before ≡ numbers → take places whole ≡ after
-      → Put b w (replyText (fixReplyOf (c .head .cards) stored line (take places whole) q)) r e → Written (FixSaid c records numbers next) b w r e
-  fixed-by {c} {records} {before} {after} {stored} {line} {q} {next} places numbers whole f size left u =
+  pub fixed-by : {c : Cabinet} {records : ℕ} {before after : List ℕ} {q : FixReply} {next : Cabinet} (places numbers : ℕ) (whole : List ℕ)
+      → FixCarried c records before after q next → length before ≡ numbers → take places whole ≡ after
+      → Put b w (replyText (fixReplyOf (c .core .head .cards) (next .core .stored) (next .core .line) (take places whole) q)) r e → Written (FixSaid c records numbers next) b w r e
+  fixed-by {c} {records} {before} {after} {q} {next} places numbers whole f size left u =
       record {
-        text = replyText (fixReplyOf (c .head .cards) stored line (take places whole) q);
+        text = replyText (fixReplyOf (c .core .head .cards) (next .core .stored) (next .core .line) (take places whole) q);
         told = record {
           lost = f .told .lost;
           once = f .told .once;
           planned = record {
             cabinet = f .cabinet ∙ ap (λ (n : ℕ). applyAll (fixPlan limits16 (view c) records n (f .told .lost) .edits) c) size;
             answer = ap replyText
-                (ap (λ (l : List ℕ). fixReplyOf (c .head .cards) stored line l q) left ∙ f .told .answer
+                (ap (λ (l : List ℕ). fixReplyOf (c .core .head .cards) (next .core .stored) (next .core .line) l q) left ∙ f .told .answer
                 ∙ ap (λ (n : ℕ). fixPlan limits16 (view c) records n (f .told .lost) .reply) size);
           };
         };
@@ -92,15 +93,15 @@ module _ {b : List ℕ} {w r : Writing} {e : List ℕ} where
   -- sheet writing, which was lent so many bytes at the front of a buffer
   pub sheet-by : {c : Cabinet} {card : ℕ} {before after : List ℕ} {q : sheets.Written} {next : Cabinet} (places bytes : ℕ) (whole : List ℕ)
       → SheetCarried c card before after q next → length before ≡ bytes → take places whole ≡ after
-      → Put b w (replyText (sheetReplyOf (take places whole) q)) r e → Written (Planned c (sheetPlan format limits16 (view c) card bytes) next) b w r e
+      → Put b w (replyText (sheetReplyOf (take places whole) q)) r e → Written (Planned c (sheetPlan codec limits16 (view c) card bytes) next) b w r e
   sheet-by {c} {card} {before} {after} {q} {next} places bytes whole f size left u =
       record {
         text = replyText (sheetReplyOf (take places whole) q);
         told = record {
-          cabinet = f .cabinet ∙ ap (λ (n : ℕ). applyAll (sheetPlan format limits16 (view c) card n .edits) c) size;
+          cabinet = f .cabinet ∙ ap (λ (n : ℕ). applyAll (sheetPlan codec limits16 (view c) card n .edits) c) size;
           answer = ap replyText
               (ap (λ (l : List ℕ). sheetReplyOf l q) left ∙ f .told .answer
-              ∙ ap (λ (n : ℕ). sheetPlan format limits16 (view c) card n .reply) size);
+              ∙ ap (λ (n : ℕ). sheetPlan codec limits16 (view c) card n .reply) size);
         };
         put = u;
       }

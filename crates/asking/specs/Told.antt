@@ -9,8 +9,9 @@ use Rattle.refusal.specs.declared.Refusal.the-variants.{NoSuchCard}
 use Rattle.decimal.specs.declared.Writing.{Writing}
 use Rattle.protocol.specs.Plan.{Plan, Reply}
 use Rattle.protocol.specs.Calls.{storePlan, takePlan, votePlan, withdrawPlan, safePlan, trimPlan, rollPlan, losePlan, fixPlan, isLost}
-use Rattle.protocol.specs.Sheets.{sheetPlan}
-use Rattle.frame.specs.Format.{format}
+use Rattle.protocol.specs.Codec.{sheetPlan}
+use Rattle.codec.specs.Sheets.{codec}
+use Rattle.frame.specs.Format.{formats}
 use Rattle.verdicts.specs.Shape.{limits16}
 use Rattle.cabinet.specs.declared.Cabinet.{Cabinet}
 use Rattle.cabinet.specs.View.{view}
@@ -82,6 +83,6 @@ Told c (Lose cards) next text = LoseTold c cards next text
 Told c (Fix records numbers) next text = FixSaid c records (min numbers 776) next text
 Told c (Roll card) next text = Planned c (rollPlan limits16 (view c) card) next text
 -- a readable line lends 65,536 bytes at most
-Told c (Sheet card bytes) next text = Planned c (sheetPlan format limits16 (view c) card (min bytes 65536)) next text
+Told c (Sheet card bytes) next text = Planned c (sheetPlan codec limits16 (view c) card (min bytes 65536)) next text
 Told c Restart next text = RestartTold c next text
-Told c Show next text = Kept c (showText (c .head) (c .base) (c .stored) (c .held) (c .reached)) next text
+Told c Show next text = Kept c (showText (c .core .head) (c .core .base) (c .core .stored) (c .core .held) (c .core .reached)) next text

@@ -4,8 +4,9 @@ ghost use mathlib.Core.Path.{_≡_};
 ghost use lib.ListN.{length};
 ghost use Rattle.refusal.specs.declared.Refusal.the-variants.{NoSuchCard};
 ghost use Rattle.protocol.specs.Calls.{storePlan, takePlan, votePlan, withdrawPlan, safePlan, trimPlan, rollPlan};
-ghost use Rattle.protocol.specs.Sheets.{sheetPlan};
-ghost use Rattle.frame.specs.Format.{format};
+ghost use Rattle.protocol.specs.Codec.{sheetPlan};
+ghost use Rattle.codec.specs.Sheets.{codec};
+ghost use Rattle.frame.specs.Format.{formats};
 ghost use Rattle.verdicts.specs.Shape.{limits16};
 ghost use Rattle.cabinet.specs.View.{view};
 ghost use Rattle.answers.specs.Texts.{refusedText};
@@ -176,16 +177,17 @@ fn blank_list() -> [u32; 776]
 pub fn fix(c: Cabinet, records: u32, numbers: u32, b: &mut [u8], w: Writing) -> Stepped
     ensures { λ r. ⌜ Written (Onward (FixSaid c records (min numbers 776)) (r .replay)) (now (b .entry)) w (r .written) (now (b .exit)) ⌝ }
 {
-    let head = c.head;
+    let core = c.core;
+    let head = core.head;
     let cards = head.cards;
     let mut list = blank_list();
     let places = lent_places(numbers);
     let a = c.fix(records as usize, &mut list[0..places]);
     let r = a.reply;
-    let stored = a.stored;
-    let line = a.line;
-    let written = answers::put_fix(b, w, cards, stored, line, list, places, r);
     let cabinet = a.cabinet;
+    let stored = cabinet.core.stored;
+    let line = cabinet.core.line;
+    let written = answers::put_fix(b, w, cards, stored, line, list, places, r);
     let replay = Replay {
         cabinet,
         begun: true,
@@ -224,7 +226,7 @@ fn blank_buffer() -> [u8; 65536]
 
 // A card's sheet: the buffer has at most 65,536 bytes.
 pub fn sheet(c: Cabinet, card: u32, bytes: u32, b: &mut [u8], w: Writing) -> Stepped
-    ensures { λ r. ⌜ Written (Onward (Planned c (sheetPlan format limits16 (view c) card (min bytes 65536))) (r .replay)) (now (b .entry)) w (r .written) (now (b .exit)) ⌝ }
+    ensures { λ r. ⌜ Written (Onward (Planned c (sheetPlan codec limits16 (view c) card (min bytes 65536))) (r .replay)) (now (b .entry)) w (r .written) (now (b .exit)) ⌝ }
 {
     let mut buffer = blank_buffer();
     let places = lent_bytes(bytes);
@@ -256,13 +258,14 @@ pub fn restart(c: Cabinet, b: &mut [u8], w: Writing) -> Stepped
 
 // What the cabinet is.
 pub fn show(c: Cabinet, b: &mut [u8], w: Writing) -> Stepped
-    ensures { λ r. ⌜ Written (Onward (Kept c (showText (c .head) (c .base) (c .stored) (c .held) (c .reached))) (r .replay)) (now (b .entry)) w (r .written) (now (b .exit)) ⌝ }
+    ensures { λ r. ⌜ Written (Onward (Kept c (showText (c .core .head) (c .core .base) (c .core .stored) (c .core .held) (c .core .reached))) (r .replay)) (now (b .entry)) w (r .written) (now (b .exit)) ⌝ }
 {
-    let head = c.head;
-    let base = c.base;
-    let stored = c.stored;
-    let held = c.held;
-    let reached = c.reached;
+    let core = c.core;
+    let head = core.head;
+    let base = core.base;
+    let stored = core.stored;
+    let held = core.held;
+    let reached = core.reached;
     let written = answers::put_show(b, w, head, base, stored, held, reached);
     let replay = Replay {
         cabinet: c,

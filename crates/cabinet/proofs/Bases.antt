@@ -1,25 +1,24 @@
 -- The laws of a trim and of a roll: what is in hand when bases move. Assumes nothing.
-use Prim.Native.Nat.{ℕ, zero, suc, _+_, _*_, _%_, _≤_, _<_}
-use mathlib.Core.Path.{_≡_, refl, sym, _∙_, ap, ap₂}
-use mathlib.Core.Bool.{Bool, true, false, not, _&&_, _||_, cond}
-use mathlib.Core.List.{List, []}
+use Prim.Native.Nat.{ℕ, _≤_, _<_}
+use mathlib.Core.Path.{_≡_, sym, _∙_, ap, ap₂}
+use mathlib.Core.Bool.{Bool, true, false, _&&_, _||_, cond}
+use mathlib.Core.List.{List}
 use mathlib.Core.Logic.{by-cases}
 use native.Mathlib.Decide.{decLe, ℕ-discrete}
 use native.Mathlib.Omega.{arith}
 use lib.Dec.{eqb, leb, ltb}
-use lib.ListN.{length, getD, set}
+use lib.ListN.{length, set}
 use lib.Seq.{getD-set-same, getD-set-other}
 use borrow.Author.Tests.{eq-eqb, ne-eqb, lt-ltb, le-ltb, lt-leb, ltb-true}
-use Rattle.laws.proofs.Logic.{test, cond-true, cond-false}
+use Rattle.laws.proofs.Logic.{test}
 use Rattle.bits.specs.Member.{member}
 use Rattle.bits.proofs.Members.{member-above}
-use Rattle.history.specs.Change.{CardSet, Numbers}
+use Rattle.history.specs.Change.{Numbers}
 use Rattle.history.specs.Vector.{noEntries}
-use Rattle.history.specs.Vector as history
-use Rattle.protocol.specs.Model.{Model, withCard}
+use Rattle.protocol.specs.Model.{withCard}
 use Rattle.protocol.specs.Edit.{put, edited}
 use Rattle.protocol.specs.Edit as edit
-use Rattle.verdicts.specs.Shape.{limits16, at, ringMaker, ringFrame, cut, inHand, makerInHand, frameInHand, listOf}
+use Rattle.verdicts.specs.Shape.{limits16, at, ringMaker, ringFrame, cut, inHand, listOf}
 use Rattle.verdicts.proofs.Held.{at-list-all, member-set}
 use Rattle.cabinet.specs.declared.Cabinet.{Cabinet}
 use Rattle.cabinet.specs.View.{view}
@@ -39,17 +38,17 @@ module _ {A : Type 0} (y z : A) where
           let o : ltb old x ≡ true = lt-ltb old x (omega arith) in
           rw (t, o)
 
-pub rebase-law : (s : Cabinet) (bases : Numbers) → ((k : ℕ) → 16 ≤ k → bases k ≡ 0) → ((c : ℕ) → at (s .base) c ≤ bases c)
+pub rebase-law : (s : Cabinet) (bases : Numbers) → ((k : ℕ) → 16 ≤ k → bases k ≡ 0) → ((c : ℕ) → at (s .core .base) c ≤ bases c)
     → view (apply (edit.rebase bases) s) ≡ edited limits16 (edit.rebase bases) (view s)
 rebase-law s bases none up =
     let e : at (listOf bases) ≡ bases = at-list-all bases none in
     λ i. edit.withNumbers (view s)
-    (record { base = e i; stored = at (s .stored); held = at (s .held); reached = at (s .reached) })
+    (record { base = e i; stored = at (s .core .stored); held = at (s .core .held); reached = at (s .core .reached) })
     (record {
       last = view s .memory .last;
       pending = view s .memory .pending;
-      maker = λ c x. (ap (λ (f : Numbers). cond (ltb (f c) x && leb x (at (s .reached) c)) (ringMaker (s .makers) c x) 0) e ∙ still-in-hand (ringMaker (s .makers) c x) 0 (at (s .base) c) (bases c) (at (s .reached) c) x (up c)) i;
-      frame = λ c x. (ap (λ (f : Numbers). cond (ltb (f c) x && leb x (at (s .reached) c)) (cut (ringFrame (s .entries) c x)) noEntries) e ∙ still-in-hand (cut (ringFrame (s .entries) c x)) noEntries (at (s .base) c) (bases c) (at (s .reached) c) x (up c)) i;
+      maker = λ c x. (ap (λ (f : Numbers). cond (ltb (f c) x && leb x (at (s .core .reached) c)) (ringMaker (s .makers) c x) 0) e ∙ still-in-hand (ringMaker (s .makers) c x) 0 (at (s .core .base) c) (bases c) (at (s .core .reached) c) x (up c)) i;
+      frame = λ c x. (ap (λ (f : Numbers). cond (ltb (f c) x && leb x (at (s .core .reached) c)) (cut (ringFrame (s .entries) c x)) noEntries) e ∙ still-in-hand (cut (ringFrame (s .entries) c x)) noEntries (at (s .core .base) c) (bases c) (at (s .core .reached) c) x (up c)) i;
     })
 
 -- ---- one card goes to its line
@@ -75,37 +74,31 @@ module _ {A : Type 0} (base reached : List ℕ) (c l : ℕ) (hb : c < length bas
 -- what the law of a roll asks
 pub record Lowers (s : Cabinet) (c : ℕ) : Type 0 where
   pub card : c < 16
-  pub base : length (s .base) ≡ 16
-  pub stored : length (s .stored) ≡ 16
-  pub held : length (s .held) ≡ 16
-  pub reached : length (s .reached) ≡ 16
-  pub rolled : s .rolled < 65536
+  pub base : length (s .core .base) ≡ 16
+  pub stored : length (s .core .stored) ≡ 16
+  pub held : length (s .core .held) ≡ 16
+  pub reached : length (s .core .reached) ≡ 16
+  pub rolled : s .core .rolled < 65536
 
 pub lower-law : (s : Cabinet) (c : ℕ) → Lowers s c → view (apply (edit.lower c) s) ≡ edited limits16 (edit.lower c) (view s)
 lower-law s c g =
-    let l : ℕ = at (s .line) c in
-    λ i. record {
-      session = view s .session;
-      phase = view s .phase;
-      count = view s .count;
-      present = view s .present;
-      numbers = record {
-        base = at-set (s .base) c l (omega (arith, g .base, g .card)) i;
-        stored = at-set (s .stored) c l (omega (arith, g .stored, g .card)) i;
-        held = at-set (s .held) c l (omega (arith, g .held, g .card)) i;
-        reached = at-set (s .reached) c l (omega (arith, g .reached, g .card)) i;
-      };
-      memory = record {
-        last = view s .memory .last;
-        pending = view s .memory .pending;
-        maker = lowered-hand (s .base) (s .reached) c l (omega (arith, g .base, g .card)) (omega (arith, g .reached, g .card)) (ringMaker (s .makers)) 0 i;
-        frame = lowered-hand (s .base) (s .reached) c l (omega (arith, g .base, g .card)) (omega (arith, g .reached, g .card)) (λ d x. cut (ringFrame (s .entries) d x)) noEntries i;
-      };
-      place = view s .place;
-      ended = view s .ended;
-      line = view s .line;
-      rolled = member-set (withCard (member (s .rolled)) c) beyond i;
-    }
+    let l : ℕ = at (s .core .line) c in
+    λ i. edit.withLine
+    (edit.withNumbers (view s)
+    (record {
+      base = at-set (s .core .base) c l (omega (arith, g .base, g .card)) i;
+      stored = at-set (s .core .stored) c l (omega (arith, g .stored, g .card)) i;
+      held = at-set (s .core .held) c l (omega (arith, g .held, g .card)) i;
+      reached = at-set (s .core .reached) c l (omega (arith, g .reached, g .card)) i;
+    })
+    (record {
+      last = view s .memory .last;
+      pending = view s .memory .pending;
+      maker = lowered-hand (s .core .base) (s .core .reached) c l (omega (arith, g .base, g .card)) (omega (arith, g .reached, g .card)) (ringMaker (s .makers)) 0 i;
+      frame = lowered-hand (s .core .base) (s .core .reached) c l (omega (arith, g .base, g .card)) (omega (arith, g .reached, g .card)) (λ d x. cut (ringFrame (s .entries) d x)) noEntries i;
+    }))
+    (view s .line)
+    (member-set (withCard (member (s .core .rolled)) c) beyond i)
   where
-    beyond : (k : ℕ) → 16 ≤ k → withCard (member (s .rolled)) c k ≡ false
-    beyond k h = ap₂ (λ (a b : Bool). a || b) (ne-eqb k c (λ (q : k ≡ c). absurd (omega (arith, g .card)))) (member-above 16 (s .rolled) k (g .rolled) h)
+    beyond : (k : ℕ) → 16 ≤ k → withCard (member (s .core .rolled)) c k ≡ false
+    beyond k h = ap₂ (λ (a b : Bool). a || b) (ne-eqb k c (λ (q : k ≡ c). absurd (omega (arith, g .card)))) (member-above 16 (s .core .rolled) k (g .rolled) h)

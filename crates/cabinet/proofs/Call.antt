@@ -1,40 +1,36 @@
 -- A call that found its checks hands back what its plan says. Assumes nothing.
-use Prim.Native.Nat.{ℕ, _+_, _<_}
-use mathlib.Core.Path.{_≡_, refl, sym, _∙_, ap}
-use mathlib.Core.Bool.{Bool, true, false, not, _&&_, _||_}
+use Prim.Native.Nat.{ℕ, _*_}
+use mathlib.Core.Path.{_≡_, refl, sym, _∙_, ap, subst}
+use mathlib.Core.Bool.{Bool, true, false, not, cond}
 use mathlib.Core.List.{List, [], _∷_}
 use native.Mathlib.Omega.{arith}
-use lib.Dec.{ltb, leb, eqb}
-use borrow.Author.Tests.{ltb-true, lt-ltb, leb-false, not-false, not-true}
-use Rattle.laws.proofs.Logic.{and-left, and-right, and-intro, not-intro, clash, test, or-right}
+use lib.Dec.{ltb, eqb}
+use lib.ListN.{set}
+use lib.Seq.{sets}
+use borrow.Author.Tests.{lt-ltb, eq-eqb, ne-eqb}
 use Rattle.refusal.specs.declared.Refusal.{Refusal}
-use Rattle.protocol.specs.Model.{Model, OpenChange, isCard, isUp, isKnown, isOpen, decided, toWrite, placeOf, freeAt, strays, isEmpty}
+use Rattle.protocol.specs.Model.{Model}
 use Rattle.protocol.specs.Sound.{sound}
-use Rattle.protocol.specs.Calls.{storeChecks, takeChecks, voteChecks, withdrawChecks, openChecks, barred, someWritten}
-use Rattle.refusal.specs.declared.Refusal.the-variants.{BadCabinet, NoSuchCard, BothSetsEmpty, WrongPhase, Barred, NoPlace, InHandFull, LimitReached, NotAwaited, NotDecided}
-use Rattle.protocol.specs.Edit.{Edit}
+use Rattle.protocol.specs.Edit.{Edit, rebase}
+use Rattle.protocol.specs.Calls.{lines}
 use Rattle.protocol.specs.Plan.{Answer, done, Check, _⇒_, Plan, checked, accepted, refused}
 use Rattle.protocol.specs.Plan as plan
+use Rattle.verdicts.specs.declared.Core.{Core}
 use Rattle.verdicts.specs.declared.Reply.{Reply}
 use Rattle.verdicts.specs.declared.Reply.the-variants.{Done, Refused}
-use Rattle.verdicts.specs.Answers.{replyOf, firstFailing, rest}
-use Rattle.verdicts.specs.Shape.{limits16, at}
+use Rattle.verdicts.specs.Answers.{replyOf, firstFailing, after28}
+use Rattle.verdicts.specs.Shape.{limits16, at, listOf, ringPlace, withNumbers}
+use Rattle.verdicts.specs.Applied.{appliedAll, entriesAll, makersAll, CoreCarried}
+use Rattle.verdicts.proofs.Checks.{done-plan, refused-plan}
 use Rattle.safety.specs.Known.{InOrder}
-use Rattle.verdicts.proofs.Limits.{width16, places8}
-use Rattle.verdicts.proofs.Checks.{Passes, passes, done-plan, refused-plan}
-use Rattle.history.specs.Change.{CardSet, touches}
-use Rattle.laws.specs.Below.{anyBelow}
-use Rattle.verdicts.proofs.Limits.{greatestNumber32}
-use Rattle.cabinet.proofs.Known.{first-at, sound-places, sound-reached, sound-stored, written-there, room-known, room-below}
+use Rattle.history.specs.Change.{CardSet}
+use Rattle.carried.specs.Plans.{judged, takeOn, TakeCarriedOn}
+use Rattle.storing.proofs.Next.{lossEdits}
+use Rattle.rolling.proofs.Rolled.{rollEdits}
+use Rattle.carried.proofs.Known.{sound-reached, sound-stored}
 use Rattle.cabinet.specs.declared.Cabinet.{Cabinet}
-use Rattle.parts.specs.declared.Parts.{Parts}
-use Rattle.parts.specs.Standing.{standing}
-use Rattle.cabinet.specs.View.{view, partsOf}
-use Rattle.cabinet.specs.Apply.{applyAll, Carried}
-
--- what 28 finds of a cabinet's frames and parts it finds of the cabinet
-pub whole : (s : Cabinet) (p : Parts) (b : Bool) → p ≡ partsOf s → b ≡ sound limits16 (standing (s .entries) (s .makers) p) → b ≡ sound limits16 (view s)
-whole s p b ep eb = eb ∙ ap (λ (q : Parts). sound limits16 (standing (s .entries) (s .makers) q)) ep
+use Rattle.cabinet.specs.View.{view}
+use Rattle.cabinet.specs.Apply.{apply, applyAll, withCore, Carried}
 
 pub carried-done : (s next : Cabinet) (cs : List Check) (es : List Edit) (r : Reply) → r ≡ firstFailing cs → r ≡ Done → next ≡ applyAll es s → Carried s (checked cs done es) (replyOf r) next
 carried-done s next cs es r e d n =
@@ -46,114 +42,70 @@ carried-refused s next cs es r q e d n =
     let p : checked cs done es ≡ record { reply = refused q; edits = [] } = refused-plan cs done es q (sym e ∙ d) in
     record { answer = ap replyOf d ∙ sym (ap (λ (x : Plan). x .reply) p); cabinet = n ∙ sym (ap (λ (x : Plan). applyAll (x .edits) s) p) }
 
--- a card of the cabinet is below 16
-pub card-below : (m : Model) (c : ℕ) → not (isCard limits16 m c) ≡ false → c < 16
-card-below m c e = let l : c < limits16 .width = ltb-true c (limits16 .width) (and-left (ltb c (limits16 .width)) (m .present c) (not-false (isCard limits16 m c) e)) in omega (arith, width16)
+-- ---- a call on the core is a call on the cabinet
+-- edits one after the other: on the lists of frames, and on the core
+pub apply-all : (es : List Edit) (s : Cabinet) → applyAll es s ≡ record { entries = entriesAll es (s .core) (s .entries); makers = makersAll es (s .core) (s .makers); core = appliedAll es (s .core) }
+apply-all [] s = refl
+apply-all (e ∷ es) s = apply-all es (apply e s)
 
--- what the checks of a call that was accepted show: the first, the second, and so on, did not fail
-module _ (b₁ : Bool) (r₁ : Refusal) (b₂ : Bool) (r₂ : Refusal) (cs : List Check) (e : firstFailing (b₁ ⇒ r₁ ∷ b₂ ⇒ r₂ ∷ cs) ≡ Done) where
-  pub first-passes : b₁ ≡ false
-  first-passes = passes b₁ r₁ (b₂ ⇒ r₂ ∷ cs) e .here
+-- where the lists of frames become what the edits leave there
+pub framed : (s : Cabinet) (p : Plan) (reply : plan.Reply) (entries makers : List ℕ) (core : Core) → CoreCarried (s .core) p reply core
+    → entries ≡ entriesAll (p .edits) (s .core) (s .entries)
+    → makers ≡ makersAll (p .edits) (s .core) (s .makers)
+    → Carried s p reply (record { entries = entries; makers = makers; core = core })
+framed s p reply entries makers core k fe fm =
+    let n : _≡_ {A = Cabinet} (record { entries = entries; makers = makers; core = core }) (record { entries = entriesAll (p .edits) (s .core) (s .entries); makers = makersAll (p .edits) (s .core) (s .makers); core = appliedAll (p .edits) (s .core) }) = λ i. record { entries = fe i; makers = fm i; core = k .core i } in
+    record { answer = k .answer; cabinet = n ∙ sym (apply-all (p .edits) s) }
 
-  pub second-passes : b₂ ≡ false
-  second-passes = passes b₂ r₂ cs (passes b₁ r₁ (b₂ ⇒ r₂ ∷ cs) e .after) .here
+-- edits that make no state, and none at all, leave the frames
+still : (f : List Edit → List ℕ) (l : List ℕ) (cs : List Check) (a : Answer) (es : List Edit) → l ≡ f es → l ≡ f [] → l ≡ f (checked cs a es .edits)
+still f l [] a es e n = e
+still f l ((true ⇒ r) ∷ cs) a es e n = n
+still f l ((false ⇒ r) ∷ cs) a es e n = still f l cs a es e n
 
-  pub two-pass : firstFailing cs ≡ Done
-  two-pass = passes b₂ r₂ cs (passes b₁ r₁ (b₂ ⇒ r₂ ∷ cs) e .after) .after
+pub swapped : (s : Cabinet) (cs : List Check) (a : Answer) (es : List Edit) (b : Bool) (reply : plan.Reply) (core : Core)
+    → b ≡ sound limits16 (view s)
+    → s .entries ≡ entriesAll es (s .core) (s .entries)
+    → s .makers ≡ makersAll es (s .core) (s .makers)
+    → CoreCarried (s .core) (judged b cs a es) reply core
+    → Carried s (judged (sound limits16 (view s)) cs a es) reply (withCore s core)
+swapped s cs a es b reply core eb fe fm k =
+    framed s (judged (sound limits16 (view s)) cs a es) reply (s .entries) (s .makers) core
+    (subst (λ (x : Bool). CoreCarried (s .core) (judged x cs a es) reply core) eb k)
+    (still (λ (x : List Edit). entriesAll x (s .core) (s .entries)) (s .entries) (after28 (not (sound limits16 (view s))) cs) a es fe refl)
+    (still (λ (x : List Edit). makersAll x (s .core) (s .makers)) (s .makers) (after28 (not (sound limits16 (view s))) cs) a es fm refl)
 
-pub store-below : (m : Model) (c x : ℕ) → firstFailing (storeChecks limits16 m c x) ≡ Done → c < 16
-store-below m c x e = card-below m c (second-passes (not (sound limits16 m)) BadCabinet (not (isCard limits16 m c)) NoSuchCard (rest (rest (storeChecks limits16 m c x))) e)
+-- ---- a take, with the frame that the core's part of it tells
+module _ (s self : Cabinet) (k c x m : ℕ) (v : List ℕ) (b : Bool) (reply : plan.Reply) (core : Core) where
+  pub framed-take : (es ms : List ℕ) → b ≡ sound limits16 (view s) → TakeCarriedOn b (s .core) k c v x m reply core → (x ≡ 0 → ⊥)
+      → es ≡ sets (s .entries) (ringPlace c x * 16) (listOf (at v))
+      → ms ≡ set (s .makers) (ringPlace c x) m
+      → self ≡ record { entries = es; makers = ms; core = s .core }
+      → Carried s (takeOn (sound limits16 (view s)) (s .core) k c) reply (record { entries = self .entries; makers = self .makers; core = core })
+  framed-take es ms eb t n fe fm e =
+      let t′ : TakeCarriedOn (sound limits16 (view s)) (s .core) k c v x m reply core = subst (λ (y : Bool). TakeCarriedOn y (s .core) k c v x m reply core) eb t in
+      let made : eqb x 0 ≡ false = ne-eqb x 0 n in
+      framed s (takeOn (sound limits16 (view s)) (s .core) k c) reply (self .entries) (self .makers) core (t′ .carried)
+      (ap (λ (y : Cabinet). y .entries) e ∙ fe ∙ sym (ap (λ (y : Bool). cond y (s .entries) (sets (s .entries) (ringPlace c x * 16) (listOf (at v)))) made) ∙ t′ .entries (s .entries))
+      (ap (λ (y : Cabinet). y .makers) e ∙ fm ∙ sym (ap (λ (y : Bool). cond y (s .makers) (set (s .makers) (ringPlace c x) m)) made) ∙ t′ .makers (s .makers))
 
--- what a take that was accepted shows
-pub record Taken (m : Model) (k c : ℕ) : Type 0 where
-  pub whole : sound limits16 m ≡ true
-  pub card : c < 16
-  pub place : placeOf limits16 m k < 8
-  pub left : m .place (placeOf limits16 m k) .taken c ≡ false
-  pub found : isOpen (m .place (placeOf limits16 m k)) ≡ true
+  pub frameless-take : b ≡ sound limits16 (view s) → TakeCarriedOn b (s .core) k c v x m reply core → x ≡ 0 → self ≡ s
+      → Carried s (takeOn (sound limits16 (view s)) (s .core) k c) reply (record { entries = self .entries; makers = self .makers; core = core })
+  frameless-take eb t z e =
+      let t′ : TakeCarriedOn (sound limits16 (view s)) (s .core) k c v x m reply core = subst (λ (y : Bool). TakeCarriedOn y (s .core) k c v x m reply core) eb t in
+      let none : eqb x 0 ≡ true = eq-eqb x 0 z in
+      framed s (takeOn (sound limits16 (view s)) (s .core) k c) reply (self .entries) (self .makers) core (t′ .carried)
+      (ap (λ (y : Cabinet). y .entries) e ∙ sym (ap (λ (y : Bool). cond y (s .entries) (sets (s .entries) (ringPlace c x * 16) (listOf (at v)))) none) ∙ t′ .entries (s .entries))
+      (ap (λ (y : Cabinet). y .makers) e ∙ sym (ap (λ (y : Bool). cond y (s .makers) (set (s .makers) (ringPlace c x) m)) none) ∙ t′ .makers (s .makers))
 
-pub taken : (m : Model) (k c : ℕ) → firstFailing (takeChecks limits16 m k c) ≡ Done → Taken m k c
-taken m k c e =
-    let cs : List Check = takeChecks limits16 m k c in
-    let two : firstFailing (rest (rest cs)) ≡ Done = two-pass (not (sound limits16 m)) BadCabinet (not (isCard limits16 m c)) NoSuchCard (rest (rest cs)) e in
-    let known : not (isKnown limits16 m k) ≡ false = second-passes (not (isUp (m .phase))) WrongPhase (not (isKnown limits16 m k)) NotAwaited (rest (rest (rest (rest cs)))) two in
-    let o : OpenChange = m .place (placeOf limits16 m k) in
-    let four : firstFailing (rest (rest (rest (rest cs)))) ≡ Done = two-pass (not (isUp (m .phase))) WrongPhase (not (isKnown limits16 m k)) NotAwaited (rest (rest (rest (rest cs)))) two in
-    let due : not (touches (o .change) c && not (o .taken c)) ≡ false = second-passes (not (decided limits16 o)) NotDecided (not (touches (o .change) c && not (o .taken c))) NotAwaited [] four in
-    record {
-      whole = not-false (sound limits16 m) (first-passes (not (sound limits16 m)) BadCabinet (not (isCard limits16 m c)) NoSuchCard (rest (rest cs)) e);
-      card = card-below m c (second-passes (not (sound limits16 m)) BadCabinet (not (isCard limits16 m c)) NoSuchCard (rest (rest cs)) e);
-      left = not-true (o .taken c) (and-right (touches (o .change) c) (not (o .taken c)) (not-false (touches (o .change) c && not (o .taken c)) due));
-      found = and-left (isOpen o) (eqb (o .change .number) k) (first-at (limits16 .places) (λ p. isOpen (m .place p) && eqb (m .place p .change .number) k) (ltb-true (placeOf limits16 m k) (limits16 .places) (not-false (isKnown limits16 m k) known)));
-      place = let l : placeOf limits16 m k < limits16 .places = ltb-true (placeOf limits16 m k) (limits16 .places) (not-false (isKnown limits16 m k) known) in omega (arith, places8);
-    }
+-- the edits of a loss and of a roll make no state
+pub loss-still : (s : Cabinet) (cards : CardSet) (up : Bool) → (s .entries ≡ entriesAll (lossEdits cards up) (s .core) (s .entries)) × (s .makers ≡ makersAll (lossEdits cards up) (s .core) (s .makers))
+loss-still s cards true = (refl, refl)
+loss-still s cards false = (refl, refl)
 
--- a written card that takes its share is below 60,000
-pub take-room : (m : Model) (k c : ℕ) → Taken m k c → m .place (placeOf limits16 m k) .change .writes c ≡ true → m .numbers .reached c < 60000
-take-room m k c t w =
-    room-below m c
-    (room-known m (m .place (placeOf limits16 m k)) (sound-places m (t .whole) (placeOf limits16 m k) (t .place)) (t .found) c (t .card) (and-intro w (not-intro (t .left))))
-
--- the same for a call with an answer of its own
-pub carried-as : (s next : Cabinet) (cs : List Check) (a : Answer) (es : List Edit) (reply : plan.Reply) → firstFailing cs ≡ Done → reply ≡ accepted a → next ≡ applyAll es s → Carried s (checked cs a es) reply next
-carried-as s next cs a es reply e d n =
-    let p : checked cs a es ≡ record { reply = accepted a; edits = es } = done-plan cs a es e in
-    record { answer = d ∙ sym (ap (λ (x : Plan). x .reply) p); cabinet = n ∙ sym (ap (λ (x : Plan). applyAll (x .edits) s) p) }
-
-pub carried-not : (s next : Cabinet) (cs : List Check) (a : Answer) (es : List Edit) (reply : plan.Reply) (q : Refusal) → firstFailing cs ≡ Refused q → reply ≡ refused q → next ≡ s → Carried s (checked cs a es) reply next
-carried-not s next cs a es reply q e d n =
-    let p : checked cs a es ≡ record { reply = refused q; edits = [] } = refused-plan cs a es q e in
-    record { answer = d ∙ sym (ap (λ (x : Plan). x .reply) p); cabinet = n ∙ sym (ap (λ (x : Plan). applyAll (x .edits) s) p) }
-
--- what a vote or a withdrawal that was accepted shows
-pub record Reached (m : Model) (k : ℕ) : Type 0 where
-  pub place : placeOf limits16 m k < 8
-  pub below : (c : ℕ) → c < 16 → m .place (placeOf limits16 m k) .change .writes c ≡ true → m .numbers .reached c < 4294967295
-
-reached-by : (m : Model) (k : ℕ) → sound limits16 m ≡ true → not (isKnown limits16 m k) ≡ false → Reached m k
-reached-by m k e n =
-    let l : placeOf limits16 m k < limits16 .places = ltb-true (placeOf limits16 m k) (limits16 .places) (not-false (isKnown limits16 m k) n) in
-    let l8 : placeOf limits16 m k < 8 = omega (arith, places8) in
-    let o : OpenChange = m .place (placeOf limits16 m k) in
-    let op : isOpen o ≡ true = and-left (isOpen o) (eqb (o .change .number) k) (first-at (limits16 .places) (λ p. isOpen (m .place p) && eqb (m .place p .change .number) k) l) in
-    record {
-      place = l8;
-      below = λ c h w. let r : _ = sound-reached m e c h (written-there m o (sound-places m e (placeOf limits16 m k) l8) op c h w) in omega arith;
-    }
-
-pub voted-reached : (m : Model) (k c : ℕ) → firstFailing (voteChecks limits16 m k c) ≡ Done → Reached m k
-voted-reached m k c e =
-    let cs : List Check = voteChecks limits16 m k c in
-    let two : firstFailing (rest (rest cs)) ≡ Done = two-pass (not (sound limits16 m)) BadCabinet (not (isCard limits16 m c)) NoSuchCard (rest (rest cs)) e in
-    reached-by m k (not-false (sound limits16 m) (first-passes (not (sound limits16 m)) BadCabinet (not (isCard limits16 m c)) NoSuchCard (rest (rest cs)) e))
-    (second-passes (not (isUp (m .phase))) WrongPhase (not (isKnown limits16 m k)) NotAwaited (rest (rest (rest (rest cs)))) two)
-
-pub withdrawn-reached : (m : Model) (k : ℕ) → firstFailing (withdrawChecks limits16 m k) ≡ Done → Reached m k
-withdrawn-reached m k e =
-    let cs : List Check = withdrawChecks limits16 m k in
-    let two : firstFailing (rest (rest cs)) ≡ Done = two-pass (not (sound limits16 m)) BadCabinet (not (isUp (m .phase))) WrongPhase (rest (rest cs)) e in
-    reached-by m k (not-false (sound limits16 m) (first-passes (not (sound limits16 m)) BadCabinet (not (isUp (m .phase))) WrongPhase (rest (rest cs)) e))
-    (first-passes (not (isKnown limits16 m k)) NotAwaited (decided limits16 (m .place (placeOf limits16 m k))) Rattle.refusal.specs.declared.Refusal.the-variants.AlreadyDecided [] two)
-
--- what an opening that was accepted shows
-pub record Opens (m : Model) : Type 0 where
-  pub place : freeAt limits16 m < 8
-  pub count : m .count < 4294967295
-
-pub opens : (m : Model) (reads writes : CardSet) (n : ℕ) → firstFailing (openChecks limits16 m reads writes n) ≡ Done → Opens m
-opens m reads writes n e =
-    let cs : List Check = openChecks limits16 m reads writes n in
-    let full : Bool = someWritten limits16 writes (λ c. leb (m .numbers .base c + limits16 .inHand) (m .numbers .reached c)) in
-    let top : Bool = someWritten limits16 writes (λ c. leb (limits16 .greatestState) (m .numbers .reached c)) in
-    let last : Bool = leb (limits16 .greatestNumber) (m .count) in
-    let two : firstFailing (rest (rest cs)) ≡ Done = two-pass (not (sound limits16 m)) BadCabinet (strays limits16 m reads || strays limits16 m writes) NoSuchCard (rest (rest cs)) e in
-    let four : firstFailing (rest (rest (rest (rest cs)))) ≡ Done = two-pass (isEmpty limits16 reads && isEmpty limits16 writes) BothSetsEmpty (not (isUp (m .phase))) WrongPhase (rest (rest (rest (rest cs)))) two in
-    let free : not (ltb (freeAt limits16 m) (limits16 .places)) ≡ false = second-passes (anyBelow (limits16 .width) (barred limits16 m reads writes)) (Barred n) (not (ltb (freeAt limits16 m) (limits16 .places))) NoPlace (rest (rest (rest (rest (rest (rest cs)))))) four in
-    let six : firstFailing (rest (rest (rest (rest (rest (rest cs)))))) ≡ Done = two-pass (anyBelow (limits16 .width) (barred limits16 m reads writes)) (Barred n) (not (ltb (freeAt limits16 m) (limits16 .places))) NoPlace (rest (rest (rest (rest (rest (rest cs)))))) four in
-    let tops : top || last ≡ false = second-passes full InHandFull (top || last) LimitReached [] six in
-    let l : freeAt limits16 m < limits16 .places = ltb-true (freeAt limits16 m) (limits16 .places) (not-false (ltb (freeAt limits16 m) (limits16 .places)) free) in
-    let k : m .count < limits16 .greatestNumber = leb-false (limits16 .greatestNumber) (m .count) (test last (λ t. clash (or-right top t) tops) (λ f. f)) in
-    record { place = omega (arith, places8); count = omega (arith, greatestNumber32) }
+pub roll-still : (s : Cabinet) (c : ℕ) (last : Bool) → (s .entries ≡ entriesAll (rollEdits c last) (s .core) (s .entries)) × (s .makers ≡ makersAll (rollEdits c last) (s .core) (s .makers))
+roll-still s c true = (refl, refl)
+roll-still s c false = (refl, refl)
 
 -- a call that changes nothing, accepted or not
 pub no-edits : (cs : List Check) (a : Answer) → checked cs a [] .edits ≡ []
@@ -169,3 +121,12 @@ in-order m base stored reached n p eb es er e =
       low = λ c h l. let x : _ = sound-stored m e c h (p c (lt-ltb c n l)) in omega (arith, eb c, es c);
       high = λ c h l. let x : _ = sound-reached m e c h (p c (lt-ltb c n l)) in omega (arith, er c);
     }
+
+-- what is answered, by what the check for 28 found
+pub answer-by : (cs : List Check) (a : Answer) (es : List Edit) (x y : Bool) (reply : plan.Reply) → x ≡ y → reply ≡ checked (after28 (not x) cs) a es .reply → reply ≡ checked (after28 (not y) cs) a es .reply
+answer-by cs a es x y reply q e = e ∙ ap (λ (b : Bool). checked (after28 (not b) cs) a es .reply) q
+
+-- what a trim leaves
+pub trimmed-next : (s : Cabinet) (base : List ℕ) → base ≡ listOf (lines limits16 (view s))
+    → withCore s (withNumbers (s .core) base (s .core .stored) (s .core .held) (s .core .reached)) ≡ applyAll (rebase (lines limits16 (view s)) ∷ []) s
+trimmed-next s base e = λ i. withCore s (withNumbers (s .core) (e i) (s .core .stored) (s .core .held) (s .core .reached))

@@ -1,22 +1,19 @@
 -- The law of an append: the ring shows the new frame at its state, and every other frame in hand as it was. Assumes nothing.
-use Prim.Native.Nat.{ℕ, zero, suc, _+_, _*_, _%_, _≤_, _<_}
+use Prim.Native.Nat.{ℕ, zero, suc, _+_, _*_, _≤_, _<_}
 use mathlib.Core.Path.{_≡_, refl, sym, _∙_, ap, ap₂}
-use mathlib.Core.Bool.{Bool, true, false, not, _&&_, _||_, cond}
+use mathlib.Core.Bool.{Bool, true, false, _&&_, cond}
 use mathlib.Core.List.{List, [], _∷_}
 use mathlib.Core.Logic.{_⊎_, inl, inr, by-cases}
 use native.Mathlib.Decide.{decLt, ℕ-discrete}
 use native.Mathlib.Omega.{arith}
 use lib.Dec.{eqb, leb, ltb}
-use lib.ListN.{length, getD, set, length-set, List·getD-eq-default}
+use lib.ListN.{length, getD, set, length-set}
 use lib.Seq.{sets, getD-set-same, getD-set-other}
 use borrow.Author.Tests.{eq-eqb, ne-eqb, lt-ltb, le-ltb, le-leb, ltb-true, leb-true}
-use Rattle.laws.specs.Below.{tabulate}
 use Rattle.laws.proofs.Logic.{test, and-left, and-right, and-intro, same-test}
-use Rattle.laws.proofs.Fill.{length-tabulate, getD-tabulate}
-use Rattle.history.specs.Change.{Numbers}
+use Rattle.laws.proofs.Fill.{length-tabulate}
 use Rattle.history.specs.Vector.{noEntries}
 use Rattle.history.specs.Vector as history
-use Rattle.protocol.specs.Model.{Model}
 use Rattle.protocol.specs.Edit.{put, edited}
 use Rattle.protocol.specs.Edit as edit
 use Rattle.verdicts.specs.declared.Vector.{Vector}
@@ -127,17 +124,17 @@ pub record Grows (s : Cabinet) (c : ℕ) (v : history.Vector) : Type 0 where
   pub card : c < 16
   pub entries : length (s .entries) ≡ 12288
   pub makers : length (s .makers) ≡ 768
-  pub last : length (s .last) ≡ 16
-  pub pending : length (s .pending) ≡ 16
-  pub held : length (s .held) ≡ 16
-  pub reached : length (s .reached) ≡ 16
-  pub low : at (s .base) c ≤ at (s .reached) c
-  pub room : at (s .reached) c < at (s .base) c + 48
+  pub last : length (s .core .last) ≡ 16
+  pub pending : length (s .core .pending) ≡ 16
+  pub held : length (s .core .held) ≡ 16
+  pub reached : length (s .core .reached) ≡ 16
+  pub low : at (s .core .base) c ≤ at (s .core .reached) c
+  pub room : at (s .core .reached) c < at (s .core .base) c + 48
   pub vector : (k : ℕ) → 16 ≤ k → v k ≡ 0
 
 module _ (s : Cabinet) (c k : ℕ) (v : history.Vector) (g : Grows s c v) where
   abbrev x : ℕ
-  x = suc (at (s .reached) c)
+  x = suc (at (s .core .reached) c)
 
   abbrev from : ℕ
   from = ringPlace c x * 16
@@ -175,16 +172,16 @@ module _ (s : Cabinet) (c k : ℕ) (v : history.Vector) (g : Grows s c v) where
           ap (λ (b : Bool). cond b (at (sets (s .entries) from (listOf v)) (ringPlace d y * 16 + j)) 0) (le-ltb j (limits16 .width) (omega (arith, width16, l)))
           ∙ sym (ap (λ (b : Bool). cond b (at (s .entries) (ringPlace d y * 16 + j)) 0) (le-ltb j (limits16 .width) (omega (arith, width16, l))))
 
-  frames : frameInHand (sets (s .entries) from (listOf v)) (s .base) (set (s .reached) c x)
-      ≡ put (frameInHand (s .entries) (s .base) (s .reached)) c (put (frameInHand (s .entries) (s .base) (s .reached) c) x v)
+  frames : frameInHand (sets (s .entries) from (listOf v)) (s .core .base) (set (s .core .reached) c x)
+      ≡ put (frameInHand (s .entries) (s .core .base) (s .core .reached)) c (put (frameInHand (s .entries) (s .core .base) (s .core .reached) c) x v)
   frames =
-      in-hand-after (s .base) (s .reached) c (omega (arith, g .reached, g .card)) (g .low) (g .room)
+      in-hand-after (s .core .base) (s .core .reached) c (omega (arith, g .reached, g .card)) (g .low) (g .room)
       (λ d y. cut (ringFrame (s .entries) d y)) (λ d y. cut (ringFrame (sets (s .entries) from (listOf v)) d y)) noEntries v frame-here frame-other
 
-  makes : makerInHand (set (s .makers) (ringPlace c x) k) (s .base) (set (s .reached) c x)
-      ≡ put (makerInHand (s .makers) (s .base) (s .reached)) c (put (makerInHand (s .makers) (s .base) (s .reached) c) x k)
+  makes : makerInHand (set (s .makers) (ringPlace c x) k) (s .core .base) (set (s .core .reached) c x)
+      ≡ put (makerInHand (s .makers) (s .core .base) (s .core .reached)) c (put (makerInHand (s .makers) (s .core .base) (s .core .reached) c) x k)
   makes =
-      in-hand-after (s .base) (s .reached) c (omega (arith, g .reached, g .card)) (g .low) (g .room)
+      in-hand-after (s .core .base) (s .core .reached) c (omega (arith, g .reached, g .card)) (g .low) (g .room)
       (ringMaker (s .makers)) (ringMaker (set (s .makers) (ringPlace c x) k)) 0 k
       (getD-set-same (s .makers) (ringPlace c x) k 0 (omega (arith, g .makers, g .card)))
       (λ d y h. getD-set-other (s .makers) (ringPlace c x) (ringPlace d y) k 0 h)
@@ -198,9 +195,9 @@ module _ (s : Cabinet) (c k : ℕ) (v : history.Vector) (g : Grows s c v) where
   grow-law =
       λ i. edit.withNumbers (view s)
       (record {
-        base = at (s .base);
-        stored = at (s .stored);
-        held = at-set (s .held) c x (omega (arith, g .held, g .card)) i;
-        reached = at-set (s .reached) c x (omega (arith, g .reached, g .card)) i;
+        base = at (s .core .base);
+        stored = at (s .core .stored);
+        held = at-set (s .core .held) c x (omega (arith, g .held, g .card)) i;
+        reached = at-set (s .core .reached) c x (omega (arith, g .reached, g .card)) i;
       })
-      (record { last = lists (s .last) (g .last) i; pending = lists (s .pending) (g .pending) i; maker = makes i; frame = frames i })
+      (record { last = lists (s .core .last) (g .last) i; pending = lists (s .core .pending) (g .pending) i; maker = makes i; frame = frames i })

@@ -1,29 +1,27 @@
 -- The law of each edit: on a cabinet whose lists have their lengths, the view of what was applied is the edited view. Assumes nothing.
-use Prim.Native.Nat.{ℕ, zero, suc, _+_, _*_, _%_, _≤_, _<_}
-use mathlib.Core.Path.{_≡_, refl, sym, _∙_, ap, ap₂}
-use mathlib.Core.Bool.{Bool, true, false, not, _&&_, _||_, cond}
+use Prim.Native.Nat.{ℕ, suc, _≤_, _<_}
+use mathlib.Core.Path.{_≡_, refl, sym, _∙_, ap}
+use mathlib.Core.Bool.{Bool, true, false, cond}
 use mathlib.Core.List.{List, []}
 use mathlib.Core.Logic.{by-cases}
 use native.Mathlib.Decide.{decLt, ℕ-discrete}
 use native.Mathlib.Omega.{arith}
-use lib.Dec.{eqb, leb, ltb}
-use lib.ListN.{length, getD, set, length-set, List·getD-eq-default}
+use lib.ListN.{length, getD, set, List·getD-eq-default}
 use lib.Seq.{getD-set-same, getD-set-other}
 use borrow.Author.Tests.{eq-eqb, ne-eqb}
 use Rattle.laws.specs.Below.{tabulate}
 use Rattle.laws.proofs.Fill.{length-tabulate, getD-tabulate}
-use Rattle.bits.specs.Member.{member}
 use Rattle.history.specs.Change.{CardSet, Numbers}
 use Rattle.history.specs.Vector.{noEntries}
 use Rattle.history.specs.Vector as history
 use Rattle.protocol.specs.Model.{Model, OpenChange, freePlace, noCards}
-use Rattle.protocol.specs.Edit.{Edit, put, edited, remembered}
+use Rattle.protocol.specs.Edit.{put, edited, remembered}
 use Rattle.protocol.specs.Edit as edit
 use Rattle.verdicts.specs.declared.Place.{Place}
 use Rattle.verdicts.specs.declared.Vector.{Vector}
-use Rattle.verdicts.specs.Shape.{limits16, at, vectorAt, openOf, openAt, placeFor, vectorFor, listOf, setOf}
+use Rattle.verdicts.specs.Shape.{limits16, at, vectorAt, openOf, openAt, placeFor, vectorFor, emptyPlace}
 use Rattle.verdicts.proofs.Limits.{width16, places8}
-use Rattle.verdicts.proofs.Held.{at-list-all, member-set, free-open}
+use Rattle.verdicts.proofs.Held.{at-list-all, member-set, Fits, open-back, free-fits, no-place}
 use Rattle.cabinet.specs.declared.Cabinet.{Cabinet}
 use Rattle.cabinet.specs.View.{view}
 use Rattle.cabinet.specs.Apply.{apply}
@@ -47,80 +45,42 @@ shown-set d f l i v h = λ x k. each k x
 pub at-set : (l : List ℕ) (i v : ℕ) → i < length l → at (set l i v) ≡ put (at l) i v
 at-set l i v h = shown-set 0 (λ x. x) l i v h
 
--- ---- what an open change must be to stand in a place: no card and no entry beyond the width
-pub record Fits (o : OpenChange) : Type 0 where
-  pub reads : (k : ℕ) → 16 ≤ k → o .change .reads k ≡ false
-  pub writes : (k : ℕ) → 16 ≤ k → o .change .writes k ≡ false
-  pub yes : (k : ℕ) → 16 ≤ k → o .yes k ≡ false
-  pub taken : (k : ℕ) → 16 ≤ k → o .taken k ≡ false
-  pub vector : (k : ℕ) → 16 ≤ k → o .vector k ≡ 0
-
-pub open-back : (o : OpenChange) → Fits o → openOf (placeFor o) ≡ o
-open-back o f =
-    λ i. record {
-      change = record { number = o .change .number; reads = member-set (o .change .reads) (f .reads) i; writes = member-set (o .change .writes) (f .writes) i };
-      yes = member-set (o .yes) (f .yes) i;
-      taken = member-set (o .taken) (f .taken) i;
-      vector = at-list-all (o .vector) (f .vector) i;
-    }
-
 -- ---- the laws
-pub keep-law : (s : Cabinet) (c x : ℕ) → c < length (s .stored) → view (apply (edit.keep c x) s) ≡ edited limits16 (edit.keep c x) (view s)
-keep-law s c x h = ap (λ (f : Numbers). edit.withNumbers (view s) (record { base = at (s .base); stored = f; held = at (s .held); reached = at (s .reached) }) (view s .memory)) (at-set (s .stored) c x h)
+pub keep-law : (s : Cabinet) (c x : ℕ) → c < length (s .core .stored) → view (apply (edit.keep c x) s) ≡ edited limits16 (edit.keep c x) (view s)
+keep-law s c x h = ap (λ (f : Numbers). edit.withNumbers (view s) (record { base = at (s .core .base); stored = f; held = at (s .core .held); reached = at (s .core .reached) }) (view s .memory)) (at-set (s .core .stored) c x h)
 
 pub count-law : (s : Cabinet) (k : ℕ) → view (apply (edit.count k) s) ≡ edited limits16 (edit.count k) (view s)
 count-law s k = refl
 
-pub place-law : (s : Cabinet) (p : ℕ) (o : OpenChange) → p < length (s .places) → Fits o → view (apply (edit.place p o) s) ≡ edited limits16 (edit.place p o) (view s)
+pub place-law : (s : Cabinet) (p : ℕ) (o : OpenChange) → p < length (s .core .places) → Fits o → view (apply (edit.place p o) s) ≡ edited limits16 (edit.place p o) (view s)
 place-law s p o h f =
-    ap with (shown-set (record { vector = []; number = 0; reads = 0; writes = 0; yes = 0; taken = 0 }) openOf (s .places) p (placeFor o) h ∙ ap (λ (q : OpenChange). put (openAt (s .places)) p q) (open-back o f))
-  where
-    with : (ℕ → OpenChange) → Model
-    with g =
-        record {
-          session = view s .session;
-          phase = view s .phase;
-          count = view s .count;
-          present = view s .present;
-          numbers = view s .numbers;
-          memory = view s .memory;
-          place = g;
-          ended = view s .ended;
-          line = view s .line;
-          rolled = view s .rolled;
-        }
+    ap (λ (g : ℕ → OpenChange). edit.withPlaces (view s) g (view s .ended)) (shown-set emptyPlace openOf (s .core .places) p (placeFor o) h ∙ ap (λ (q : OpenChange). put (openAt (s .core .places)) p q) (open-back o f))
 
 -- a vector read back from the list of 16 that holds it
-pub raise-law : (s : Cabinet) (c : ℕ) (v : history.Vector) → c < length (s .pending) → ((k : ℕ) → 16 ≤ k → history.joined (vectorAt (s .pending) c) v k ≡ 0)
+pub raise-law : (s : Cabinet) (c : ℕ) (v : history.Vector) → c < length (s .core .pending) → ((k : ℕ) → 16 ≤ k → history.joined (vectorAt (s .core .pending) c) v k ≡ 0)
     → view (apply (edit.raise c v) s) ≡ edited limits16 (edit.raise c v) (view s)
 raise-law s c v h z =
     ap (λ (g : ℕ → history.Vector). edit.withMemory (view s) (record { last = view s .memory .last; pending = g; maker = view s .memory .maker; frame = view s .memory .frame }))
-    (shown-set (record { entries = [] }) (λ (x : Vector). at (x .entries)) (s .pending) c (vectorFor (history.joined (vectorAt (s .pending) c) v)) h
-    ∙ ap (λ (q : history.Vector). put (vectorAt (s .pending)) c q) (at-list-all (history.joined (vectorAt (s .pending) c) v) z))
+    (shown-set (record { entries = [] }) (λ (x : Vector). at (x .entries)) (s .core .pending) c (vectorFor (history.joined (vectorAt (s .core .pending) c) v)) h
+    ∙ ap (λ (q : history.Vector). put (vectorAt (s .core .pending)) c q) (at-list-all (history.joined (vectorAt (s .core .pending) c) v) z))
 
 -- numbers of cards beyond the width are 0 in a list of 16
 pub beyond : (l : List ℕ) (k : ℕ) → length l ≡ 16 → 16 ≤ k → at l k ≡ 0
 beyond l k e h = List·getD-eq-default l 0 (omega (arith, e))
 
-pub fall-law : (s : Cabinet) (cards : CardSet) → length (s .stored) ≡ 16 → length (s .held) ≡ 16 → view (apply (edit.fall cards) s) ≡ edited limits16 (edit.fall cards) (view s)
+pub fall-law : (s : Cabinet) (cards : CardSet) → length (s .core .stored) ≡ 16 → length (s .core .held) ≡ 16 → view (apply (edit.fall cards) s) ≡ edited limits16 (edit.fall cards) (view s)
 fall-law s cards es eh =
-    ap (λ (f : Numbers). edit.withNumbers (view s) (record { base = at (s .base); stored = at (s .stored); held = f; reached = at (s .reached) }) (view s .memory))
-    (at-list-all (λ c. cond (cards c) (at (s .stored) c) (at (s .held) c)) none)
+    ap (λ (f : Numbers). edit.withNumbers (view s) (record { base = at (s .core .base); stored = at (s .core .stored); held = f; reached = at (s .core .reached) }) (view s .memory))
+    (at-list-all (λ c. cond (cards c) (at (s .core .stored) c) (at (s .core .held) c)) none)
   where
     either : (b : Bool) (x y : ℕ) → x ≡ 0 → y ≡ 0 → cond b x y ≡ 0
     either true x y p q = p
     either false x y p q = q
 
-    none : (k : ℕ) → 16 ≤ k → cond (cards k) (at (s .stored) k) (at (s .held) k) ≡ 0
-    none k h = either (cards k) (at (s .stored) k) (at (s .held) k) (beyond (s .stored) k es h) (beyond (s .held) k eh h)
+    none : (k : ℕ) → 16 ≤ k → cond (cards k) (at (s .core .stored) k) (at (s .core .held) k) ≡ 0
+    none k h = either (cards k) (at (s .core .stored) k) (at (s .core .held) k) (beyond (s .core .stored) k es h) (beyond (s .core .held) k eh h)
 
 -- ---- the law of a halt
-pub free-fits : Fits freePlace
-free-fits = record { reads = λ k h. refl; writes = λ k h. refl; yes = λ k h. refl; taken = λ k h. refl; vector = λ k h. refl }
-
-pub no-place : openOf (record { vector = []; number = 0; reads = 0; writes = 0; yes = 0; taken = 0 }) ≡ freePlace
-no-place = sym free-open ∙ open-back freePlace free-fits
-
 -- a list of eight places, one by one, and what stands beyond them
 pub places-by : {A B : Type 0} (d : A) (f : A → B) (g : ℕ → A) (h : ℕ → B) → ((p : ℕ) → p < 8 → f (g p) ≡ h p) → ((p : ℕ) → 8 ≤ p → f d ≡ h p)
     → (λ (p : ℕ). f (getD (tabulate (limits16 .places) g) p d)) ≡ h
@@ -132,40 +92,28 @@ places-by d f g h below beyond′ = λ i p. by-cases (decLt p 8) (here p) (there
     there : (p : ℕ) → ¬ (p < 8) → f (getD (tabulate (limits16 .places) g) p d) ≡ h p
     there p l = ap f (List·getD-eq-default (tabulate (limits16 .places) g) d (omega (arith, l, length-tabulate (limits16 .places) g, places8))) ∙ beyond′ p (omega (arith, l))
 
-pub halt-law : (s : Cabinet) → length (s .places) ≡ 8 → view (apply edit.halt s) ≡ edited limits16 edit.halt (view s)
+pub halt-law : (s : Cabinet) → length (s .core .places) ≡ 8 → view (apply edit.halt s) ≡ edited limits16 edit.halt (view s)
 halt-law s e =
-    λ i. record {
-      session = view s .session;
-      phase = Rattle.protocol.specs.Model.down;
-      count = view s .count;
-      present = view s .present;
-      numbers = view s .numbers;
-      memory = view s .memory;
-      place = places-by (record { vector = []; number = 0; reads = 0; writes = 0; yes = 0; taken = 0 }) openOf (λ p. placeFor freePlace) (λ p. freePlace) (λ p l. open-back freePlace free-fits) (λ p l. no-place) i;
-      ended = places-by 0 (λ (x : ℕ). x) (λ p. remembered limits16 (openAt (s .places) p)) (λ p. remembered limits16 (openAt (s .places) p)) (λ p l. refl) gone i;
-      line = view s .line;
-      rolled = view s .rolled;
-    }
+    λ i. edit.withHead
+    (edit.withPlaces (view s)
+    (places-by emptyPlace openOf (λ p. placeFor freePlace) (λ p. freePlace) (λ p l. open-back freePlace free-fits) (λ p l. no-place) i)
+    (places-by 0 (λ (x : ℕ). x) (λ p. remembered limits16 (openAt (s .core .places) p)) (λ p. remembered limits16 (openAt (s .core .places) p)) (λ p l. refl) gone i))
+    (view s .session)
+    Rattle.protocol.specs.Model.down
+    (view s .count)
   where
-    gone : (p : ℕ) → 8 ≤ p → 0 ≡ remembered limits16 (openAt (s .places) p)
+    gone : (p : ℕ) → 8 ≤ p → 0 ≡ remembered limits16 (openAt (s .core .places) p)
     gone p l =
-        sym (ap (λ (q : Place). remembered limits16 (openOf q)) (List·getD-eq-default (s .places) (record { vector = []; number = 0; reads = 0; writes = 0; yes = 0; taken = 0 }) (omega (arith, e))))
+        sym (ap (λ (q : Place). remembered limits16 (openOf q)) (List·getD-eq-default (s .core .places) emptyPlace (omega (arith, e))))
 
 -- ---- the laws of a trim, a fix, a roll and a new session
 pub fix-law : (s : Cabinet) (line : Numbers) → ((k : ℕ) → 16 ≤ k → line k ≡ 0) → view (apply (edit.fix line) s) ≡ edited limits16 (edit.fix line) (view s)
 fix-law s line z =
-    λ i. record {
-      session = view s .session;
-      phase = Rattle.protocol.specs.Model.rolling;
-      count = view s .count;
-      present = view s .present;
-      numbers = view s .numbers;
-      memory = view s .memory;
-      place = view s .place;
-      ended = places-by 0 (λ (x : ℕ). x) (λ p. 0) (λ p. 0) (λ p l. refl) (λ p l. refl) i;
-      line = at-list-all line z i;
-      rolled = member-set noCards (λ k h. refl) i;
-    }
+    λ i. edit.withHead
+    (edit.withLine (edit.withPlaces (view s) (view s .place) (places-by 0 (λ (x : ℕ). x) (λ p. 0) (λ p. 0) (λ p l. refl) (λ p l. refl) i)) (at-list-all line z i) (member-set noCards (λ k h. refl) i))
+    (view s .session)
+    Rattle.protocol.specs.Model.rolling
+    (view s .count)
 
 vectors-none : vectorAt (tabulate (limits16 .width) (λ c. vectorFor noEntries)) ≡ (λ c. noEntries)
 vectors-none = λ i c. by-cases (decLt c 16) (here c) (there c) i
@@ -182,15 +130,8 @@ vectors-none = λ i c. by-cases (decLt c 16) (here c) (there c) i
 
 pub renew-law : (s : Cabinet) → view (apply edit.renew s) ≡ edited limits16 edit.renew (view s)
 renew-law s =
-    λ i. record {
-      session = suc (view s .session);
-      phase = Rattle.protocol.specs.Model.up;
-      count = 0;
-      present = view s .present;
-      numbers = view s .numbers;
-      memory = record { last = vectors-none i; pending = vectors-none i; maker = view s .memory .maker; frame = view s .memory .frame };
-      place = view s .place;
-      ended = view s .ended;
-      line = view s .line;
-      rolled = member-set noCards (λ k h. refl) i;
-    }
+    λ i. edit.withHead
+    (edit.withLine (edit.withMemory (view s) (record { last = vectors-none i; pending = vectors-none i; maker = view s .memory .maker; frame = view s .memory .frame })) (view s .line) (member-set noCards (λ k h. refl) i))
+    (suc (view s .session))
+    Rattle.protocol.specs.Model.up
+    0

@@ -1,10 +1,6 @@
-pub mod Known
 pub mod Call
-pub mod Roll
-pub mod Share
-pub mod Next
 pub mod Laws
 pub mod Grow
 pub mod Bases
-pub mod Told
 pub mod Pages
+pub mod Told

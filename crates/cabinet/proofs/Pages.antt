@@ -1,7 +1,7 @@
 -- What the writer of a card's sheet hands back is what its plan says of the whole cabinet. Assumes nothing.
 use Prim.Native.Nat.{ℕ, suc, _+_, _-_, _≤_, _<_}
 use mathlib.Core.Path.{_≡_, refl, sym, _∙_, ap, ap₂, subst}
-use mathlib.Core.Bool.{Bool, true, false, not, _&&_, _||_, cond}
+use mathlib.Core.Bool.{Bool, true, false, not, _&&_}
 use mathlib.Core.List.{List, [], _∷_}
 use mathlib.Core.Logic.{by-cases}
 use native.Mathlib.Nat.{le-trans}
@@ -11,31 +11,30 @@ use lib.Dec.{eqb, leb, ltb}
 use lib.ListN.{length}
 use borrow.Author.Tests.{lt-ltb, ltb-true, le-leb, leb-true, eqb-false}
 use Rattle.laws.specs.Below.{allBelow, anyBelow, tabulate}
-use Rattle.laws.proofs.Logic.{test, clash, and-left, and-right, and-intro, not-true, not-intro, cond-true}
+use Rattle.laws.proofs.Logic.{clash, and-left, and-right, and-intro, not-true, cond-true}
 use Rattle.laws.proofs.Fill.{tabulate-same}
 use Rattle.refusal.specs.declared.Refusal.the-variants.{NoSuchCard, TooShort, BadCabinet}
-use Rattle.frame.specs.Format.{format}
+use Rattle.frame.specs.Format.{formats}
 use Rattle.frame.specs.declared.Frame.{Frame}
 use Rattle.sheet.specs.Pages.{Page, pageBytes}
 use Rattle.write.specs.declared.Written.{Written}
 use Rattle.history.specs.Vector.{noEntries}
 use Rattle.history.specs.Vector as history
 use Rattle.protocol.specs.Model.{Model, isRolling, isCard}
-use Rattle.protocol.specs.Plan.{written, Check, _⇒_, Plan, checked}
+use Rattle.protocol.specs.Plan.{written, _⇒_, Plan, checked}
 use Rattle.protocol.specs.Sound.{sound, sessionSound, cardsSound, cardSound, placeSound}
-use Rattle.protocol.specs.Sheets.{cardCount, sheetFrame, sheetOf, sheetChecks, sheetPlan}
-use Rattle.verdicts.specs.declared.Head.{Head}
-use Rattle.verdicts.specs.Shape.{limits16, phaseOf, at, presentOf, ringMaker, ringFrame, inHand, makerInHand, frameInHand, cut}
-use Rattle.verdicts.specs.Answers.{after28}
+use Rattle.protocol.specs.Codec.{sheetChecks, sheetPlan}
+use Rattle.codec.specs.Sheets.{cardCount, sheetFrame, sheetOf, codec}
+use Rattle.verdicts.specs.Shape.{limits16, at, ringMaker, ringFrame, inHand, cut}
 use Rattle.verdicts.proofs.Limits.{width16, inHand48}
 use Rattle.card_sheet.specs.Card.{Within, sheetModel, sheetPlanFor, SheetTold}
 use Rattle.cabinet.specs.declared.Cabinet.{Cabinet}
 use Rattle.cabinet.specs.View.{view}
 use Rattle.cabinet.specs.Apply.{applyAll}
 use Rattle.cabinet.specs.Writing.{SheetCarried}
-use Rattle.cabinet.proofs.Known.{sound-numbers, sound-reached, sound-stored}
+use Rattle.carried.proofs.Known.{sound-numbers, sound-reached, sound-stored}
 use Rattle.cabinet.proofs.Call.{no-edits}
-use Rattle.cabinet.proofs.Roll.{session-room}
+use Rattle.carried.proofs.Known.{session-room}
 
 -- ---- what a cabinet that passes 28 shows
 sound-heads : (m : Model) → sound limits16 m ≡ true → sessionSound limits16 m && cardsSound limits16 m ≡ true
@@ -86,7 +85,7 @@ module _ (m : Model) (e : sound limits16 m ≡ true) (c : ℕ) (h : c < 16) (p :
   sound-hand = let l : r ≤ b + limits16 .inHand = leb-true r (b + limits16 .inHand) (and-right (leb b s₀ && leb s₀ d && leb d r) (leb r (b + limits16 .inHand)) in-hand) in omega (arith, inHand48)
 
 -- what the writer of a card's sheet is told
-pub within : (s : Cabinet) (c : ℕ) → sound limits16 (view s) ≡ true → Within (s .head) (s .base) (s .stored) c
+pub within : (s : Cabinet) (c : ℕ) → sound limits16 (view s) ≡ true → Within (s .core .head) (s .core .base) (s .core .stored) c
 within s c e =
     record {
       session = sound-session (view s) e;
@@ -97,29 +96,29 @@ within s c e =
       top = λ l. le-trans (sound-top (view s) e c (card l) (there l)) (sound-reached (view s) e c (card l) (there l));
     }
   where
-    few : s .head .cards ≤ 16
-    few = sound-count (view s) (s .head .cards) refl e
+    few : s .core .head .cards ≤ 16
+    few = sound-count (view s) (s .core .head .cards) refl e
 
-    card : c < s .head .cards → c < 16
+    card : c < s .core .head .cards → c < 16
     card l = omega (arith, few)
 
-    there : c < s .head .cards → view s .present c ≡ true
-    there l = lt-ltb c (s .head .cards) l
+    there : c < s .core .head .cards → view s .present c ≡ true
+    there l = lt-ltb c (s .core .head .cards) l
 
 -- ---- a sheet shows no frame above stored
-module _ (s : Cabinet) (c : ℕ) (h : at (s .stored) c ≤ at (s .reached) c) where
+module _ (s : Cabinet) (c : ℕ) (h : at (s .core .stored) c ≤ at (s .core .reached) c) where
   abbrev m : Model
-  m = sheetModel (s .entries) (s .makers) (s .head) (s .rolled) (s .base) (s .stored)
+  m = sheetModel (s .entries) (s .makers) (s .core .head) (s .core .rolled) (s .core .base) (s .core .stored)
 
-  low-held : (k : ℕ) → k < at (s .stored) c - at (s .base) c → inHand (s .base) (s .stored) c (suc (at (s .base) c + k)) ≡ true
-  low-held k l = and-intro (lt-ltb (at (s .base) c) (suc (at (s .base) c + k)) (omega arith)) (le-leb (suc (at (s .base) c + k)) (at (s .stored) c) (omega arith))
+  low-held : (k : ℕ) → k < at (s .core .stored) c - at (s .core .base) c → inHand (s .core .base) (s .core .stored) c (suc (at (s .core .base) c + k)) ≡ true
+  low-held k l = and-intro (lt-ltb (at (s .core .base) c) (suc (at (s .core .base) c + k)) (omega arith)) (le-leb (suc (at (s .core .base) c + k)) (at (s .core .stored) c) (omega arith))
 
-  high-held : (k : ℕ) → k < at (s .stored) c - at (s .base) c → inHand (s .base) (s .reached) c (suc (at (s .base) c + k)) ≡ true
-  high-held k l = and-intro (lt-ltb (at (s .base) c) (suc (at (s .base) c + k)) (omega arith)) (le-leb (suc (at (s .base) c + k)) (at (s .reached) c) (omega arith))
+  high-held : (k : ℕ) → k < at (s .core .stored) c - at (s .core .base) c → inHand (s .core .base) (s .core .reached) c (suc (at (s .core .base) c + k)) ≡ true
+  high-held k l = and-intro (lt-ltb (at (s .core .base) c) (suc (at (s .core .base) c + k)) (omega arith)) (le-leb (suc (at (s .core .base) c + k)) (at (s .core .reached) c) (omega arith))
 
-  frame-same : (k : ℕ) → k < at (s .stored) c - at (s .base) c → sheetFrame limits16 m c (suc (at (s .base) c + k)) ≡ sheetFrame limits16 (view s) c (suc (at (s .base) c + k))
+  frame-same : (k : ℕ) → k < at (s .core .stored) c - at (s .core .base) c → sheetFrame limits16 m c (suc (at (s .core .base) c + k)) ≡ sheetFrame limits16 (view s) c (suc (at (s .core .base) c + k))
   frame-same k l =
-      let x : ℕ = suc (at (s .base) c + k) in
+      let x : ℕ = suc (at (s .core .base) c + k) in
       ap₂ (λ (a : ℕ) (v : history.Vector). record { change = a; entries = tabulate (cardCount limits16 (view s)) v })
       (cond-true (ringMaker (s .makers) c x) 0 (low-held k l) ∙ sym (cond-true (ringMaker (s .makers) c x) 0 (high-held k l)))
       (cond-true (cut (ringFrame (s .entries) c x)) noEntries (low-held k l) ∙ sym (cond-true (cut (ringFrame (s .entries) c x)) noEntries (high-held k l)))
@@ -127,22 +126,22 @@ module _ (s : Cabinet) (c : ℕ) (h : at (s .stored) c ≤ at (s .reached) c) wh
   sheet-same : sheetOf limits16 m c ≡ sheetOf limits16 (view s) c
   sheet-same =
       ap (λ (frs : List Frame). record { header = sheetOf limits16 (view s) c .header; frames = frs })
-      (tabulate-same (at (s .stored) c - at (s .base) c) (λ k. sheetFrame limits16 m c (suc (at (s .base) c + k))) (λ k. sheetFrame limits16 (view s) c (suc (at (s .base) c + k))) frame-same)
+      (tabulate-same (at (s .core .stored) c - at (s .core .base) c) (λ k. sheetFrame limits16 m c (suc (at (s .core .base) c + k))) (λ k. sheetFrame limits16 (view s) c (suc (at (s .core .base) c + k))) frame-same)
 
 -- ---- the plan of the parts is the plan of the whole
 module _ (s : Cabinet) (c places : ℕ) (whole : Bool) (ew : whole ≡ sound limits16 (view s)) where
   abbrev parts : Model
-  parts = sheetModel (s .entries) (s .makers) (s .head) (s .rolled) (s .base) (s .stored)
+  parts = sheetModel (s .entries) (s .makers) (s .core .head) (s .core .rolled) (s .core .base) (s .core .stored)
 
   abbrev planOf : Bool → Bool → Page → Plan
-  planOf a b p = checked (not a ⇒ BadCabinet ∷ not b ⇒ NoSuchCard ∷ ltb places (length (pageBytes format p)) ⇒ TooShort ∷ []) (written (pageBytes format p)) []
+  planOf a b p = checked (not a ⇒ BadCabinet ∷ not b ⇒ NoSuchCard ∷ ltb places (length (pageBytes formats p)) ⇒ TooShort ∷ []) (written (pageBytes formats p)) []
 
   same-refused : (a b : Bool) (p q : Page) → (a ≡ true → b ≡ true → p ≡ q) → planOf a b p ≡ planOf a b q
   same-refused false b p q f = refl
   same-refused true false p q f = refl
   same-refused true true p q f = ap (planOf true true) (f refl refl)
 
-  pub plan-same : sheetPlanFor whole parts c places ≡ sheetPlan format limits16 (view s) c places
+  pub plan-same : sheetPlanFor whole parts c places ≡ sheetPlan codec limits16 (view s) c places
   plan-same =
       same-refused whole (isCard limits16 (view s) c) (sheetOf limits16 parts c) (sheetOf limits16 (view s) c) pages
       ∙ ap (λ (a : Bool). planOf a (isCard limits16 (view s) c) (sheetOf limits16 (view s) c)) ew
@@ -153,10 +152,10 @@ module _ (s : Cabinet) (c places : ℕ) (whole : Bool) (ew : whole ≡ sound lim
           sheet-same s c (sound-top (view s) (sym ew ∙ t) c (omega (arith, width16)) (and-right (ltb c (limits16 .width)) (view s .present c) n))
 
 pub sheet-carried : (s : Cabinet) (c : ℕ) (before after : List ℕ) (whole : Bool) (reply : Written) → whole ≡ sound limits16 (view s)
-    → SheetTold (sheetPlanFor whole (sheetModel (s .entries) (s .makers) (s .head) (s .rolled) (s .base) (s .stored)) c (length before)) before after reply
+    → SheetTold (sheetPlanFor whole (sheetModel (s .entries) (s .makers) (s .core .head) (s .core .rolled) (s .core .base) (s .core .stored)) c (length before)) before after reply
     → SheetCarried s c before after reply s
 sheet-carried s c before after whole reply ew t =
     record {
       told = subst (λ (p : Plan). SheetTold p before after reply) (plan-same s c (length before) whole ew) t;
-      cabinet = sym (ap (λ (es : List _). applyAll es s) (no-edits (sheetChecks format limits16 (view s) c (length before)) (written (pageBytes format (sheetOf limits16 (view s) c)))));
+      cabinet = sym (ap (λ (es : List _). applyAll es s) (no-edits (sheetChecks codec limits16 (view s) c (length before)) (written (pageBytes formats (sheetOf limits16 (view s) c)))));
     }

@@ -6,22 +6,21 @@ use mathlib.Core.List.{List, [], _∷_}
 use lib.ListN.{length, replicate}
 use Rattle.laws.specs.Below.{tabulate}
 use Rattle.refusal.specs.declared.Refusal.{Refusal}
-use Rattle.protocol.specs.Model.{Model, noCards}
 use Rattle.protocol.specs.Edit.{Edit, fix}
-use Rattle.protocol.specs.Plan.{Answer, fixed, Check, _⇒_, Plan, checked, accepted, refused}
+use Rattle.protocol.specs.Plan.{Answer, fixed, Check, _⇒_, checked, accepted, refused}
 use Rattle.protocol.specs.Plan as plan
 use Rattle.protocol.specs.Calls.{lines, cardRows, fixChecks, fixPlan}
-use Rattle.verdicts.specs.declared.Head.{Head}
 use Rattle.verdicts.specs.declared.Phase.the-variants.{Rolling}
-use Rattle.verdicts.specs.Shape.{limits16, at, listOf, setOf, modelOf}
+use Rattle.verdicts.specs.declared.Head.{Head}
+use Rattle.verdicts.specs.Shape.{inPhase, limits16, listOf, withHead, withPlaces, withLine}
 use Rattle.recovery.specs.declared.FixReply.{FixReply}
 use Rattle.recovery.specs.declared.FixReply.the-variants.{Fixed, NotFixed}
-use Rattle.recovery.specs.Fix.{FixTold, fixReplyOf, linesAfter}
+use Rattle.recovery.specs.Fix.{FixWorked, fixReplyOf, linesAfter}
 use Rattle.cabinet.specs.declared.Cabinet.{Cabinet}
 use Rattle.cabinet.specs.View.{view}
-use Rattle.cabinet.specs.Apply.{applyAll}
+use Rattle.cabinet.specs.Apply.{applyAll, withCore}
 use Rattle.cabinet.specs.Fixing.{FixCarried}
-use Rattle.cabinet.proofs.Roll.{none-rolled}
+use Rattle.verdicts.proofs.Held.{zero-set}
 
 -- an accepted plan makes its edits, a refused one none
 edits-made : (cs : List Check) (a x : Answer) (es : List Edit) → accepted x ≡ checked cs a es .reply → checked cs a es .edits ≡ es
@@ -38,86 +37,42 @@ pub none-ended : replicate {A = ℕ} 8 0 ≡ tabulate (limits16 .places) (λ p. 
 unfolding limits16
 none-ended = refl
 
-module _ (s : Cabinet) (places : ℕ) (before : List ℕ) where
-  -- the cabinet as the core of fix sees it: which cards are rolled does not matter
-  abbrev pub seen : Model
-  seen = modelOf (s .entries) (s .makers) (s .last) (s .pending) (s .places) (s .base) (s .stored) (s .held) (s .reached) (s .line) (s .ended) 0 (s .head)
-
-  lines-same : (x : plan.Reply) → linesAfter x seen ≡ linesAfter x (view s)
-  lines-same (accepted a) = refl
-  lines-same (refused r) = refl
-
-  told-whole : (line after : List ℕ) (r : FixReply) → FixTold seen (fixPlan limits16 seen places (length before)) (s .head .cards) (s .stored) line before after r
-      → FixTold (view s) (fixPlan limits16 (view s) places (length before)) (s .head .cards) (s .stored) line before after r
-  told-whole line after r t =
-      record {
-        lost = t .lost;
-        once = t .once;
-        answer = t .answer;
-        inside = t .inside;
-        list = t .list;
-        arrays = t .arrays ∙ lines-same (fixPlan limits16 (view s) places (length before) (t .lost) .reply);
-      }
-
-  pub fix-refused : (line after : List ℕ) (r : FixReply) (q : Refusal) (next : Cabinet) → FixTold seen (fixPlan limits16 seen places (length before)) (s .head .cards) (s .stored) line before after r → r ≡ NotFixed q → next ≡ s
-      → FixCarried s places before after (s .stored) line r next
-  unfolding told-whole
-  fix-refused line after r q next t d n =
-      let w : _ = told-whole line after r t in
-      let e : refused q ≡ fixPlan limits16 (view s) places (length before) (t .lost) .reply = sym (ap (fixReplyOf (s .head .cards) (s .stored) line after) d) ∙ w .answer in
-      record {
-        told = w;
-        kept = refl;
-        cabinet = n ∙ sym (ap (λ (es : List Edit). applyAll es s) (edits-none (fixChecks limits16 (view s) places (length before) (t .lost)) (fixed (cardRows limits16 (view s)) (t .lost)) q (fix (lines limits16 (view s)) ∷ []) e));
-      }
-
-  pub fix-done : (line after : List ℕ) (r : FixReply) (k : ℕ) (next : Cabinet) → FixTold seen (fixPlan limits16 seen places (length before)) (s .head .cards) (s .stored) line before after r → r ≡ Fixed k
-      → (line ≡ listOf (lines limits16 (view s)) → next ≡ applyAll (fix (lines limits16 (view s)) ∷ []) s)
-      → FixCarried s places before after (s .stored) line r next
-  unfolding told-whole
-  fix-done line after r k next t d n =
-      let w : _ = told-whole line after r t in
-      let a : plan.Reply = fixReplyOf (s .head .cards) (s .stored) line after (Fixed k) in
-      let e : a ≡ fixPlan limits16 (view s) places (length before) (t .lost) .reply = sym (ap (fixReplyOf (s .head .cards) (s .stored) line after) d) ∙ w .answer in
-      let l : line ≡ listOf (lines limits16 (view s)) = w .arrays ∙ sym (ap (λ (x : plan.Reply). linesAfter x (view s)) e) in
-      record {
-        told = w;
-        kept = refl;
-        cabinet = n l ∙ sym (ap (λ (es : List Edit). applyAll es s) (edits-made (fixChecks limits16 (view s) places (length before) (t .lost)) (fixed (cardRows limits16 (view s)) (t .lost)) _ (fix (lines limits16 (view s)) ∷ []) e));
-      }
-
 -- the cabinet whose line is fixed
-pub fixed-next : (s : Cabinet) (line : List ℕ) → line ≡ listOf (lines limits16 (view s))
-    → _≡_ {A = Cabinet}
-    (record {
-      entries = s .entries;
-      makers = s .makers;
-      last = s .last;
-      pending = s .pending;
-      places = s .places;
-      base = s .base;
-      stored = s .stored;
-      held = s .held;
-      reached = s .reached;
-      line = line;
-      ended = replicate {A = ℕ} 8 0;
-      rolled = 0;
-      head = record { session = s .head .session; cards = s .head .cards; count = s .head .count; phase = Rolling };
-    })
-    (applyAll (fix (lines limits16 (view s)) ∷ []) s)
-fixed-next s line e =
-    λ i. record {
-      entries = s .entries;
-      makers = s .makers;
-      last = s .last;
-      pending = s .pending;
-      places = s .places;
-      base = s .base;
-      stored = s .stored;
-      held = s .held;
-      reached = s .reached;
-      line = e i;
-      ended = none-ended i;
-      rolled = sym none-rolled i;
-      head = record { session = s .head .session; cards = s .head .cards; count = s .head .count; phase = Rolling };
-    }
+abbrev pub withFixed : Cabinet → (line : List ℕ) → Head → Cabinet
+withFixed s line h = withCore s (withHead (withLine (withPlaces (s .core) (s .core .places) (replicate 8 0)) line 0) h)
+
+fixed-next : (s : Cabinet) (line : List ℕ) (h : Head) → line ≡ listOf (lines limits16 (view s)) → h ≡ inPhase (s .core .head) Rolling → withFixed s line h ≡ applyAll (fix (lines limits16 (view s)) ∷ []) s
+fixed-next s line h e eh =
+    λ i. withCore s (withHead (withLine (withPlaces (s .core) (s .core .places) (none-ended i)) (e i) (sym zero-set i)) (eh i))
+
+module _ (s : Cabinet) (places : ℕ) (before line after : List ℕ) (r : FixReply) (t : FixWorked (view s) (fixPlan limits16 (view s) places (length before)) (s .core .head .cards) (s .core .stored) line before after r) where
+  abbrev checks : List Check
+  checks = fixChecks limits16 (view s) places (length before) (t .told .lost)
+
+  abbrev answered : Answer
+  answered = fixed (cardRows limits16 (view s)) (t .told .lost)
+
+  -- what is answered, where the reply is known
+  replied : (x : FixReply) → r ≡ x → fixReplyOf (s .core .head .cards) (s .core .stored) line after x ≡ checked checks answered (fix (lines limits16 (view s)) ∷ []) .reply
+  replied x d = sym (ap (fixReplyOf (s .core .head .cards) (s .core .stored) line after) d) ∙ t .told .answer
+
+  pub fix-refused : (q : Refusal) → r ≡ NotFixed q → FixCarried s places before after r s
+  fix-refused q d =
+      record {
+        told = record {
+          lost = t .told .lost;
+          once = t .told .once;
+          answer = ap (fixReplyOf (s .core .head .cards) (s .core .stored) (s .core .line) after) d ∙ replied (NotFixed q) d;
+          inside = t .told .inside;
+          list = t .told .list;
+        };
+        cabinet = sym (ap (λ (es : List Edit). applyAll es s) (edits-none checks answered q (fix (lines limits16 (view s)) ∷ []) (replied (NotFixed q) d)));
+      }
+
+  pub fix-done : (k : ℕ) (h : Head) → r ≡ Fixed k → h ≡ inPhase (s .core .head) Rolling → FixCarried s places before after r (withFixed s line h)
+  fix-done k h d eh =
+      record {
+        told = t .told;
+        cabinet = fixed-next s line h (t .lines-are ∙ sym (ap (λ (x : plan.Reply). linesAfter x (view s)) (replied (Fixed k) d))) eh
+            ∙ sym (ap (λ (es : List Edit). applyAll es s) (edits-made checks answered _ (fix (lines limits16 (view s)) ∷ []) (replied (Fixed k) d)));
+      }

@@ -1,22 +1,20 @@
 // The cabinet of 16 cards: its struct, and calls 1 to 10 as methods that hand it back, in the modules below.
 ghost use mathlib.Core.Path.{_≡_};
 ghost use Rattle.verdicts.specs.Answers.{replyOf};
-ghost use Rattle.cabinet.specs.View.{partsOf};
 ghost use Rattle.cabinet.specs.Fresh.{Freshly, zeroCabinet};
-use parts::Parts;
 use refusal::Refusal;
+use verdicts::Core;
 use verdicts::Head;
 use verdicts::OpenReply;
 use verdicts::Phase;
-use verdicts::Place;
 use verdicts::Reply;
 use verdicts::SafeReply;
 use verdicts::Vector;
 
 pub mod recover;
 pub mod sheets;
-pub mod storing;
-pub mod voting;
+pub mod stores;
+pub mod votes;
 
 // A cabinet by value. Frames stand in a ring: state x of card c has the place c * 48 + x % 48.
 pub struct Cabinet {
@@ -24,21 +22,8 @@ pub struct Cabinet {
     pub entries: [u32; (Cabinet::WIDTH * Cabinet::IN_HAND * Cabinet::WIDTH) as usize],
     // the changes that made the states of the frames
     pub makers: [u32; (Cabinet::WIDTH * Cabinet::IN_HAND) as usize],
-    // session, number of cards, last change number and phase; right after the frames, which then are copied once
-    pub head: Head,
-    pub last: [Vector; Cabinet::WIDTH as usize],
-    pub pending: [Vector; Cabinet::WIDTH as usize],
-    pub places: [Place; Cabinet::PLACES as usize],
-    pub base: [u32; Cabinet::WIDTH as usize],
-    pub stored: [u32; Cabinet::WIDTH as usize],
-    pub held: [u32; Cabinet::WIDTH as usize],
-    pub reached: [u32; Cabinet::WIDTH as usize],
-    // while rolling: the line fixed
-    pub line: [u32; Cabinet::WIDTH as usize],
-    // by place, the decided changes that a loss ended with a written share untaken
-    pub ended: [u32; Cabinet::PLACES as usize],
-    // while rolling: the cards already rolled
-    pub rolled: u16,
+    // all but the frames; its head stands right after them, and they then are copied once
+    pub core: Core,
 }
 
 // What safe hands back.
@@ -67,21 +52,12 @@ pub fn zeros(head: Head) -> Cabinet
     let v = Vector { entries: none };
     let last = [v; 16];
     let pending = [v; 16];
-    let free = Place {
-        vector: none,
-        number: 0,
-        reads: 0,
-        writes: 0,
-        yes: 0,
-        taken: 0,
-    };
+    let free = verdicts::free_place();
     let places = [free; 8];
     let entries = [0u32; 12288];
     let makers = [0u32; 768];
-    let ended = [0u32; 8];
-    Cabinet {
-        entries: entries,
-        makers: makers,
+    // written out: a core that `verdicts::blank` hands over would be copied once more
+    let core = Core {
         head: head,
         last: last,
         pending: pending,
@@ -91,8 +67,13 @@ pub fn zeros(head: Head) -> Cabinet
         held: none,
         reached: none,
         line: none,
-        ended: ended,
+        ended: [0u32; 8],
         rolled: 0,
+    };
+    Cabinet {
+        entries: entries,
+        makers: makers,
+        core: core,
     }
 }
 
@@ -112,52 +93,19 @@ impl Cabinet {
     {
         let good = (1 <= cards) & (cards <= Cabinet::WIDTH);
         if good {
-            let c = zeros(Head {
-                session: 1,
-                cards: cards,
-                count: 0,
-                phase: Phase::Up,
-            });
+            let head = verdicts::head_of(1, cards, Phase::Up);
+            let c = zeros(head);
             Answer {
                 cabinet: c,
                 reply: Reply::Done,
             }
         } else {
-            let c = zeros(Head {
-                session: 0,
-                cards: 0,
-                count: 0,
-                phase: Phase::Up,
-            });
+            let head = verdicts::head_of(0, 0, Phase::Up);
+            let c = zeros(head);
             Answer {
                 cabinet: c,
                 reply: Reply::Refused(Refusal::CardCount),
             }
-        }
-    }
-    // What 28 looks at besides the frames.
-    fn parts(self) -> Parts
-        ensures { λ r. ⌜ r ≡ partsOf self ⌝ }
-    {
-        let last = self.last;
-        let pending = self.pending;
-        let places = self.places;
-        let base = self.base;
-        let stored = self.stored;
-        let held = self.held;
-        let reached = self.reached;
-        let line = self.line;
-        let head = self.head;
-        Parts {
-            last: last,
-            pending: pending,
-            places: places,
-            base: base,
-            stored: stored,
-            held: held,
-            reached: reached,
-            line: line,
-            head: head,
         }
     }
 }

@@ -14,13 +14,13 @@ impl Cabinet {
     pub fn sheet<'a>(self, card: u32, buffer: &'a mut [u8]) -> SheetAnswer
         ensures { λ r. ⌜ SheetCarried self card (now (buffer .entry)) (now (buffer .exit)) (r .reply) (r .cabinet) ⌝ }
     {
-        let p = self.parts();
-        let sound = parts::is_sound(&self.entries, &self.makers, p);
-        let base = self.base;
-        let head = self.head;
-        let rolled = self.rolled;
+        let core = self.core;
+        let sound = soundness::cabinet_sound(&self.entries, &self.makers, core);
+        let base = core.base;
+        let head = core.head;
+        let rolled = core.rolled;
         // "Frames run from base + 1 to stored."
-        let top = self.stored;
+        let top = core.stored;
         let r = card_sheet::write_card(
             buffer,
             &self.entries,

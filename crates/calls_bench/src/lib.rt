@@ -2,7 +2,6 @@
 // A cabinet has so many cards, and on each so many states in hand, each made by a change of its own.
 use cabinet::Cabinet;
 use recovery::FixReply;
-use verdicts::Head;
 use verdicts::OpenReply;
 use verdicts::Phase;
 use verdicts::Place;
@@ -62,19 +61,17 @@ fn forged(cards: u32, states: u32, stored: u32, first: Place, phase: Phase) -> C
     let m = makers(cards, states);
     c.makers = m;
     let reached = numbers(cards, states);
-    c.held = reached;
-    c.reached = reached;
+    let mut core = c.core;
+    core.held = reached;
+    core.reached = reached;
     let s = numbers(cards, stored);
-    c.stored = s;
-    c.places[0] = first;
-    let h = Head {
-        session: 1,
-        cards: cards,
-        count: 1000,
-        phase: phase,
-    };
-    c.head = h;
-    c.rolled = bits::without(bits::all_below(cards), 0);
+    core.stored = s;
+    core.places[0] = first;
+    let h = verdicts::head_of(1, cards, phase);
+    let h = verdicts::counted(h, 1000);
+    core.head = h;
+    core.rolled = bits::without(bits::all_below(cards), 0);
+    c.core = core;
     c
 }
 
@@ -83,22 +80,15 @@ fn card(at: u32) -> u32 {
     at / 12288
 }
 
-// A free place.
-fn free() -> Place {
-    change(0, 0, false, 0)
-}
-
 // A change that reads every card, or writes every card, with those votes.
 fn change(number: u32, cards: u32, reads: bool, yes: u16) -> Place {
     let all = bits::all_below(cards);
-    Place {
-        vector: [0u32; 16],
-        number: number,
-        reads: if reads { all } else { 0 },
-        writes: if reads { 0 } else { all },
-        yes: yes,
-        taken: 0,
-    }
+    let mut o = verdicts::free_place();
+    o.number = number;
+    o.reads = if reads { all } else { 0 };
+    o.writes = if reads { 0 } else { all };
+    o.yes = yes;
+    o
 }
 
 fn phase_number(phase: Phase) -> u32 {
@@ -117,15 +107,21 @@ fn wide(set: u16) -> u32 {
 fn looked(c: Cabinet, at: u32) -> u32 {
     let i = (at % 16) as usize;
     let k = (at % 8) as usize;
-    let l = c.last[i];
-    let p = c.pending[i];
-    let o = c.places[k];
-    let h = c.head;
+    let core = c.core;
+    let l = core.last[i];
+    let p = core.pending[i];
+    let o = core.places[k];
+    let h = core.head;
     let phase = h.phase;
     let frames = c.entries[(at % 12288) as usize] ^ c.makers[(at % 768) as usize];
     let vectors = l.entries[i] ^ p.entries[i] ^ o.vector[i];
-    let sets = wide(o.reads) ^ wide(o.writes) ^ wide(o.yes) ^ wide(o.taken) ^ wide(c.rolled);
-    let numbers = c.base[i] ^ c.stored[i] ^ c.held[i] ^ c.reached[i] ^ c.line[i] ^ c.ended[k];
+    let sets = wide(o.reads) ^ wide(o.writes) ^ wide(o.yes) ^ wide(o.taken) ^ wide(core.rolled);
+    let numbers = core.base[i]
+        ^ core.stored[i]
+        ^ core.held[i]
+        ^ core.reached[i]
+        ^ core.line[i]
+        ^ core.ended[k];
     let head = h.session ^ h.cards ^ h.count ^ phase_number(phase);
     frames ^ vectors ^ sets ^ numbers ^ o.number ^ head
 }
@@ -145,7 +141,7 @@ fn done(r: Reply) -> u32 {
 // Nothing but the making of the cabinet.
 #[no_mangle]
 pub extern "C" fn yerwaqis_nothing(cards: u32, states: u32, reads: bool, at: u32) -> u32 {
-    let c = forged(cards, states, states, free(), Phase::Up);
+    let c = forged(cards, states, states, verdicts::free_place(), Phase::Up);
     let e = looked(c, at);
     seen(e, 0)
 }
@@ -161,7 +157,7 @@ pub extern "C" fn yerwaqis_fresh(cards: u32, at: u32) -> u32 {
 
 #[no_mangle]
 pub extern "C" fn yerwaqis_open(cards: u32, states: u32, reads: bool, at: u32) -> u32 {
-    let c = forged(cards, states, states, free(), Phase::Up);
+    let c = forged(cards, states, states, verdicts::free_place(), Phase::Up);
     let o = change(0, cards, reads, 0);
     let a = c.open(o.reads, o.writes);
     let r = a.reply;
@@ -227,7 +223,7 @@ pub extern "C" fn yerwaqis_withdraw(cards: u32, states: u32, reads: bool, at: u3
 
 #[no_mangle]
 pub extern "C" fn yerwaqis_store(cards: u32, states: u32, reads: bool, at: u32) -> u32 {
-    let c = forged(cards, states, 0, free(), Phase::Up);
+    let c = forged(cards, states, 0, verdicts::free_place(), Phase::Up);
     let a = c.store(card(at), 0);
     let r = a.reply;
     let c = a.cabinet;
@@ -238,7 +234,7 @@ pub extern "C" fn yerwaqis_store(cards: u32, states: u32, reads: bool, at: u32) 
 // Every state is stored, so that each line is climbed to the end.
 #[no_mangle]
 pub extern "C" fn yerwaqis_trim(cards: u32, states: u32, reads: bool, at: u32) -> u32 {
-    let c = forged(cards, states, states, free(), Phase::Up);
+    let c = forged(cards, states, states, verdicts::free_place(), Phase::Up);
     let a = c.trim();
     let r = a.reply;
     let c = a.cabinet;
@@ -249,7 +245,7 @@ pub extern "C" fn yerwaqis_trim(cards: u32, states: u32, reads: bool, at: u32) -
 // Of that change; there is none in an empty cabinet.
 #[no_mangle]
 pub extern "C" fn yerwaqis_safe(cards: u32, states: u32, change: u32, at: u32) -> u32 {
-    let c = forged(cards, states, states, free(), Phase::Up);
+    let c = forged(cards, states, states, verdicts::free_place(), Phase::Up);
     let a = c.safe(change);
     let r = a.reply;
     let c = a.cabinet;
@@ -289,7 +285,7 @@ pub extern "C" fn yerwaqis_fix(
     at: u32,
     list: &mut [u32],
 ) -> u32 {
-    let c = forged(cards, states, stored, free(), Phase::Down);
+    let c = forged(cards, states, stored, verdicts::free_place(), Phase::Down);
     let a = c.fix(16, list);
     let r = a.reply;
     let c = a.cabinet;
@@ -304,7 +300,13 @@ pub extern "C" fn yerwaqis_fix(
 // The last card rolled.
 #[no_mangle]
 pub extern "C" fn yerwaqis_roll(cards: u32, states: u32, reads: bool, at: u32) -> u32 {
-    let c = forged(cards, states, states, free(), Phase::Rolling);
+    let c = forged(
+        cards,
+        states,
+        states,
+        verdicts::free_place(),
+        Phase::Rolling,
+    );
     let a = c.roll(card(at));
     let r = a.reply;
     let c = a.cabinet;
@@ -315,7 +317,7 @@ pub extern "C" fn yerwaqis_roll(cards: u32, states: u32, reads: bool, at: u32) -
 // The sheet of card 0.
 #[no_mangle]
 pub extern "C" fn yerwaqis_sheet(cards: u32, states: u32, at: u32, buffer: &mut [u8]) -> u32 {
-    let c = forged(cards, states, states, free(), Phase::Up);
+    let c = forged(cards, states, states, verdicts::free_place(), Phase::Up);
     let a = c.sheet(card(at), buffer);
     let r = a.reply;
     let c = a.cabinet;

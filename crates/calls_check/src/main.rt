@@ -1,7 +1,6 @@
 // Runs calls 1 to 5, 7 and 8 on fresh and on forged cabinets, and prints a number for each answer:
 // 0 done, 10000 + the number of a change opened, 1 safe, 2 unsafe, otherwise the refusal's number, and after 21 the card named.
 use cabinet::Cabinet;
-use verdicts::Head;
 use verdicts::OpenReply;
 use verdicts::Phase;
 use verdicts::Reply;
@@ -185,7 +184,8 @@ fn in_hand() {
         let n = e.cabinet;
         c = n;
     }
-    say(c.reached[0]);
+    let core = c.core;
+    say(core.reached[0]);
     let c = open(c, 0, 1);
     let c = open(c, 1, 0);
     let c = store(c, 0, 48);
@@ -198,10 +198,12 @@ fn in_hand() {
 fn at_top() {
     let a = Cabinet::fresh(2);
     let mut c = a.cabinet;
-    c.base[0] = 60000;
-    c.stored[0] = 60000;
-    c.held[0] = 60000;
-    c.reached[0] = 60000;
+    let mut core = c.core;
+    core.base[0] = 60000;
+    core.stored[0] = 60000;
+    core.held[0] = 60000;
+    core.reached[0] = 60000;
+    c.core = core;
     let c = open(c, 0, 1);
     open(c, 1, 2);
 }
@@ -271,27 +273,23 @@ fn one_frame(session: u32, phase: Phase) -> Cabinet {
     let mut c = a.cabinet;
     c.makers[1] = 1;
     c.entries[16] = 1;
-    c.held[0] = 1;
-    c.reached[0] = 1;
-    let h = Head {
-        session: session,
-        cards: 2,
-        count: 1,
-        phase: phase,
-    };
-    c.head = h;
+    let mut core = c.core;
+    core.held[0] = 1;
+    core.reached[0] = 1;
+    let h = verdicts::head_of(session, 2, phase);
+    let h = verdicts::counted(h, 1);
+    core.head = h;
+    c.core = core;
     c
 }
 
 fn cards_of(n: u32) -> Cabinet {
     let mut c = one_frame(1, Phase::Up);
-    let h = Head {
-        session: 1,
-        cards: n,
-        count: 1,
-        phase: Phase::Up,
-    };
-    c.head = h;
+    let h = verdicts::head_of(1, n, Phase::Up);
+    let h = verdicts::counted(h, 1);
+    let mut core = c.core;
+    core.head = h;
+    c.core = core;
     c
 }
 
@@ -306,28 +304,40 @@ fn forged_heads() {
 
 fn forged_numbers() {
     let mut c = one_frame(1, Phase::Up);
-    c.stored[0] = 2;
+    let mut core = c.core;
+    core.stored[0] = 2;
+    c.core = core;
     lose(c, 0);
     let mut c = one_frame(1, Phase::Up);
-    c.reached[0] = 60001;
+    let mut core = c.core;
+    core.reached[0] = 60001;
+    c.core = core;
     lose(c, 0);
     let mut c = one_frame(1, Phase::Rolling);
-    c.line[0] = 1;
+    let mut core = c.core;
+    core.line[0] = 1;
+    c.core = core;
     lose(c, 0);
     let mut c = one_frame(1, Phase::Up);
-    let mut v = c.last[0];
+    let mut core = c.core;
+    let mut v = core.last[0];
     v.entries[0] = 60001;
-    c.last[0] = v;
+    core.last[0] = v;
+    c.core = core;
     lose(c, 0);
     let mut c = one_frame(1, Phase::Up);
-    let mut v = c.pending[1];
+    let mut core = c.core;
+    let mut v = core.pending[1];
     v.entries[2] = 1;
-    c.pending[1] = v;
+    core.pending[1] = v;
+    c.core = core;
     lose(c, 0);
     let mut c = one_frame(1, Phase::Up);
-    let mut v = c.last[5];
+    let mut core = c.core;
+    let mut v = core.last[5];
     v.entries[0] = 1;
-    c.last[5] = v;
+    core.last[5] = v;
+    c.core = core;
     lose(c, 0);
 }
 
@@ -339,20 +349,26 @@ fn forged_frames() {
     c.entries[16] = 2;
     lose(c, 0);
     let mut c = one_frame(1, Phase::Up);
-    c.held[0] = 2;
-    c.reached[0] = 2;
+    let mut core = c.core;
+    core.held[0] = 2;
+    core.reached[0] = 2;
+    c.core = core;
     c.makers[2] = 1;
     c.entries[32] = 2;
     lose(c, 0);
     let mut c = one_frame(1, Phase::Up);
-    c.held[0] = 2;
-    c.reached[0] = 2;
+    let mut core = c.core;
+    core.held[0] = 2;
+    core.reached[0] = 2;
+    c.core = core;
     c.makers[2] = 2;
     c.entries[32] = 2;
     lose(c, 0);
     let mut c = one_frame(1, Phase::Up);
-    c.held[0] = 2;
-    c.reached[0] = 2;
+    let mut core = c.core;
+    core.held[0] = 2;
+    core.reached[0] = 2;
+    c.core = core;
     c.makers[2] = 2;
     c.entries[32] = 2;
     c.entries[17] = 5;
@@ -361,27 +377,33 @@ fn forged_frames() {
 
 fn forged_places() {
     let mut c = one_frame(1, Phase::Up);
-    let mut o = c.places[3];
+    let mut core = c.core;
+    let mut o = core.places[3];
     o.number = 1;
     o.writes = 4;
-    c.places[3] = o;
+    core.places[3] = o;
+    c.core = core;
     lose(c, 0);
     let mut c = one_frame(1, Phase::Up);
-    let mut o = c.places[3];
+    let mut core = c.core;
+    let mut o = core.places[3];
     o.number = 1;
     o.reads = 2;
     o.vector[0] = 60001;
-    c.places[3] = o;
+    core.places[3] = o;
+    c.core = core;
     lose(c, 0);
     let mut c = one_frame(1, Phase::Up);
-    c.base[1] = 60000;
-    c.stored[1] = 60000;
-    c.held[1] = 60000;
-    c.reached[1] = 60000;
-    let mut o = c.places[3];
+    let mut core = c.core;
+    core.base[1] = 60000;
+    core.stored[1] = 60000;
+    core.held[1] = 60000;
+    core.reached[1] = 60000;
+    let mut o = core.places[3];
     o.number = 1;
     o.writes = 2;
-    c.places[3] = o;
+    core.places[3] = o;
+    c.core = core;
     lose(c, 0);
 }
 

@@ -1,35 +1,34 @@
 -- What the writer of a card's sheet answers is what its plan says. Assumes nothing.
 use Prim.Native.Nat.{ℕ, _≤_, _<_, zero-le}
 use mathlib.Core.Path.{_≡_, refl, sym, _∙_, ap, ap₂, subst}
-use mathlib.Core.Bool.{Bool, true, false, not, cond}
+use mathlib.Core.Bool.{Bool, true, false, not}
 use mathlib.Core.List.{List, [], _∷_}
-use native.Mathlib.Nat.{le-refl}
 use native.Mathlib.Omega.{arith}
 use lib.Dec.{leb, ltb}
-use lib.ListN.{length, take, drop}
+use lib.ListN.{length}
 use lib.Seq.{sets, length-sets}
 use borrow.Author.Tests.{le-ltb, lt-ltb, leb-true, leb-false, ltb-true}
 use Rattle.laws.proofs.Logic.{test, not-intro, and-right}
 use Rattle.laws.proofs.Seq.{sets-part}
 use Rattle.refusal.specs.declared.Refusal.{Refusal}
 use Rattle.refusal.specs.declared.Refusal.the-variants.{NoSuchCard, TooShort, BadCabinet}
-use Rattle.frame.specs.declared.Verdict.the-variants.{Accepted}
+use Rattle.refusal.specs.declared.Verdict.the-variants.{Accepted}
 use Rattle.write.specs.declared.Written.{Written}
 use Rattle.write.specs.declared.Written.the-variants.{Length, Refused}
-use Rattle.sheet.specs.Flat.{headerOf, pageOf}
 use Rattle.write.specs.Write.{Wrote, wroteBytes}
 use Rattle.write.proofs.Rows.{wrote-short, wrote-whole}
 use Rattle.protocol.specs.Plan.{Answer, written, Check, _⇒_, Plan, checked, accepted, refused}
 use Rattle.protocol.specs.Model.{Model, isCard}
-use Rattle.protocol.specs.Sheets.{sheetOf}
+use Rattle.codec.specs.Sheets.{sheetOf}
 use Rattle.verdicts.specs.declared.Head.{Head}
 use Rattle.verdicts.specs.Shape.{limits16, at, headModel}
-use Rattle.frame.specs.Format.{format}
-use Rattle.frame.specs.Lines.{headerAllowed}
-use Rattle.sheet.specs.Pages.{pageBytes}
-use Rattle.sheet.specs.declared.Sheet.{Sheet}
-use Rattle.card_sheet.specs.Card.{cardSheet, Within, sheetModel, sheetPlanFor, sheetReplyOf, lengthTold, SheetTold}
-use Rattle.card_sheet.proofs.Bytes.{sheet-bytes, header-passes}
+use Rattle.frame.specs.declared.Header.{Header}
+use Rattle.frame.specs.Format.{formats}
+use Rattle.frame.specs.Lines.{formatFor, headerAllowed}
+use Rattle.sheet.specs.Pages.{Page, pageBytes}
+use Rattle.sheet.specs.Ring.{ringPage}
+use Rattle.card_sheet.specs.Card.{cardHeader, Within, sheetModel, sheetPlanFor, SheetTold}
+use Rattle.card_sheet.proofs.Sheets.{page-is, header-passes}
 
 -- a plan that refuses, and a writer that answers that refusal and changes no byte
 told-refused : (p : Plan) (before : List ℕ) (r : Refusal) → p ≡ record { reply = refused r; edits = [] } → SheetTold p before before (Refused r)
@@ -84,7 +83,7 @@ module _ (whole : Bool) (entries makers : List ℕ) (h : Head) (rolled : ℕ) (b
   m = sheetModel entries makers h rolled base stored
 
   abbrev bytes : List ℕ
-  bytes = pageBytes format (sheetOf limits16 m c)
+  bytes = pageBytes formats (sheetOf limits16 m c)
 
   abbrev last : List Check
   last = ltb (length before) (length bytes) ⇒ TooShort ∷ []
@@ -100,26 +99,24 @@ module _ (whole : Bool) (entries makers : List ℕ) (h : Head) (rolled : ℕ) (b
       (first-passes (not whole) BadCabinet (not (isCard limits16 m c) ⇒ NoSuchCard ∷ last) (written bytes) (ap not e)
       ∙ first-fails (not (isCard limits16 m c)) NoSuchCard last (written bytes) (not-intro n))
 
-  -- the card's sheet by value, with the numbers found
-  abbrev pub found : (low high : ℕ) → Sheet
-  found low high = cardSheet entries makers h rolled low high c
-
-  module _ (s : Sheet) (low high : ℕ) (is : s ≡ found low high) (is-low : low ≡ at base c) (is-high : high ≡ at stored c) (w : Within h base stored c) (n : isCard limits16 m c ≡ true) where
-    is-sheet : s ≡ found (at base c) (at stored c)
-    is-sheet = is ∙ ap₂ found is-low is-high
+  -- the header of the card's sheet, with the numbers found
+  module _ (hd : Header) (low high : ℕ) (is : hd ≡ cardHeader h rolled low high c) (is-low : low ≡ at base c) (is-high : high ≡ at stored c) (w : Within h base stored c) (n : isCard limits16 m c ≡ true) where
+    is-header : hd ≡ cardHeader h rolled (at base c) (at stored c) c
+    is-header = is ∙ ap₂ (λ (x y : ℕ). cardHeader h rolled x y c) is-low is-high
 
     there : c < h .cards
     there = card-there h c n
 
-    pub passes-7 : headerAllowed format (s .card) 0 (headerOf s) ≡ true
-    passes-7 = ap (λ (x : Sheet). headerAllowed format (x .card) 0 (headerOf x)) is-sheet ∙ header-passes entries makers h rolled base stored c w there
+    pub passes-7 : headerAllowed (formatFor formats hd) (hd .card) 0 hd ≡ true
+    passes-7 = ap (λ (x : Header). headerAllowed (formatFor formats x) (x .card) 0 x) is-header ∙ header-passes entries makers h rolled base stored c w there
 
-    pub told-whole : whole ≡ true → (after : List ℕ) (reply : Written) → reply ≡ wroteBytes Accepted (pageBytes format (pageOf s)) before .answer → after ≡ wroteBytes Accepted (pageBytes format (pageOf s)) before .buffer
+    pub told-whole : whole ≡ true → (after : List ℕ) (reply : Written)
+        → (reply ≡ wroteBytes Accepted (pageBytes formats (ringPage makers entries hd)) before .answer) × (after ≡ wroteBytes Accepted (pageBytes formats (ringPage makers entries hd)) before .buffer)
         → SheetTold (sheetPlanFor whole m c (length before)) before after reply
-    told-whole e after reply r a =
-        let q : pageBytes format (pageOf s) ≡ bytes = ap (λ (x : Sheet). pageBytes format (pageOf x)) is-sheet ∙ sheet-bytes entries makers h rolled base stored c w there in
+    told-whole e after reply t =
+        let q : ringPage makers entries hd ≡ sheetOf limits16 m c = ap (ringPage makers entries) is-header ∙ page-is entries makers h rolled base stored c w there in
         told-last bytes before after reply (sheetPlanFor whole m c (length before))
         (first-passes (not whole) BadCabinet (not (isCard limits16 m c) ⇒ NoSuchCard ∷ last) (written bytes) (ap not e)
         ∙ first-passes (not (isCard limits16 m c)) NoSuchCard last (written bytes) (ap not n))
-        (r ∙ ap (λ (l : List ℕ). wroteBytes Accepted l before .answer) q)
-        (a ∙ ap (λ (l : List ℕ). wroteBytes Accepted l before .buffer) q)
+        (t .0 ∙ ap (λ (p : Page). wroteBytes Accepted (pageBytes formats p) before .answer) q)
+        (t .1 ∙ ap (λ (p : Page). wroteBytes Accepted (pageBytes formats p) before .buffer) q)

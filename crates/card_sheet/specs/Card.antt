@@ -1,22 +1,22 @@
 -- A card's sheet out of a cabinet held in lists, and what its writer answers and leaves in the buffer.
-use Prim.Native.Nat.{ℕ, suc, _+_, _-_, _/_, _%_, _≤_, _<_}
+use Prim.Native.Nat.{ℕ, suc, _+_, _-_, _≤_, _<_}
 use mathlib.Core.Path.{_≡_}
 use mathlib.Core.Bool.{Bool, true, not, _&&_, cond}
 use mathlib.Core.List.{List, []}
 use lib.ListN.{length, take}
 use lib.Seq.{sets}
-use Rattle.laws.specs.Below.{tabulate}
 use Rattle.bits.specs.Member.{member}
-use Rattle.frame.specs.Format.{format}
+use Rattle.frame.specs.declared.Header.{Header}
+use Rattle.frame.specs.Format.{formats}
 use Rattle.sheet.specs.Pages.{pageBytes}
 use Rattle.protocol.specs.Model.{Model, isRolling}
-use Rattle.protocol.specs.Plan.{Answer, done, opened, safe, unsafe, fixed, written, Plan, checked, accepted, refused}
+use Rattle.protocol.specs.Plan.{done, opened, safe, unsafe, fixed, written, Plan, checked, accepted, refused}
 use Rattle.protocol.specs.Plan as plan
-use Rattle.protocol.specs.Sheets.{sheetOf, sheetChecks}
+use Rattle.protocol.specs.Codec.{sheetChecks}
+use Rattle.codec.specs.Sheets.{sheetOf, codec}
 use Rattle.verdicts.specs.declared.Head.{Head}
-use Rattle.verdicts.specs.Shape.{limits16, phaseOf, at, ringMaker, ringFrame, modelOf}
+use Rattle.verdicts.specs.Shape.{limits16, phaseOf, at, bare, withNumbers, withLine, modelOf}
 use Rattle.verdicts.specs.Answers.{after28}
-use Rattle.sheet.specs.declared.Sheet.{Sheet}
 use Rattle.write.specs.declared.Written.{Written}
 use Rattle.write.specs.declared.Written.the-variants.{Length, Refused}
 
@@ -24,18 +24,9 @@ use Rattle.write.specs.declared.Written.the-variants.{Length, Refused}
 abbrev pub sessionFor : Head → (rolled card : ℕ) → ℕ
 sessionFor h rolled c = cond (isRolling (phaseOf (h .phase)) && member rolled c) (suc (h .session)) (h .session)
 
--- card c's sheet by value: "Frames run from base + 1 to stored." The ring gives 48 frames from base + 1 on, of which the count says how many are the sheet's.
-abbrev pub cardSheet : (entries makers : List ℕ) → Head → (rolled base stored card : ℕ) → Sheet
-cardSheet entries makers h rolled base stored c =
-    record {
-      entries = tabulate 768 (λ i. ringFrame entries c (suc (base + i / 16)) (i % 16));
-      changes = tabulate 48 (λ k. ringMaker makers c (suc (base + k)));
-      session = sessionFor h rolled c;
-      card = c;
-      cards = h .cards;
-      base = base;
-      count = stored - base;
-    }
+-- the header of card c's sheet: "Frames run from base + 1 to stored."
+abbrev pub cardHeader : Head → (rolled base stored card : ℕ) → Header
+cardHeader h rolled base stored c = record { session = sessionFor h rolled c; card = c; cards = h .cards; base = base; count = stored - base }
 
 -- what a cabinet that passes 28 shows of its head, and of the numbers of card c where it is there
 pub record Within (h : Head) (base stored : List ℕ) (c : ℕ) : Type 0 where
@@ -48,11 +39,11 @@ pub record Within (h : Head) (base stored : List ℕ) (c : ℕ) : Type 0 where
 
 -- the parts of a cabinet that a sheet is made of: no frame above stored is looked at
 abbrev pub sheetModel : (entries makers : List ℕ) → Head → (rolled : ℕ) (base stored : List ℕ) → Model
-sheetModel entries makers h rolled base stored = modelOf entries makers [] [] [] base stored [] stored [] [] rolled h
+sheetModel entries makers h rolled base stored = modelOf entries makers (withLine (withNumbers (bare h) base stored [] stored) [] rolled)
 
 -- the plan of sheet writing for a cabinet that was found to pass 28 or not
 abbrev pub sheetPlanFor : Bool → Model → (card places : ℕ) → Plan
-sheetPlanFor whole m c places = checked (after28 (not whole) (sheetChecks format limits16 m c places)) (written (pageBytes format (sheetOf limits16 m c))) []
+sheetPlanFor whole m c places = checked (after28 (not whole) (sheetChecks codec limits16 m c places)) (written (pageBytes formats (sheetOf limits16 m c))) []
 
 -- the answer in document 01's values: so many of the buffer's first bytes are the sheet
 abbrev pub sheetReplyOf : List ℕ → Written → plan.Reply

@@ -1,8 +1,7 @@
 -- The cards that an opening finds barred, as a set and by their lowest. Assumes nothing.
-use Prim.Native.Nat.{ℕ, _+_, _≤_, _<_}
-use mathlib.Core.Path.{_≡_, refl, sym, _∙_, ap, ap₂}
-use mathlib.Core.Bool.{Bool, true, false, not, _&&_, _||_, cond}
-use mathlib.Core.List.{List}
+use Prim.Native.Nat.{ℕ, _+_, _<_}
+use mathlib.Core.Path.{_≡_, sym, _∙_, ap, ap₂}
+use mathlib.Core.Bool.{Bool, true, false, not, _&&_, _||_}
 use mathlib.Core.Logic.{by-cases}
 use native.Mathlib.Decide.{decLt}
 use native.Mathlib.Numerals.{add-one}
@@ -14,20 +13,12 @@ use Rattle.laws.proofs.Logic.{clash}
 use Rattle.laws.proofs.Below.{any-elim, Found}
 use Rattle.bits.specs.Member.{member}
 use Rattle.bits.specs.Sets.{either, both, except, firstBelow}
-use Rattle.bits.proofs.Members.{member-none}
 use Rattle.bits.proofs.Sets.{first-at, first-before}
 use Rattle.history.specs.Change.{CardSet}
-use Rattle.protocol.specs.Model.{OpenChange, isOpen, noCards}
 use Rattle.protocol.specs.Calls.{bars}
 use Rattle.verdicts.specs.declared.Place.{Place}
-use Rattle.verdicts.specs.Shape.{limits16, openOf, openAt, setOf}
-
-pub no-members : member 0 ≡ noCards
-no-members = λ i d. member-none d i
-
-pub zero-set : 0 ≡ setOf noCards
-unfolding limits16
-zero-set = refl
+use Rattle.verdicts.proofs.Held.{no-members}
+use Rattle.verdicts.specs.Shape.{openOf}
 
 -- a set worked out by the operations on sets is what an open change bars
 pub bars-set : (o : Place) (reads writes touched left read asked barred : ℕ)

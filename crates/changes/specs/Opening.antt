@@ -11,12 +11,12 @@ use Rattle.verdicts.specs.declared.Reply.{Reply}
 use Rattle.verdicts.specs.declared.Vector.{Vector}
 use Rattle.verdicts.specs.declared.Phase.the-variants.{Up}
 use Rattle.verdicts.specs.Answers.{firstFailing, after28}
-use Rattle.verdicts.specs.Shape.{limits16, modelOf}
+use Rattle.verdicts.specs.Shape.{headOf, limits16, bare, withNumbers, withVectors, modelOf}
 
 -- the cards as they stand at a decision
 abbrev pub standing : (reached : List ℕ) (last pending : List Vector) → Model
 standing reached last pending =
-    modelOf [] [] last pending [] [] [] [] reached [] [] 0 (record { session = 0; cards = 0; count = 0; phase = Up })
+    modelOf [] [] (withVectors (withNumbers (bare (headOf 0 0 Up)) [] [] [] reached) last pending)
 
 -- the first check that fails, with some touched card named that is barred, where one is
 pub record OpenVerdict (sound : Bool) (m : Model) (reads writes : ℕ) (r : Reply) : Type 0 where

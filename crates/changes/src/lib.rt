@@ -65,26 +65,14 @@ fn with_yes(
 {
     let yes = bits::with(o.yes, c);
     let n = places::awaited(o.reads, o.writes, yes);
+    let mut next = o;
+    next.yes = yes;
     if n == 0 {
         let v = vectors::decision(o, reached, last, pending);
-        Place {
-            vector: v,
-            number: o.number,
-            reads: o.reads,
-            writes: o.writes,
-            yes: yes,
-            taken: o.taken,
-        }
+        next.vector = v;
+        next
     } else {
-        let v = o.vector;
-        Place {
-            vector: v,
-            number: o.number,
-            reads: o.reads,
-            writes: o.writes,
-            yes: yes,
-            taken: o.taken,
-        }
+        next
     }
 }
 
@@ -103,7 +91,7 @@ pub fn after_vote(
     if agrees {
         with_yes(o, c, reached, last, pending)
     } else {
-        places::free_place()
+        verdicts::free_place()
     }
 }
 
@@ -207,12 +195,9 @@ pub fn open_verdict(
 pub fn opened(k: u32, reads: u16, writes: u16) -> Place
     ensures { λ r. ⌜ r ≡ placeFor (openedChange k (member reads) (member writes)) ⌝ }
 {
-    Place {
-        vector: [0u32; 16],
-        number: k,
-        reads: reads,
-        writes: writes,
-        yes: 0,
-        taken: 0,
-    }
+    let mut o = verdicts::free_place();
+    o.number = k;
+    o.reads = reads;
+    o.writes = writes;
+    o
 }

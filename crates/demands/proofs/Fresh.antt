@@ -9,19 +9,16 @@ use native.Mathlib.Omega.{arith}
 use lib.Dec.{leb, ltb}
 use lib.ListN.{length, getD, replicate, length-replicate, getD-replicate, List·getD-eq-default}
 use Rattle.laws.proofs.Logic.{cond-case}
-use Rattle.bits.specs.Member.{member}
-use Rattle.bits.proofs.Members.{member-none}
 use Rattle.history.specs.Vector.{noEntries}
 use Rattle.history.specs.Vector as history
-use Rattle.protocol.specs.Model.{OpenChange, freePlace, noCards}
+use Rattle.protocol.specs.Model.{freePlace}
+use Rattle.protocol.specs.Edit as edit
 use Rattle.protocol.specs.Calls.{freshModel}
-use Rattle.protocol.specs.Model as model
 use Rattle.verdicts.specs.declared.Vector.{Vector}
-use Rattle.verdicts.specs.declared.Place.{Place}
-use Rattle.verdicts.specs.Shape.{limits16, at, vectorAt, openOf, openAt, ringPlace, inHand, makerInHand, frameInHand}
+use Rattle.verdicts.specs.Shape.{limits16, at, vectorAt, openOf, openAt, placeFor, ringPlace, inHand, makerInHand, frameInHand, emptyPlace}
 use Rattle.cabinet.specs.View.{view}
 use Rattle.cabinet.specs.Fresh.{zeroCabinet, freshHead}
-use Rattle.cabinet.proofs.Laws.{free-fits}
+use Rattle.verdicts.proofs.Held.{no-members, open-back, free-fits, no-place}
 use Rattle.demands.proofs.Narrow.{Narrow}
 use Rattle.demands.proofs.Lengths.{zero-sized}
 use Rattle.demands.proofs.Laws.{Shows}
@@ -38,14 +35,8 @@ zeros n i = replicated n 0 0 (λ x. x) 0 refl refl i
 vectors : vectorAt (replicate 16 (record { entries = replicate 16 0 })) ≡ (λ c. noEntries)
 vectors = λ i c. replicated 16 (record { entries = replicate 16 0 }) (record { entries = [] }) (λ (v : Vector). at (v .entries)) noEntries (λ j k. zeros 16 k j) refl c i
 
-no-cards : member 0 ≡ noCards
-no-cards = λ i c. member-none c i
-
-places : openAt (replicate 8 (record { vector = replicate 16 0; number = 0; reads = 0; writes = 0; yes = 0; taken = 0 })) ≡ (λ p. freePlace)
-places = λ i p. replicated 8 (record { vector = replicate 16 0; number = 0; reads = 0; writes = 0; yes = 0; taken = 0 }) (record { vector = []; number = 0; reads = 0; writes = 0; yes = 0; taken = 0 }) openOf freePlace (free (replicate 16 0) (zeros 16)) (free [] (λ k. refl)) p i
-  where
-    free : (v : List ℕ) → ((k : ℕ) → at v k ≡ 0) → openOf (record { vector = v; number = 0; reads = 0; writes = 0; yes = 0; taken = 0 }) ≡ freePlace
-    free v h = λ i. record { change = record { number = 0; reads = no-cards i; writes = no-cards i }; yes = no-cards i; taken = no-cards i; vector = λ k. h k i }
+places : openAt (replicate 8 (placeFor freePlace)) ≡ (λ p. freePlace)
+places = λ i p. replicated 8 (placeFor freePlace) emptyPlace openOf freePlace (open-back freePlace free-fits) no-place p i
 
 either-none : {A : Type 0} (b : Bool) (x z : A) → x ≡ z → cond b x z ≡ z
 either-none true x z e = e
@@ -57,21 +48,16 @@ makers base reached = λ i c x. either-none (inHand base reached c x) (at (repli
 frames : (base reached : List ℕ) → frameInHand (replicate 12288 0) base reached ≡ (λ c x. noEntries)
 frames base reached = λ i c x. either-none (inHand base reached c x) (λ j. cond (ltb j (limits16 .width)) (at (replicate 12288 0) (ringPlace c x * 16 + j)) 0) noEntries (λ k j. either-none (ltb j (limits16 .width)) (at (replicate 12288 0) (ringPlace c x * 16 + j)) 0 (zeros 12288 (ringPlace c x * 16 + j)) k) i
 
-fresh-view : (n : ℕ) → view (zeroCabinet (freshHead n)) ≡ freshModel n
+fresh-view : (n : ℕ) → view (zeroCabinet (freshHead n)) ≡ freshModel (λ c. ltb c n)
 fresh-view n =
-    λ i. record {
-      session = 1;
-      phase = model.up;
-      count = 0;
-      present = λ c. ltb c n;
-      numbers = record { base = λ c. zeros 16 c i; stored = λ c. zeros 16 c i; held = λ c. zeros 16 c i; reached = λ c. zeros 16 c i };
-      memory = record { last = vectors i; pending = vectors i; maker = makers (replicate 16 0) (replicate 16 0) i; frame = frames (replicate 16 0) (replicate 16 0) i };
-      place = places i;
-      ended = λ p. zeros 8 p i;
-      line = λ c. zeros 16 c i;
-      rolled = no-cards i;
-    }
+    λ i. edit.withLine
+    (edit.withPlaces
+    (edit.withNumbers (freshModel (λ c. ltb c n))
+    (record { base = λ c. zeros 16 c i; stored = λ c. zeros 16 c i; held = λ c. zeros 16 c i; reached = λ c. zeros 16 c i })
+    (record { last = vectors i; pending = vectors i; maker = makers (replicate 16 0) (replicate 16 0) i; frame = frames (replicate 16 0) (replicate 16 0) i }))
+    (places i) (λ p. zeros 8 p i))
+    (λ c. zeros 16 c i) (no-members i)
 
-pub fresh-shows : (n : ℕ) → Shows (freshModel n) (zeroCabinet (freshHead n))
+pub fresh-shows : (n : ℕ) → Shows (freshModel (λ c. ltb c n)) (zeroCabinet (freshHead n))
 fresh-shows n =
     record { same = fresh-view n; sized = zero-sized (freshHead n); narrow = record { places = λ p. free-fits; last = λ c k h. refl; pending = λ c k h. refl } }

@@ -12,7 +12,8 @@ use Rattle.verdicts.specs.Shape.{limits16, at, vectorAt}
 use Rattle.cabinet.specs.declared.Cabinet.{Cabinet}
 use Rattle.cabinet.specs.View.{view}
 use Rattle.cabinet.specs.Apply.{apply, applyAll}
-use Rattle.cabinet.proofs.Laws.{Fits, keep-law, count-law, place-law, raise-law, fall-law, halt-law, fix-law, renew-law}
+use Rattle.verdicts.proofs.Held.{Fits}
+use Rattle.cabinet.proofs.Laws.{keep-law, count-law, place-law, raise-law, fall-law, halt-law, fix-law, renew-law}
 use Rattle.cabinet.proofs.Grow.{Grows, grow-law}
 use Rattle.cabinet.proofs.Bases.{Lowers, rebase-law, lower-law}
 use Rattle.demands.specs.Lists.{Sized}
@@ -23,10 +24,10 @@ use Rattle.demands.proofs.Narrow.{Short, Narrow, Brings, joined-short, 
 abbrev pub EditFits : Cabinet → Edit → Type 0
 EditFits s (edit.place p o) = (p < 8) × Fits o
 EditFits s (edit.count k) = Unit {0}
-EditFits s (edit.grow c k v) = (c < 16) × (at (s .base) c ≤ at (s .reached) c) × (at (s .reached) c < at (s .base) c + 48) × Short v
+EditFits s (edit.grow c k v) = (c < 16) × (at (s .core .base) c ≤ at (s .core .reached) c) × (at (s .core .reached) c < at (s .core .base) c + 48) × Short v
 EditFits s (edit.raise c v) = (c < 16) × Short v
 EditFits s (edit.keep c x) = c < 16
-EditFits s (edit.rebase bases) = ((k : ℕ) → 16 ≤ k → bases k ≡ 0) × ((c : ℕ) → at (s .base) c ≤ bases c)
+EditFits s (edit.rebase bases) = ((k : ℕ) → 16 ≤ k → bases k ≡ 0) × ((c : ℕ) → at (s .core .base) c ≤ bases c)
 EditFits s (edit.fall cards) = Unit {0}
 EditFits s edit.halt = Unit {0}
 EditFits s (edit.fix line) = (k : ℕ) → 16 ≤ k → line k ≡ 0
@@ -47,18 +48,18 @@ brings s (edit.lower c) f = tt
 brings s edit.renew f = tt
 
 pub law : (s : Cabinet) → Sized s → Narrow (view s) → (e : Edit) → EditFits s e → view (apply e s) ≡ edited limits16 e (view s)
-law s z w (edit.place p o) f = place-law s p o (omega (arith, z .places, f .0)) (f .1)
+law s z w (edit.place p o) f = place-law s p o (omega (arith, z .core .places, f .0)) (f .1)
 law s z w (edit.count k) f = count-law s k
 law s z w (edit.grow c k v) f =
     grow-law s c k v
-    (record { card = f .0; entries = z .entries; makers = z .makers; last = z .last; pending = z .pending; held = z .held; reached = z .reached; low = f .1; room = f .2; vector = f .3 })
-law s z w (edit.raise c v) f = raise-law s c v (omega (arith, z .pending, f .0)) (joined-short (vectorAt (s .pending) c) v (w .pending c) (f .1))
-law s z w (edit.keep c x) f = keep-law s c x (omega (arith, z .stored, f))
+    (record { card = f .0; entries = z .entries; makers = z .makers; last = z .core .last; pending = z .core .pending; held = z .core .held; reached = z .core .reached; low = f .1; room = f .2; vector = f .3 })
+law s z w (edit.raise c v) f = raise-law s c v (omega (arith, z .core .pending, f .0)) (joined-short (vectorAt (s .core .pending) c) v (w .pending c) (f .1))
+law s z w (edit.keep c x) f = keep-law s c x (omega (arith, z .core .stored, f))
 law s z w (edit.rebase bases) f = rebase-law s bases (f .0) (f .1)
-law s z w (edit.fall cards) f = fall-law s cards (z .stored) (z .held)
-law s z w edit.halt f = halt-law s (z .places)
+law s z w (edit.fall cards) f = fall-law s cards (z .core .stored) (z .core .held)
+law s z w edit.halt f = halt-law s (z .core .places)
 law s z w (edit.fix line) f = fix-law s line f
-law s z w (edit.lower c) f = lower-law s c (record { card = f; base = z .base; stored = z .stored; held = z .held; reached = z .reached; rolled = z .rolled })
+law s z w (edit.lower c) f = lower-law s c (record { card = f; base = z .core .base; stored = z .core .stored; held = z .core .held; reached = z .core .reached; rolled = z .core .rolled })
 law s z w edit.renew f = renew-law s
 
 -- the edits of a list, one after the other

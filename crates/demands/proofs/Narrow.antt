@@ -12,7 +12,7 @@ use Rattle.protocol.specs.Model.{OpenChange, Model, freePlace, withCard}
 use Rattle.protocol.specs.Edit.{Edit, edited}
 use Rattle.protocol.specs.Edit as edit
 use Rattle.verdicts.specs.Shape.{limits16}
-use Rattle.cabinet.proofs.Laws.{Fits, free-fits}
+use Rattle.verdicts.proofs.Held.{Fits, free-fits}
 
 -- no entry beyond the width
 abbrev pub Short : Vector → Type 0

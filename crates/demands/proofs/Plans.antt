@@ -16,7 +16,7 @@ use Rattle.history.specs.Change.{CardSet, Change, Numbers, touches}
 use Rattle.history.specs.Vector.{Vector, Tracked, share, vectorOf}
 use Rattle.history.specs.Line.{orphan}
 use Rattle.history.proofs.Climb.{climbed}
-use Rattle.protocol.specs.Model.{OpenChange, Model, freePlace, isUp, isCard, isOpen, decided, closed, toWrite, withCard, placeOf, freeAt, isKnown, tracked}
+use Rattle.protocol.specs.Model.{OpenChange, Model, freePlace, isUp, isCard, isOpen, decided, closed, toWrite, withCard, placeOf, freeAt, isKnown, tracked, withYes, withTaken}
 use Rattle.protocol.specs.Sound.{sound, numbersSound, roomToWrite}
 use Rattle.protocol.specs.Edit.{Edit}
 use Rattle.protocol.specs.Edit as edit
@@ -28,8 +28,9 @@ use Rattle.verdicts.proofs.Limits.{width16, inHand48, places8}
 use Rattle.cabinet.specs.declared.Cabinet.{Cabinet}
 use Rattle.cabinet.specs.View.{view}
 use Rattle.cabinet.specs.Apply.{apply}
-use Rattle.cabinet.proofs.Laws.{Fits, free-fits, beyond}
-use Rattle.cabinet.proofs.Known.{sound-places, sound-numbers, room-known}
+use Rattle.verdicts.proofs.Held.{Fits, free-fits}
+use Rattle.cabinet.proofs.Laws.{beyond}
+use Rattle.carried.proofs.Known.{sound-places, sound-numbers, room-known}
 use Rattle.demands.specs.Lists.{Sized}
 use Rattle.demands.proofs.Narrow.{Short, Narrow, with-narrow}
 use Rattle.demands.proofs.Laws.{EditFits, EditsFit}
@@ -55,14 +56,14 @@ vector-short m t w j h =
 voted-fits : (m : Model) (o : OpenChange) (c : ℕ) (agrees : Bool) → Narrow m → Fits o → c < 16 → Fits (voted limits16 m o c agrees)
 voted-fits m o c agrees w f l =
     cond-case Fits agrees
-    (λ e. cond-case Fits (decided limits16 (record { change = o .change; yes = withCard (o .yes) c; taken = o .taken; vector = o .vector }))
+    (λ e. cond-case Fits (decided limits16 (withYes o (withCard (o .yes) c)))
     (λ e′. record { reads = f .reads; writes = f .writes; yes = with-narrow (o .yes) c l (f .yes); taken = f .taken; vector = vector-short m (o .change) w })
     (λ e′. record { reads = f .reads; writes = f .writes; yes = with-narrow (o .yes) c l (f .yes); taken = f .taken; vector = f .vector }))
     (λ e. free-fits)
 
 took-fits : (o : OpenChange) (c : ℕ) → Fits o → c < 16 → Fits (tookShare limits16 o c)
 took-fits o c f l =
-    cond-case Fits (closed limits16 (record { change = o .change; yes = o .yes; taken = withCard (o .taken) c; vector = o .vector })) (λ e. free-fits)
+    cond-case Fits (closed limits16 (withTaken o (withCard (o .taken) c))) (λ e. free-fits)
     (λ e. record { reads = f .reads; writes = f .writes; yes = f .yes; taken = with-narrow (o .taken) c l (f .taken); vector = f .vector })
 
 -- "base ≤ stored ≤ held ≤ reached"
@@ -82,8 +83,8 @@ low-reached m e c h p =
 -- a card beyond the width is not in the cabinet, and its line is its base, 0
 lines-beyond : (s : Cabinet) → Sized s → (k : ℕ) → 16 ≤ k → lines limits16 (view s) k ≡ 0
 lines-beyond s z k h =
-    ap (λ (b : Bool). cond (b && view s .present k) (lineOf limits16 (view s) k) (at (s .base) k)) (le-ltb k (limits16 .width) (omega (arith, h, width16)))
-    ∙ beyond (s .base) k (z .base) h
+    ap (λ (b : Bool). cond (b && view s .present k) (lineOf limits16 (view s) k) (at (s .core .base) k)) (le-ltb k (limits16 .width) (omega (arith, h, width16)))
+    ∙ beyond (s .core .base) k (z .core .base) h
 
 lines-above : (m : Model) (c : ℕ) → m .numbers .base c ≤ lines limits16 m c
 lines-above m c =
@@ -138,7 +139,7 @@ module _ (s : Cabinet) (z : Sized s) (w : Narrow (view s)) where
       grows e =
           let room : roomToWrite limits16 (m .numbers) c ≡ true =
           room-known m (m .place (placeOf limits16 m k)) (sound-places m fine (placeOf limits16 m k) (place8 m k (ps .1 .1 .1 .0))) open-now c card (and-intro e untaken) in
-          let r : at (s .reached) c < at (s .base) c + limits16 .inHand = ltb-true (at (s .reached) c) (at (s .base) c + limits16 .inHand) (and-left (ltb (at (s .reached) c) (at (s .base) c + limits16 .inHand)) (ltb (at (s .reached) c) (limits16 .greatestState)) room) in
+          let r : at (s .core .reached) c < at (s .core .base) c + limits16 .inHand = ltb-true (at (s .core .reached) c) (at (s .core .base) c + limits16 .inHand) (and-left (ltb (at (s .core .reached) c) (at (s .core .base) c + limits16 .inHand)) (ltb (at (s .core .reached) c) (limits16 .greatestState)) room) in
           (card, low-reached m fine c card (and-right (ltb c (limits16 .width)) (m .present c) (not-not (isCard limits16 m c) (ps .1 .0))), omega (arith, r, inHand48), w .places (placeOf limits16 m k) .vector)
 
   pub take-fits : (k c : ℕ) → PlanFits (takePlan limits16 m k c)

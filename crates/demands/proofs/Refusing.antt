@@ -6,11 +6,12 @@ use lib.ListN.{length}
 use Rattle.refusal.specs.declared.Refusal.{Refusal}
 use Rattle.refusal.specs.Number.{numberOf}
 use Rattle.bits.specs.Member.{member}
-use Rattle.frame.specs.Format.{format}
+use Rattle.frame.specs.Format.{formats}
+use Rattle.codec.specs.Sheets.{codec}
 use Rattle.protocol.specs.Edit.{Edit}
 use Rattle.protocol.specs.Plan.{Answer, Reply, refused, Check, Plan, checked}
 use Rattle.protocol.specs.Calls.{openChecks, voteChecks, takeChecks, withdrawChecks, storeChecks, trimChecks, safeChecks, loseChecks, fixChecks, rollChecks}
-use Rattle.protocol.specs.Sheets.{sheetChecks, sheetPlan}
+use Rattle.protocol.specs.Codec.{sheetChecks, sheetPlan}
 use Rattle.protocol.specs.Run.{Choice, planOf}
 use Rattle.protocol.specs.Run as run
 use Rattle.protocol.proofs.Steps.{checked-case}
@@ -36,15 +37,15 @@ pub demand-1-holds : Demand1
 demand-1-holds s asked t after r d = refuses asked d
   where
     -- a call that lends nothing, by its plan
-    by-plan : (asked : Asked) → Carried s (planOf limits16 (view s) (callOf asked) no-choice) (refused r) t
-        → (refused r ≡ planOf limits16 (view s) (callOf asked) no-choice .reply → applyAll (planOf limits16 (view s) (callOf asked) no-choice .edits) s ≡ s)
+    by-plan : (asked : Asked) → Carried s (planOf codec limits16 (view s) (callOf asked) no-choice) (refused r) t
+        → (refused r ≡ planOf codec limits16 (view s) (callOf asked) no-choice .reply → applyAll (planOf codec limits16 (view s) (callOf asked) no-choice .edits) s ≡ s)
         → after ≡ lent asked → Refuses16 s asked t after r
-    by-plan asked d k e = record { listed = demand-1 limits16 (view s) (callOf asked) no-choice .listed r (sym (d .answer)); cabinet = d .cabinet ∙ k (d .answer); lists = e }
+    by-plan asked d k e = record { listed = demand-1 codec limits16 (view s) (callOf asked) no-choice .listed r (sym (d .answer)); cabinet = d .cabinet ∙ k (d .answer); lists = e }
 
     refuses : (asked : Asked) → Answered s asked (refused r) t after → Refuses16 s asked t after r
     refuses (opening reads writes) d =
         record {
-          listed = demand-1 limits16 (view s) (run.openCall (member reads) (member writes)) (record { named = d .0 .named; lost = [] }) .listed r (sym (d .0 .carried .answer));
+          listed = demand-1 codec limits16 (view s) (run.openCall (member reads) (member writes)) (record { named = d .0 .named; lost = [] }) .listed r (sym (d .0 .carried .answer));
           cabinet = d .0 .carried .cabinet ∙ refused-keeps s (openChecks limits16 (view s) (member reads) (member writes) (d .0 .named)) _ _ r (d .0 .carried .answer);
           lists = d .1;
         }
@@ -56,23 +57,23 @@ demand-1-holds s asked t after r d = refuses asked d
     refuses (safe k) d = by-plan (safe k) (d .0) (refused-keeps s (safeChecks limits16 (view s) k) _ _ r) (d .1)
     refuses (lose cards) d = by-plan (lose cards) (d .0) (refused-keeps s (loseChecks limits16 (view s) (member cards)) _ _ r) (d .1)
     refuses (fix places list) d =
-        let e : refused r ≡ planOf limits16 (view s) (run.fixCall places (length list)) (record { named = 0; lost = d .carried .told .lost }) .reply = d .answer ∙ d .carried .told .answer in
+        let e : refused r ≡ planOf codec limits16 (view s) (run.fixCall places (length list)) (record { named = 0; lost = d .carried .told .lost }) .reply = d .answer ∙ d .carried .told .answer in
         record {
-          listed = demand-1 limits16 (view s) (run.fixCall places (length list)) (record { named = 0; lost = d .carried .told .lost }) .listed r (sym e);
+          listed = demand-1 codec limits16 (view s) (run.fixCall places (length list)) (record { named = 0; lost = d .carried .told .lost }) .listed r (sym e);
           cabinet = d .carried .cabinet ∙ refused-keeps s (fixChecks limits16 (view s) places (length list) (d .carried .told .lost)) _ _ r e;
           lists = d .carried .told .list ∙ ap (λ (y : Reply). listAfter y list) (sym e);
         }
     refuses (roll c) d = by-plan (roll c) (d .0) (refused-keeps s (rollChecks limits16 (view s) c) _ _ r) (d .1)
     refuses (sheet c buffer) d =
-        let e : refused r ≡ sheetPlan format limits16 (view s) c (length buffer) .reply = d .answer ∙ d .carried .told .answer in
+        let e : refused r ≡ sheetPlan codec limits16 (view s) c (length buffer) .reply = d .answer ∙ d .carried .told .answer in
         record {
-          listed = demand-1 limits16 (view s) (run.sheetCall c (length buffer)) no-choice .listed r (sym e);
-          cabinet = d .carried .cabinet ∙ refused-keeps s (sheetChecks format limits16 (view s) c (length buffer)) _ _ r e;
+          listed = demand-1 codec limits16 (view s) (run.sheetCall c (length buffer)) no-choice .listed r (sym e);
+          cabinet = d .carried .cabinet ∙ refused-keeps s (sheetChecks codec limits16 (view s) c (length buffer)) _ _ r e;
           lists = d .carried .told .buffer ∙ ap (λ (y : Reply). bufferAfter y buffer) (sym e);
         }
     refuses restart d =
         record {
-          listed = demand-1 limits16 (view s) run.restartCall no-choice .listed r (sym (d .0 .told .answer));
+          listed = demand-1 codec limits16 (view s) run.restartCall no-choice .listed r (sym (d .0 .told .answer));
           cabinet = d .0 .cabinet;
           lists = d .1;
         }

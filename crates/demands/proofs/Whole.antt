@@ -15,10 +15,11 @@ use Rattle.laws.proofs.Below.{Found, any-elim}
 use Rattle.refusal.specs.declared.Refusal.{Refusal}
 use Rattle.bits.specs.Member.{member}
 use Rattle.bits.proofs.Members.{member-above}
-use Rattle.frame.specs.declared.Verdict.{Verdict}
-use Rattle.frame.specs.declared.Verdict.the-variants.{Accepted, Refused}
-use Rattle.frame.specs.Format.{format}
+use Rattle.refusal.specs.declared.Verdict.{Verdict}
+use Rattle.refusal.specs.declared.Verdict.the-variants.{Accepted, Refused}
+use Rattle.frame.specs.Format.{formats}
 use Rattle.history.specs.Change.{CardSet, touches}
+use Rattle.codec.specs.Sheets.{codec}
 use Rattle.protocol.specs.Model.{Limits, OpenChange, Model, isOpen}
 use Rattle.protocol.specs.Edit.{Edit}
 use Rattle.protocol.specs.Plan.{Answer, done, Reply, accepted, refused, Plan, afterPlan}
@@ -29,14 +30,16 @@ use Rattle.refusal.specs.declared.Refusal.the-variants.{CardCount}
 use Rattle.sheet.specs.declared.Readout.{Readout}
 use Rattle.sheet.specs.Walk.{placeOf}
 use Rattle.readout.specs.Joint.{readoutOf}
-use Rattle.protocol.specs.Sheets.{sheetChecks, sheetPlan, joinedSheets, restartReply, restartedFrom, restarted, storedIn, isIn, vectorIn}
+use Rattle.protocol.specs.Codec.{sheetChecks, sheetPlan}
+use Rattle.codec.specs.Sheets.{joinedSheets, restartReply, restartedFrom}
+use Rattle.restart.proofs.Ring.{storedIn, isIn, vectorIn, ringModel}
 use Rattle.protocol.specs.Run.{Call, Choice, Proper, planOf, afterCall, Calls, none, further, Run, verdictReply, verdictCabinet}
 use Rattle.protocol.specs.Run as run
 use Rattle.protocol.specs.Demands as model
-use Rattle.protocol.specs.Demands.{SheetLimits, CallRight, CabinetRight, WhileRolling, Listed}
+use Rattle.codec.specs.Claims.{SheetLimits}
+use Rattle.protocol.specs.Demands.{CallRight, CabinetRight, WhileRolling, Listed}
 use Rattle.protocol.specs.Anywhere as anywhere
-use Rattle.protocol.proofs.Answers.{demands}
-use Rattle.protocol.proofs.Anywhere.{sooner}
+use Rattle.codec.proofs.Document.{demands, sooner}
 use Rattle.verdicts.specs.Shape.{limits16, at}
 use Rattle.verdicts.proofs.Limits.{width16, inHand48, places8, greatest60000, greatestNumber32}
 use Rattle.cabinet.specs.declared.Cabinet.{Cabinet}
@@ -46,11 +49,10 @@ use Rattle.cabinet.specs.Fixing.{FixCarried}
 use Rattle.cabinet.specs.Fresh.{Freshly, zeroCabinet, freshHead, voidHead}
 use Rattle.demands.specs.Lists.{Asked, opening, vote, take, withdraw, store, trim, safe, lose, fix, roll, sheet, restart, callOf, Typed, lent, Sized, FixAnswered, SheetAnswered, goingOn, RestartAnswered, Answered, List16, start, next}
 use Rattle.demands.specs.Claims.{RestartsRolling, Throughout, Demands23, RestartsLeft, Anywhere}
-use Rattle.cabinet.proofs.Laws.{free-fits}
+use Rattle.verdicts.proofs.Held.{free-fits}
 use Rattle.sheet.proofs.Lay as lay
-use Rattle.readback.proofs.Shown.{shown as shown-readout}
 use Rattle.restart.specs.Restart.{restartedCabinet, cabinetFor}
-use Rattle.restart.proofs.Shows.{view-law}
+use Rattle.restart.proofs.Shows as restarts
 use Rattle.demands.proofs.Narrow.{Narrow}
 use Rattle.demands.proofs.Lengths.{by-card, by-place, set-small}
 use Rattle.demands.proofs.Laws.{EditsFit, Shows, edits-show}
@@ -65,8 +67,8 @@ limits-fit = record { width = width16; inHand = inHand48; greatestState = greate
 pub record Step (s : Cabinet) (call : Call) (reply : Reply) (t : Cabinet) : Type 0 where
   pub choice : Choice
   pub proper : Proper limits16 (view s) call choice
-  pub replied : reply ≡ planOf limits16 (view s) call choice .reply
-  pub after : Shows (afterCall limits16 (view s) call choice) t
+  pub replied : reply ≡ planOf codec limits16 (view s) call choice .reply
+  pub after : Shows (afterCall codec limits16 (view s) call choice) t
 
 shown : (s : Cabinet) → Sized s → Narrow (view s) → Shows (view s) s
 shown s z w = record { same = refl; sized = z; narrow = w }
@@ -96,23 +98,23 @@ barred-below m reads writes c hr hw e =
 
 -- a call that is carried out by its plan
 carried-step : (s : Cabinet) → Sized s → Narrow (view s) → (call : Call) (reply : Reply) (t : Cabinet) → Proper limits16 (view s) call no-choice
-    → (afterCall limits16 (view s) call no-choice ≡ afterPlan limits16 (planOf limits16 (view s) call no-choice) (view s))
-    → EditsFit s (planOf limits16 (view s) call no-choice .edits) → Carried s (planOf limits16 (view s) call no-choice) reply t → Step s call reply t
+    → (afterCall codec limits16 (view s) call no-choice ≡ afterPlan limits16 (planOf codec limits16 (view s) call no-choice) (view s))
+    → EditsFit s (planOf codec limits16 (view s) call no-choice .edits) → Carried s (planOf codec limits16 (view s) call no-choice) reply t → Step s call reply t
 carried-step s z w call reply t p e f d =
     record {
       choice = no-choice;
       proper = p;
       replied = d .answer;
-      after = subst (λ (m : Model). Shows m t) (sym e) (planned s z w (planOf limits16 (view s) call no-choice) t f (d .cabinet));
+      after = subst (λ (m : Model). Shows m t) (sym e) (planned s z w (planOf codec limits16 (view s) call no-choice) t f (d .cabinet));
     }
 
-sheet-fits : (s : Cabinet) (c places : ℕ) → EditsFit s (sheetPlan format limits16 (view s) c places .edits)
-sheet-fits s c places = checked-case (λ (p : Plan). EditsFit s (p .edits)) (sheetChecks format limits16 (view s) c places) _ _ (λ r. tt) (λ ps. tt)
+sheet-fits : (s : Cabinet) (c places : ℕ) → EditsFit s (sheetPlan codec limits16 (view s) c places .edits)
+sheet-fits s c places = checked-case (λ (p : Plan). EditsFit s (p .edits)) (sheetChecks codec limits16 (view s) c places) _ _ (λ r. tt) (λ ps. tt)
 
-restarted-narrow : (r : Readout) → Narrow (restarted limits16 r)
+restarted-narrow : (r : Readout) → Narrow (ringModel r)
 restarted-narrow r = record { places = λ p. free-fits; last = short; pending = short }
   where
-    short : (c k : ℕ) → 16 ≤ k → vectorIn limits16 r c (storedIn r c) k ≡ 0
+    short : (c k : ℕ) → 16 ≤ k → vectorIn r c (storedIn r c) k ≡ 0
     short c k h = outside (isIn r c (storedIn r c)) (ltb k (limits16 .width)) (le-ltb k (limits16 .width) (omega (arith, h, width16)))
       where
         outside : (a b : Bool) → b ≡ false → cond (a && b) (getD (r .entries) (placeOf c (storedIn r c) * 16 + k) 0) 0 ≡ 0
@@ -124,23 +126,29 @@ restarted-sized r z =
     record {
       entries = z .entries;
       makers = z .changes;
-      last = by-card _;
-      pending = by-card _;
-      places = by-place _;
-      base = by-card _;
-      stored = by-card _;
-      held = by-card _;
-      reached = by-card _;
-      line = by-card _;
-      ended = by-place _;
-      rolled = set-small _;
+      core = record {
+        last = by-card _;
+        pending = by-card _;
+        places = by-place _;
+        base = by-card _;
+        stored = by-card _;
+        held = by-card _;
+        reached = by-card _;
+        line = by-card _;
+        ended = by-place _;
+        rolled = set-small _;
+      };
     }
 
 restarted-shows : (v : Verdict) (bytes : List ℕ) (s handed t : Cabinet) → Sized s → Narrow (view s) → restartReply bytes ≡ v → handed ≡ cabinetFor v (readoutOf bytes .readout)
     → t ≡ goingOn (verdictReply v) handed s → Shows (verdictCabinet v (restartedFrom limits16 bytes) (view s)) t
 restarted-shows Accepted bytes s handed t z w v h e =
     subst (Shows (restartedFrom limits16 bytes)) (sym (e ∙ h))
-    (record { same = view-law (readoutOf bytes .readout) (shown-readout bytes v .holds .sized); sized = restarted-sized (readoutOf bytes .readout) (shown-readout bytes v .holds .sized); narrow = restarted-narrow (readoutOf bytes .readout) })
+    (record {
+      same = restarts.restarted-shows bytes v;
+      sized = restarted-sized (readoutOf bytes .readout) (restarts.readout-sized bytes v);
+      narrow = subst Narrow (restarts.ring-shows bytes v) (restarted-narrow (readoutOf bytes .readout));
+    })
 restarted-shows (Refused r) bytes s handed t z w v h e = subst (Shows (view s)) (sym e) (shown s z w)
 
 pub step : (s : Cabinet) → Sized s → Narrow (view s) → (asked : Asked) → Typed asked → (reply : Reply) (t : Cabinet) (after : List ℕ) → Answered s asked reply t after → Step s (callOf asked) reply t
@@ -171,10 +179,10 @@ step s z w (sheet c buffer) y reply t after d =
       choice = no-choice;
       proper = tt;
       replied = d .answer ∙ d .carried .told .answer;
-      after = planned s z w (sheetPlan format limits16 (view s) c (length buffer)) t (sheet-fits s c (length buffer)) (d .carried .cabinet);
+      after = planned s z w (sheetPlan codec limits16 (view s) c (length buffer)) t (sheet-fits s c (length buffer)) (d .carried .cabinet);
     }
 step s z w restart y reply t after d =
-    let bytes : List ℕ = joinedSheets format limits16 (view s) in
+    let bytes : List ℕ = joinedSheets formats limits16 (view s) in
     record {
       choice = no-choice;
       proper = tt;
@@ -187,7 +195,7 @@ step s z w restart y reply t after d =
 -- ---- whole lists
 -- the model's run of a list, and that its restarts stand where those of the list do
 abbrev Run16 : {n : ℕ} {cs : Calls} {s : Cabinet} → List16 n cs s → Calls → Model → Type 0
-Run16 {n} l cs m = (r : Run limits16 n cs m) × (RestartsRolling l → model.RestartsRolling r) × (RestartsLeft l → anywhere.RestartsLeft r)
+Run16 {n} l cs m = (r : Run codec limits16 (λ c. ltb c n) cs m) × (RestartsRolling l → model.RestartsRolling r) × (RestartsLeft l → anywhere.RestartsLeft r)
 
 pub record Joined {n : ℕ} {cs : Calls} {s : Cabinet} (l : List16 n cs s) : Type 0 where
   pub few : n ≤ limits16 .width
@@ -201,7 +209,7 @@ fresh-joined n s f =
     test (freshRefused limits16 n) (λ e. not-both done CardCount (f .answer ∙ ap (λ (b : Bool). cond b (refused CardCount) (accepted done)) e))
     (λ e.
     let x : s ≡ zeroCabinet (freshHead n) = f .cabinet ∙ ap (λ (b : Bool). zeroCabinet (cond b voidHead (freshHead n))) e in
-    let h : Shows (freshModel n) s = subst (Shows (freshModel n)) (sym x) (fresh-shows n) in
+    let h : Shows (freshModel (λ c. ltb c n)) s = subst (Shows (freshModel (λ c. ltb c n))) (sym x) (fresh-shows n) in
     let y : leb 1 n && leb n (limits16 .width) ≡ true = not-not (leb 1 n && leb n (limits16 .width)) e in
     record {
       few = leb-true n (limits16 .width) (and-right (leb 1 n) (leb n (limits16 .width)) y);
@@ -214,7 +222,7 @@ fresh-joined n s f =
 -- the model's run with one call more, before its cabinet is said to be what the struct shows
 abbrev longer : {n : ℕ} {cs : Calls} {s : Cabinet} (l : List16 n cs s) → Joined l → (asked : Asked) (y : Typed asked) (reply : Reply) (t : Cabinet) (after : List ℕ) (d : Answered s asked reply t after)
     → (x : Choice) → Proper limits16 (view s) (callOf asked) x
-    → Run16 (next l asked y reply t after d) (further cs (callOf asked) (planOf limits16 (view s) (callOf asked) x .reply)) (afterCall limits16 (view s) (callOf asked) x)
+    → Run16 (next l asked y reply t after d) (further cs (callOf asked) (planOf codec limits16 (view s) (callOf asked) x .reply)) (afterCall codec limits16 (view s) (callOf asked) x)
 longer l j asked y reply t after d x p = (run.next (j .made .0) (callOf asked) x p, λ w. (j .made .1 (w .0), w .1), λ w. (j .made .2 (w .0), w .1))
 
 further-joined : {n : ℕ} {cs : Calls} {s : Cabinet} (l : List16 n cs s) → Joined l → (asked : Asked) (y : Typed asked) (reply : Reply) (t : Cabinet) (after : List ℕ) (d : Answered s asked reply t after)
@@ -235,9 +243,9 @@ joined {n} (next {cs} {s} l asked y reply t after d) =
     further-joined l j asked y reply t after d (step s (j .sized) (j .narrow) asked y reply t after d)
 
 -- what holds of the cabinet that a list leads to
-last-right : {n : ℕ} {cs : Calls} {m : Model} (r : Run limits16 n cs m) → model.Throughout r → CabinetRight limits16 n cs m
-last-right run.start t = t
-last-right (run.next r call x p) t = t .2
+last-right : (n : ℕ) {cs : Calls} {m : Model} (r : Run codec limits16 (λ c. ltb c n) cs m) → model.Throughout r → CabinetRight codec limits16 (λ c. ltb c n) cs m
+last-right n run.start t = t
+last-right n (run.next r call x p) t = t .2
 
 -- demands 2 and 3
 pub demands-2-3 : Demands23
@@ -246,21 +254,21 @@ demands-2-3 n cs s l w = whole l w
     whole : {n : ℕ} {cs : Calls} {s : Cabinet} (l : List16 n cs s) → RestartsRolling l → Throughout l
     whole {n} (start s f) w =
         let j : Joined (start s f) = fresh-joined n s f in
-        last-right (j .made .0) (demands limits16 limits-fit n (j .some) (j .few) none (view s) (j .made .0) (j .made .1 tt))
+        last-right n (j .made .0) (demands limits16 limits-fit n (j .some) (j .few) none (view s) (j .made .0) (j .made .1 tt))
     whole {n} (next {cs} {s} l asked y reply t after d) w =
         let j : Joined l = joined l in
         let e : Step s (callOf asked) reply t = step s (j .sized) (j .narrow) asked y reply t after d in
-        let more : Run16 (next l asked y reply t after d) (further cs (callOf asked) (planOf limits16 (view s) (callOf asked) (e .choice) .reply)) (afterCall limits16 (view s) (callOf asked) (e .choice)) =
+        let more : Run16 (next l asked y reply t after d) (further cs (callOf asked) (planOf codec limits16 (view s) (callOf asked) (e .choice) .reply)) (afterCall codec limits16 (view s) (callOf asked) (e .choice)) =
         longer l j asked y reply t after d (e .choice) (e .proper) in
         let right : model.Throughout (more .0) = demands limits16 limits-fit n (j .some) (j .few) _ _ (more .0) (more .1 w) in (
           whole l (w .0),
-          λ a q. subst (λ (m : Model). CallRight limits16 n cs (callOf asked) a (view s) m) (sym (e .after .same)) (right .1 a (sym (e .replied) ∙ q)),
-          subst₂ (λ (z : Reply) (m : Model). CabinetRight limits16 n (further cs (callOf asked) z) m) (sym (e .replied)) (sym (e .after .same)) (right .2),
+          λ a q. subst (λ (m : Model). CallRight limits16 (λ c. ltb c n) cs (callOf asked) a (view s) m) (sym (e .after .same)) (right .1 a (sym (e .replied) ∙ q)),
+          subst₂ (λ (z : Reply) (m : Model). CabinetRight codec limits16 (λ c. ltb c n) (further cs (callOf asked) z) m) (sym (e .replied)) (sym (e .after .same)) (right .2),
         )
 
 -- restarts in any phase
 pub anywhere-16 : Anywhere
 anywhere-16 n cs s l w =
     let j : Joined l = joined l in
-    let d : anywhere.Sooner limits16 n cs (view s) = sooner limits16 limits-fit n (j .some) (j .few) cs (view s) (j .made .0) (j .made .2 w) in
+    let d : anywhere.Sooner codec limits16 (λ c. ltb c n) cs (view s) = sooner limits16 limits-fit n (j .some) (j .few) cs (view s) (j .made .0) (j .made .2 w) in
     record { calls = d .calls; but-for = d .but-for; right = d .right }

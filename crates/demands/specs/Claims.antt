@@ -4,6 +4,9 @@ use mathlib.Core.Path.{_≡_}
 use mathlib.Core.List.{List}
 use Rattle.refusal.specs.declared.Refusal.{Refusal}
 use Rattle.refusal.specs.Number.{numberOf}
+use Rattle.codec.specs.Sheets.{codec}
+use Rattle.frame.specs.Format.{formats}
+use lib.Dec.{ltb}
 use Rattle.protocol.specs.Plan.{Answer, Reply, accepted, refused}
 use Rattle.protocol.specs.Run.{Calls, none, further}
 use Rattle.protocol.specs.Demands.{Listed, CallRight, CabinetRight, WhileRolling}
@@ -30,11 +33,11 @@ RestartsRolling (next {cs} {s} l asked z reply t after w) = RestartsRolling l ×
 
 -- throughout a list: of each accepted call, and of the cabinet after each call
 abbrev pub Throughout : {n : ℕ} {cs : Calls} {s : Cabinet} → List16 n cs s → Type 0
-Throughout {n} (start s f) = CabinetRight limits16 n none (view s)
+Throughout {n} (start s f) = CabinetRight codec limits16 (λ c. ltb c n) none (view s)
 Throughout {n} (next {cs} {s} l asked z reply t after w) =
     Throughout l
-    × ((a : Answer) → reply ≡ accepted a → CallRight limits16 n cs (callOf asked) a (view s) (view t))
-    × CabinetRight limits16 n (further cs (callOf asked) reply) (view t)
+    × ((a : Answer) → reply ≡ accepted a → CallRight limits16 (λ c. ltb c n) cs (callOf asked) a (view s) (view t))
+    × CabinetRight codec limits16 (λ c. ltb c n) (further cs (callOf asked) reply) (view t)
 
 abbrev pub Demands23 : Type 0
 Demands23 = (n : ℕ) (cs : Calls) (s : Cabinet) (l : List16 n cs s) → RestartsRolling l → Throughout l
@@ -49,7 +52,7 @@ RestartsLeft (next {cs} {s} l asked z reply t after w) = RestartsLeft l × Sessi
 pub record Right (n : ℕ) (cs : Calls) (s : Cabinet) : Type 0 where
   pub calls : Calls
   pub but-for : PutIn cs calls
-  pub right : CabinetRight limits16 n calls (view s)
+  pub right : CabinetRight codec limits16 (λ c. ltb c n) calls (view s)
 
 abbrev pub Anywhere : Type 0
 Anywhere = (n : ℕ) (cs : Calls) (s : Cabinet) (l : List16 n cs s) → RestartsLeft l → Right n cs s

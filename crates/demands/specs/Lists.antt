@@ -5,15 +5,16 @@ use mathlib.Core.Bool.{Bool}
 use mathlib.Core.List.{List, []}
 use lib.ListN.{length}
 use Rattle.bits.specs.Member.{member}
-use Rattle.frame.specs.Format.{format}
+use Rattle.frame.specs.Format.{formats}
 use Rattle.protocol.specs.Plan.{Reply, accepted, refused, done}
 use Rattle.protocol.specs.Calls.{votePlan, takePlan, withdrawPlan, storePlan, trimPlan, safePlan, losePlan, rollPlan}
-use Rattle.protocol.specs.Sheets.{joinedSheets}
+use Rattle.codec.specs.Sheets.{joinedSheets}
 use Rattle.protocol.specs.Run as run
 use Rattle.protocol.specs.Run.{Call, Calls, none, further}
 use Rattle.verdicts.specs.Shape.{limits16}
 use Rattle.recovery.specs.declared.FixReply.{FixReply}
 use Rattle.recovery.specs.Fix.{fixReplyOf}
+use Rattle.verdicts.specs.declared.Core.{Core}
 use Rattle.cabinet.specs.declared.Cabinet.{Cabinet}
 use Rattle.cabinet.specs.View.{view}
 use Rattle.cabinet.specs.Apply.{Carried, OpenCarried}
@@ -86,9 +87,7 @@ lent (sheet c buffer) = buffer
 lent restart = []
 
 -- what the type of the cabinet says: each list has its length, and a set has 16 bits
-pub record Sized (s : Cabinet) : Type 0 where
-  pub entries : length (s .entries) ≡ 12288
-  pub makers : length (s .makers) ≡ 768
+pub record SizedCore (s : Core) : Type 0 where
   pub last : length (s .last) ≡ 16
   pub pending : length (s .pending) ≡ 16
   pub places : length (s .places) ≡ 8
@@ -100,13 +99,16 @@ pub record Sized (s : Cabinet) : Type 0 where
   pub ended : length (s .ended) ≡ 8
   pub rolled : s .rolled < 65536
 
+pub record Sized (s : Cabinet) : Type 0 where
+  pub entries : length (s .entries) ≡ 12288
+  pub makers : length (s .makers) ≡ 768
+  pub core : SizedCore (s .core)
+
 -- fix: what its contract says, and its reply in document 01's values
 pub record FixAnswered (s : Cabinet) (places : ℕ) (before : List ℕ) (reply : Reply) (next : Cabinet) (after : List ℕ) : Type 0 where
-  pub stored : List ℕ
-  pub line : List ℕ
   pub told : FixReply
-  pub carried : FixCarried s places before after stored line told next
-  pub answer : reply ≡ fixReplyOf (s .head .cards) stored line after told
+  pub carried : FixCarried s places before after told next
+  pub answer : reply ≡ fixReplyOf (s .core .head .cards) (next .core .stored) (next .core .line) after told
 
 -- a card's sheet into a lent buffer: what its contract says, and its reply in document 01's values
 pub record SheetAnswered (s : Cabinet) (card : ℕ) (before : List ℕ) (reply : Reply) (next : Cabinet) (after : List ℕ) : Type 0 where
@@ -122,7 +124,7 @@ goingOn (refused r) handed s = s
 -- restart from the sheets of all cards, joined: what its contract says of these bytes
 pub record RestartAnswered (s : Cabinet) (reply : Reply) (next : Cabinet) : Type 0 where
   pub handed : Cabinet
-  pub told : Restarted (joinedSheets format limits16 (view s)) reply handed
+  pub told : Restarted (joinedSheets formats limits16 (view s)) reply handed
   pub cabinet : next ≡ goingOn reply handed s
 
 -- what a call answers, the cabinet that it hands back, and the list or buffer lent after it: the contract of each method

@@ -85,6 +85,18 @@ pub fn number_at(s: &[u8], at: usize, width: usize) -> u32
     n
 }
 
+// The same, of the 4 digits of most state numbers without a count.
+pub fn state_at(s: &[u8], at: usize, width: usize) -> u32
+    requires { ⌜ (at + width ≤ length (now s)) × (width ≤ 8) ⌝ }
+    ensures { λ r. ⌜ r ≡ number (take width (drop at (now (s .entry)))) ⌝ }
+{
+    if width == 4 {
+        number_at(s, at, 4)
+    } else {
+        number_at(s, at, width)
+    }
+}
+
 // The two running sums over n bytes from `at` on.
 fn sums_over(s: &[u8], at: usize, n: usize, start: Sums) -> Sums
     requires { ⌜ at + n ≤ length (now s) ⌝ }
@@ -151,6 +163,18 @@ pub fn put_number(b: &mut [u8], at: usize, width: usize, n: u32)
         k -= 1;
         b[at + k] = digit_of(rest % 16);
         rest = rest / 16;
+    }
+}
+
+// The same, in the 4 digits of most state numbers without a count.
+pub fn put_state(b: &mut [u8], at: usize, width: usize, n: u32)
+    requires { ⌜ at + width ≤ length (now b) ⌝ }
+    ensures { λ r. ⌜ now (b .exit) ≡ sets (now (b .entry)) at (digits width n) ⌝ }
+{
+    if width == 4 {
+        put_number(b, at, 4, n);
+    } else {
+        put_number(b, at, width, n);
     }
 }
 

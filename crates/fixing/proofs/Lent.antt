@@ -85,17 +85,17 @@ or-out true b e = e
 or-out false b e = refl
 
 -- a cabinet that passes 28 has at most 16 cards
-few-cards : (s : Cabinet) → sound limits16 (view s) ≡ true → s .head .cards ≤ limits16 .width
+few-cards : (s : Cabinet) → sound limits16 (view s) ≡ true → s .core .head .cards ≤ limits16 .width
 few-cards s e =
     let m : Model = view s in
     let cs : Bool = allBelow (limits16 .width) (cardSound limits16 m) in
     let ps : Bool = allBelow (limits16 .places) (λ p. placeSound limits16 m (m .place p)) in
     let c : cardsSound limits16 m ≡ true = and-right (sessionSound limits16 m) (cardsSound limits16 m) (and-left (sessionSound limits16 m && cardsSound limits16 m) cs (and-left (sessionSound limits16 m && cardsSound limits16 m && cs) ps e)) in
-    ltb-false (limits16 .width) (s .head .cards) (not-true (ltb (limits16 .width) (s .head .cards)) (and-right (anyBelow (limits16 .width) (m .present)) (not (m .present (limits16 .width))) c))
+    ltb-false (limits16 .width) (s .core .head .cards) (not-true (ltb (limits16 .width) (s .core .head .cards)) (and-right (anyBelow (limits16 .width) (m .present)) (not (m .present (limits16 .width))) c))
 
-module _ (s : Cabinet) (records : List CardRecord) (list listNow : List ℕ) (a : FixAnswer) (t : FixCarried s (length records) list listNow (a .stored) (a .line) (a .reply) (a .cabinet)) where
+module _ (s : Cabinet) (records : List CardRecord) (list listNow : List ℕ) (a : FixAnswer) (t : FixCarried s (length records) list listNow (a .reply) (a .cabinet)) where
   abbrev n : ℕ
-  n = s .head .cards
+  n = s .core .head .cards
 
   abbrev checks : List Check
   checks = fixChecks limits16 (view s) (length records) (length list) (t .told .lost)
@@ -107,21 +107,21 @@ module _ (s : Cabinet) (records : List CardRecord) (list listNow : List ℕ) (a 
   made = fixPlan limits16 (view s) (length records) (length list) (t .told .lost)
 
   -- what is answered, where the reply is r
-  told-reply : (r : FixReply) → a .reply ≡ r → fixReplyOf n (a .stored) (a .line) listNow r ≡ made .reply
-  told-reply r d = sym (ap (fixReplyOf n (a .stored) (a .line) listNow) d) ∙ t .told .answer
+  told-reply : (r : FixReply) → a .reply ≡ r → fixReplyOf n (a .cabinet .core .stored) (a .cabinet .core .line) listNow r ≡ made .reply
+  told-reply r d = sym (ap (fixReplyOf n (a .cabinet .core .stored) (a .cabinet .core .line) listNow) d) ∙ t .told .answer
 
   lent-refused : (q : Refusal) → a .reply ≡ NotFixed q → filled (numbersOf a) records ≡ recordsAfter (made .reply) records
   lent-refused q d =
-      filled-none (numbersOf a) records (ap (λ (r : FixReply). cardsIn r (a .cabinet .head .cards)) d)
+      filled-none (numbersOf a) records (ap (λ (r : FixReply). cardsIn r (a .cabinet .core .head .cards)) d)
       ∙ ap (λ (x : plan.Reply). recordsAfter x records) (told-reply (NotFixed q) d)
 
   -- where fix is accepted
   module _ (k : ℕ) (d : a .reply ≡ Fixed k) where
     abbrev row : ℕ → CardRow
-    row c = record { card = c; stored = at (a .stored) c; line = at (a .line) c }
+    row c = record { card = c; stored = at (a .cabinet .core .stored) c; line = at (a .cabinet .core .line) c }
 
     off : firstFailing checks ≡ Done
-    off = none-fails checks answered (fixed (rowsOf n (a .stored) (a .line)) (take k listNow)) (fix (lines limits16 (view s)) ∷ []) (told-reply (Fixed k) d)
+    off = none-fails checks answered (fixed (rowsOf n (a .cabinet .core .stored) (a .cabinet .core .line)) (take k listNow)) (fix (lines limits16 (view s)) ∷ []) (told-reply (Fixed k) d)
 
     abbrev wrong : Bool
     wrong = not (isDown (view s .phase))
@@ -151,8 +151,8 @@ module _ (s : Cabinet) (records : List CardRecord) (list listNow : List ℕ) (a 
         let e : length (cardRows limits16 (view s)) ≡ n = rows-long n few _ in
         omega (arith, l, e)
 
-    cards : a .cabinet .head .cards ≡ n
-    cards = ap (λ (c : Cabinet). c .head .cards) (t .cabinet) ∙ ap (λ (p : Plan). applyAll (p .edits) s .head .cards) (done-plan checks answered (fix (lines limits16 (view s)) ∷ []) off)
+    cards : a .cabinet .core .head .cards ≡ n
+    cards = ap (λ (c : Cabinet). c .core .head .cards) (t .cabinet) ∙ ap (λ (p : Plan). applyAll (p .edits) s .core .head .cards) (done-plan checks answered (fix (lines limits16 (view s)) ∷ []) off)
 
     -- the list holds each card's record at the card's own place
     pub in-place : recordsAfter (made .reply) records ≡ sets records 0 (tabulate n (λ c. recordOf (row c)))
@@ -161,12 +161,12 @@ module _ (s : Cabinet) (records : List CardRecord) (list listNow : List ℕ) (a 
         ∙ ap (λ (l : List CardRecord). sets records 0 l) (ap (map recordOf) (rows-first n few row) ∙ map-tabulate recordOf n row)
 
     lent-fixed : filled (numbersOf a) records ≡ recordsAfter (made .reply) records
-    lent-fixed = filled-all (numbersOf a) records n (ap (λ (r : FixReply). cardsIn r (a .cabinet .head .cards)) d ∙ cards) (let w : _ = width16 in omega (arith, few, w)) fit ∙ sym in-place
+    lent-fixed = filled-all (numbersOf a) records n (ap (λ (r : FixReply). cardsIn r (a .cabinet .core .head .cards)) d ∙ cards) (let w : _ = width16 in omega (arith, few, w)) fit ∙ sym in-place
 
   lent : (r : FixReply) → a .reply ≡ r → filled (numbersOf a) records ≡ recordsAfter (made .reply) records
   lent (Fixed k) d = lent-fixed k d
   lent (NotFixed q) d = lent-refused q d
 
   -- the contract, from what the three calls say
-  pub lends : (numbers : CardNumbers) (recordsNow : List CardRecord) → numbers ≡ numbersOf a → recordsNow ≡ filled numbers records → FixLent s records recordsNow list listNow (a .stored) (a .line) (a .reply) (a .cabinet)
+  pub lends : (numbers : CardNumbers) (recordsNow : List CardRecord) → numbers ≡ numbersOf a → recordsNow ≡ filled numbers records → FixLent s records recordsNow list listNow (a .reply) (a .cabinet)
   lends numbers recordsNow e f = record { carried = t; filled = f ∙ ap (λ (h : CardNumbers). filled h records) e ∙ lent (a .reply) refl }

@@ -33,9 +33,9 @@ no-edits [] a q es e = let z : _≡_ {A = ℕ} 0 1 = cc in absurd (omega arith)
 no-edits ((true ⇒ r) ∷ cs) a q es e = refl
 no-edits ((false ⇒ r) ∷ cs) a q es e = no-edits cs a q es e
 
-module _ (s : Cabinet) (records recordsNow : List CardRecord) (list listNow stored line : List ℕ) (next : Cabinet) where
+module _ (s : Cabinet) (records recordsNow : List CardRecord) (list listNow : List ℕ) (next : Cabinet) where
   -- "A refusal .. changes no cabinet, list or buffer": 4 too
-  module _ (q : Refusal) (t : FixLent s records recordsNow list listNow stored line (NotFixed q) next) where
+  module _ (q : Refusal) (t : FixLent s records recordsNow list listNow (NotFixed q) next) where
     pub records-kept : recordsNow ≡ records
     records-kept = t .filled ∙ sym (ap (λ (x : plan.Reply). recordsAfter x records) (t .carried .told .answer))
 
@@ -47,32 +47,32 @@ module _ (s : Cabinet) (records recordsNow : List CardRecord) (list listNow stor
         t .carried .cabinet
         ∙ ap (λ (es : List Edit). applyAll es s) (no-edits (fixChecks limits16 (view s) (length records) (length list) (t .carried .told .lost)) (fixed (cardRows limits16 (view s)) (t .carried .told .lost)) q (fix (lines limits16 (view s)) ∷ []) (t .carried .told .answer))
 
-  module _ (k : ℕ) (t : FixLent s records recordsNow list listNow stored line (Fixed k) next) where
+  module _ (k : ℕ) (t : FixLent s records recordsNow list listNow (Fixed k) next) where
     abbrev recordHere : ℕ → CardRecord
-    recordHere c = record { card = c; stored = at stored c; line = at line c }
+    recordHere c = record { card = c; stored = at (next .core .stored) c; line = at (next .core .line) c }
 
     abbrev answer : FixAnswer
-    answer = record { cabinet = next; stored = stored; line = line; reply = Fixed k }
+    answer = record { cabinet = next; reply = Fixed k }
 
-    now-is : recordsNow ≡ sets records 0 (tabulate (s .head .cards) recordHere)
+    now-is : recordsNow ≡ sets records 0 (tabulate (s .core .head .cards) recordHere)
     now-is = t .filled ∙ in-place s records list listNow answer (t .carried) k refl
 
-    room : s .head .cards ≤ length records
+    room : s .core .head .cards ≤ length records
     room = fit s records list listNow answer (t .carried) k refl
 
     -- "(card, stored, line), in card order"
-    pub record-at : (c : ℕ) (d : CardRecord) → c < s .head .cards → getD recordsNow c d ≡ recordHere c
+    pub record-at : (c : ℕ) (d : CardRecord) → c < s .core .head .cards → getD recordsNow c d ≡ recordHere c
     record-at c d h =
-        let e : length (tabulate (s .head .cards) recordHere) ≡ s .head .cards = length-tabulate (s .head .cards) recordHere in
-        let l : s .head .cards ≤ length records = room in
+        let e : length (tabulate (s .core .head .cards) recordHere) ≡ s .core .head .cards = length-tabulate (s .core .head .cards) recordHere in
+        let l : s .core .head .cards ≤ length records = room in
         ap (λ (l : List CardRecord). getD l c d) now-is
-        ∙ ap (λ (i : ℕ). getD (sets records 0 (tabulate (s .head .cards) recordHere)) i d) (sym (zero-add c))
-        ∙ getD-sets-in (tabulate (s .head .cards) recordHere) records 0 c d (omega (arith, e, l)) (omega (arith, e, h))
-        ∙ getD-tabulate (s .head .cards) recordHere d c h
+        ∙ ap (λ (i : ℕ). getD (sets records 0 (tabulate (s .core .head .cards) recordHere)) i d) (sym (zero-add c))
+        ∙ getD-sets-in (tabulate (s .core .head .cards) recordHere) records 0 c d (omega (arith, e, l)) (omega (arith, e, h))
+        ∙ getD-tabulate (s .core .head .cards) recordHere d c h
 
     -- "Places beyond an answer keep what they held."
-    pub beyond-kept : (c : ℕ) (d : CardRecord) → s .head .cards ≤ c → getD recordsNow c d ≡ getD records c d
+    pub beyond-kept : (c : ℕ) (d : CardRecord) → s .core .head .cards ≤ c → getD recordsNow c d ≡ getD records c d
     beyond-kept c d h =
-        let e : length (tabulate (s .head .cards) recordHere) ≡ s .head .cards = length-tabulate (s .head .cards) recordHere in
+        let e : length (tabulate (s .core .head .cards) recordHere) ≡ s .core .head .cards = length-tabulate (s .core .head .cards) recordHere in
         ap (λ (l : List CardRecord). getD l c d) now-is
-        ∙ getD-sets-out (tabulate (s .head .cards) recordHere) records 0 c d (inr (omega (arith, e, h)))
+        ∙ getD-sets-out (tabulate (s .core .head .cards) recordHere) records 0 c d (inr (omega (arith, e, h)))

@@ -38,9 +38,9 @@ cardsIn (NotFixed r) n = 0
 
 -- what there is to put into the list of card records
 abbrev pub numbersOf : FixAnswer → CardNumbers
-numbersOf a = record { cards = cardsIn (a .reply) (a .cabinet .head .cards); first = a .stored; second = a .line }
+numbersOf a = record { cards = cardsIn (a .reply) (a .cabinet .core .head .cards); first = a .cabinet .core .stored; second = a .cabinet .core .line }
 
 -- call 9 with both lists lent: the plan where there are as many places as each list has, and every place of each list after it
-pub record FixLent (s : Cabinet) (records recordsNow : List CardRecord) (list listNow stored line : List ℕ) (reply : FixReply) (next : Cabinet) : Type 0 where
-  pub carried : FixCarried s (length records) list listNow stored line reply next
+pub record FixLent (s : Cabinet) (records recordsNow : List CardRecord) (list listNow : List ℕ) (reply : FixReply) (next : Cabinet) : Type 0 where
+  pub carried : FixCarried s (length records) list listNow reply next
   pub filled : recordsNow ≡ recordsAfter (fixPlan limits16 (view s) (length records) (length list) (carried .told .lost) .reply) records

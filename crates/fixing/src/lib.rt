@@ -17,9 +17,9 @@ pub struct RecordsAnswer {
 fn numbers_of(answer: FixAnswer) -> CardNumbers
     ensures { λ r. ⌜ r ≡ numbersOf answer ⌝ }
 {
-    let cards = answer.cabinet.head.cards;
-    let stored = answer.stored;
-    let line = answer.line;
+    let cards = answer.cabinet.core.head.cards;
+    let stored = answer.cabinet.core.stored;
+    let line = answer.cabinet.core.line;
     let reply = answer.reply;
     match reply {
         FixReply::Fixed(_) => CardNumbers {
@@ -41,7 +41,7 @@ pub fn fix<'a, 'b>(
     records: &'a mut [CardRecord],
     list: &'b mut [u32],
 ) -> FixAnswer
-    ensures { λ r. ⌜ FixLent cabinet (now (records .entry)) (now (records .exit)) (now (list .entry)) (now (list .exit)) (r .stored) (r .line) (r .reply) (r .cabinet) ⌝ }
+    ensures { λ r. ⌜ FixLent cabinet (now (records .entry)) (now (records .exit)) (now (list .entry)) (now (list .exit)) (r .reply) (r .cabinet) ⌝ }
 {
     let answer = cabinet.fix(records.len(), list);
     let numbers = numbers_of(answer);
@@ -65,7 +65,7 @@ pub fn fix_array<'a>(
     mut records: [CardRecord; 16],
     list: &'a mut [u32],
 ) -> RecordsAnswer
-    ensures { λ r. ⌜ FixLent cabinet records (r .records) (now (list .entry)) (now (list .exit)) (r .answer .stored) (r .answer .line) (r .answer .reply) (r .answer .cabinet) ⌝ }
+    ensures { λ r. ⌜ FixLent cabinet records (r .records) (now (list .entry)) (now (list .exit)) (r .answer .reply) (r .answer .cabinet) ⌝ }
 {
     let answer = fix(cabinet, &mut records, list);
     with_records(answer, records)

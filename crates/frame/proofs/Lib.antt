@@ -1,2 +1,4 @@
+pub mod Entries
 pub mod Judged
+pub mod Layouts
 pub mod Passed

@@ -15,12 +15,12 @@ use Rattle.digits.specs.declared.Line.{Line}
 use Rattle.digits.specs.declared.Line.the-variants.{Whole, Fault}
 use Rattle.digits.specs.Line.{checked, shaped, shapeOf}
 use Rattle.digits.proofs.Lines.{whole-shaped, shaped-whole}
-use Rattle.frame.specs.declared.Verdict.{Verdict}
-use Rattle.frame.specs.declared.Verdict.the-variants.{Accepted, Refused}
+use Rattle.refusal.specs.declared.Verdict.{Verdict}
+use Rattle.refusal.specs.declared.Verdict.the-variants.{Accepted, Refused}
 use Rattle.frame.specs.declared.Header.{Header}
 use Rattle.frame.specs.declared.Frame.{Frame}
 use Rattle.frame.specs.Format.{Format}
-use Rattle.frame.specs.Lines.{judged, startOf, headerDigits, headerIn, headerAllowed, headerVerdict, frameDigits, stateIn, frameIn, frameAllowed, frameVerdict}
+use Rattle.frame.specs.Lines.{judged, cardsOf, startOf, headerDigits, headerIn, headerAllowed, headerVerdict, frameDigits, stateIn, frameIn, frameAllowed, frameVerdict}
 
 -- a line that is accepted passed all three tests
 pub record Passed (line : Line) (right allowed : Bool) : Type 0 where
@@ -41,9 +41,9 @@ passes r x y z = rw (x, y, z)
 pub record Header-in-limits (f : Format) (due first : ℕ) (h : Header) : Type 0 where
   pub session : h .session ≡ 0 → ⊥
   pub card : h .card ≡ due
-  pub below : h .card < h .cards
-  pub cards : h .cards ≤ f .cards
-  pub agrees : (eqb first 0 || eqb (h .cards) first) ≡ true
+  pub below : h .card < cardsOf f h
+  pub cards : cardsOf f h ≤ f .cards
+  pub agrees : (eqb first 0 || eqb (cardsOf f h) first) ≡ true
   pub count : h .count ≤ f .frames
   pub states : h .base + h .count ≤ f .states
 
@@ -52,9 +52,9 @@ unfolding headerAllowed
 header-limits f due first h e =
     let a = not (eqb (h .session) 0) in
     let b = eqb (h .card) due in
-    let c = ltb (h .card) (h .cards) in
-    let d = leb (h .cards) (f .cards) in
-    let g = eqb first 0 || eqb (h .cards) first in
+    let c = ltb (h .card) (cardsOf f h) in
+    let d = leb (cardsOf f h) (f .cards) in
+    let g = eqb first 0 || eqb (cardsOf f h) first in
     let i = leb (h .count) (f .frames) in
     let j = leb (h .base + h .count) (f .states) in
     let e₁ = and-right a (b && (c && (d && (g && (i && j))))) e in
@@ -65,8 +65,8 @@ header-limits f due first h e =
     record {
       session = eqb-false (h .session) 0 (not-true (eqb (h .session) 0) (and-left a (b && (c && (d && (g && (i && j))))) e));
       card = eqb-true (h .card) due (and-left b (c && (d && (g && (i && j)))) e₁);
-      below = ltb-true (h .card) (h .cards) (and-left c (d && (g && (i && j))) e₂);
-      cards = leb-true (h .cards) (f .cards) (and-left d (g && (i && j)) e₃);
+      below = ltb-true (h .card) (cardsOf f h) (and-left c (d && (g && (i && j))) e₂);
+      cards = leb-true (cardsOf f h) (f .cards) (and-left d (g && (i && j)) e₃);
       agrees = and-left g (i && j) e₄;
       count = leb-true (h .count) (f .frames) (and-left i j e₅);
       states = leb-true (h .base + h .count) (f .states) (and-right i j e₅);

@@ -1,5 +1,5 @@
 -- Document 01's header line and frame line: their bytes, and what their readers answer.
-use Prim.Native.Nat.{ℕ, _+_, _*_}
+use Prim.Native.Nat.{ℕ, _+_, _*_, _-_}
 use mathlib.Core.Bool.{Bool, true, false, not, _&&_, _||_, cond}
 use mathlib.Core.List.{List, [], _∷_, map}
 use lib.Dec.{leb, ltb, eqb}
@@ -13,8 +13,8 @@ use Rattle.digits.specs.declared.Line.the-variants.{Whole, Fault}
 use Rattle.digits.specs.Digits.{number, numbers, written}
 use Rattle.digits.specs.Line.{lineOf, checked, shapeOf}
 use Rattle.laws.specs.Below.{allBelow}
-use Rattle.frame.specs.declared.Verdict.{Verdict}
-use Rattle.frame.specs.declared.Verdict.the-variants.{Accepted, Refused}
+use Rattle.refusal.specs.declared.Verdict.{Verdict}
+use Rattle.refusal.specs.declared.Verdict.the-variants.{Accepted, Refused}
 use Rattle.frame.specs.declared.Header.{Header}
 use Rattle.frame.specs.declared.HeaderLine.{HeaderLine}
 use Rattle.frame.specs.declared.HeaderLine.the-variants.{Read as header-read, Fault as header-fault}
@@ -22,7 +22,7 @@ use Rattle.frame.specs.declared.Frame.{Frame}
 use Rattle.frame.specs.declared.FrameLine.{FrameLine}
 use Rattle.frame.specs.declared.FrameRead.{FrameRead}
 use Rattle.frame.specs.declared.FrameLine.the-variants.{Read as frame-read, Fault as frame-fault}
-use Rattle.frame.specs.Format.{Format, noneOf, dependency, entryOf}
+use Rattle.frame.specs.Format.{Format, Formats, noneOf, heldBy, shownBy}
 
 -- the order of a line's refusals: "8, 5, 6, then 7 or 9"
 abbrev pub judged : Line → Bool → Bool → Refusal → Verdict
@@ -40,6 +40,18 @@ headerDigits f = f .width + 16
 
 abbrev pub headerNumbers : Header → List ℕ
 headerNumbers h = h .session ∷ h .card ∷ h .cards ∷ h .base ∷ h .count ∷ []
+
+-- the number of cards that a header tells, without the raise
+abbrev pub cardsOf : Format → Header → ℕ
+cardsOf f h = f .unraised (h .cards)
+
+-- the format that is picked by the number of cards of the header that stands first in the input
+abbrev pub formatIn : Formats → List ℕ → Format
+formatIn F input = F (number (take 2 (drop 10 input)))
+
+-- the format of a sheet, by its header
+abbrev pub formatFor : Formats → Header → Format
+formatFor F h = F (h .cards)
 
 -- the starting sums of a sheet's checks
 abbrev pub startOf : Format → Header → Sums
@@ -64,9 +76,9 @@ unfoldable pub headerAllowed : Format → ℕ → ℕ → Header → Bool
 headerAllowed f due first h =
     not (eqb (h .session) 0)
     && (eqb (h .card) due
-    && (ltb (h .card) (h .cards)
-    && (leb (h .cards) (f .cards)
-    && ((eqb first 0 || eqb (h .cards) first)
+    && (ltb (h .card) (cardsOf f h)
+    && (leb (cardsOf f h) (f .cards)
+    && ((eqb first 0 || eqb (cardsOf f h) first)
     && (leb (h .count) (f .frames)
     && leb (h .base + h .count) (f .states))))))
 
@@ -95,7 +107,7 @@ abbrev pub frameDigits : Format → ℕ → ℕ
 frameDigits f n = f .width + 8 + n * f .width
 
 abbrev pub frameNumbers : Format → ℕ → Frame → List ℕ
-frameNumbers f state fr = state ∷ fr .change ∷ map (entryOf (noneOf f)) (fr .entries)
+frameNumbers f state fr = state ∷ fr .change ∷ map (shownBy (f .short) (noneOf f)) (fr .entries)
 
 unfoldable pub frameLine : Format → Sums → ℕ → ℕ → Frame → List ℕ
 frameLine f start n state fr = lineOf start (written (frameWidths f n) (frameNumbers f state fr))
@@ -104,16 +116,19 @@ frameLine f start n state fr = lineOf start (written (frameWidths f n) (frameNum
 unfoldable pub stateIn : Format → List ℕ → ℕ
 stateIn f input = number (take (f .width) input)
 
--- the dependencies of n entries whose digits stand first in the input
+-- what is held of n entries whose digits stand first in the input
+abbrev pub entriesBy : ℕ → (ℕ → ℕ) → ℕ → List ℕ → List ℕ
+entriesBy width held n input = map held (numbers (replicate n width) input)
+
 unfoldable pub entriesIn : Format → ℕ → List ℕ → List ℕ
-entriesIn f n input = map (dependency (noneOf f)) (numbers (replicate n (f .width)) input)
+entriesIn f n input = entriesBy (f .width) (heldBy (f .short) (noneOf f)) n input
 
 unfoldable pub frameIn : Format → ℕ → List ℕ → Frame
 frameIn f n input = record { change = number (take 8 (drop (f .width) input)); entries = entriesIn f n (drop (f .width + 8) input) }
 
 -- an entry that refusal 9 lets pass: p is the same entry of the frame before, or 0; j is its card
 abbrev pub entryAllowed : Format → ℕ → ℕ → ℕ → ℕ → ℕ → Bool
-entryAllowed f card state j p e = leb p e && (leb e (f .states) && (not (eqb j card) || eqb e state))
+entryAllowed f card state j p e = (f .short || leb p e) && (leb e (f .states) && (not (eqb j card) || eqb e state))
 
 unfoldable pub entriesAllowed : Format → ℕ → ℕ → ℕ → List ℕ → List ℕ → Bool
 entriesAllowed f card state n ps es = allBelow n (λ j. entryAllowed f card state j (getD ps j 0) (getD es j 0))

@@ -1,9 +1,10 @@
 // The header line and the frame line of a card's sheet: what they hold, and what their readers answer.
 ghost use mathlib.Core.Path.{_≡_};
-ghost use Rattle.frame.specs.Format.{format};
+ghost use Rattle.frame.specs.Format.{format, formatOf, Fits, plain, formats};
 ghost use Rattle.frame.specs.Lines.{headerTold, frameTold};
 use digits::Sums;
 use refusal::Refusal;
+use refusal::Verdict;
 
 // The limits of document 01, and the number that says none in a sheet.
 pub struct Limits {}
@@ -18,6 +19,16 @@ impl Limits {
     pub const NONE: u32 = 65535;
 }
 
+// What the readers and writers of lines are told of a sheet's format: the number that says none, the greatest state,
+// what a header's number of cards is raised by, the digits of a state and of an entry, and whether entries are needs.
+pub struct Layout {
+    pub none: u32,
+    pub states: u32,
+    pub raise: u32,
+    pub width: usize,
+    pub short: bool,
+}
+
 pub struct Header {
     pub session: u32,
     pub card: u32,
@@ -30,11 +41,6 @@ pub struct Header {
 pub struct Frame {
     pub change: u32,
     pub entries: [u32; 16],
-}
-
-pub enum Verdict {
-    Accepted,
-    Refused(Refusal),
 }
 
 // What the reader of a header line answers.
@@ -53,6 +59,27 @@ pub enum FrameLine {
 pub struct FrameRead {
     pub entries: [u32; 16],
     pub line: FrameLine,
+}
+
+// Document 01's layout.
+pub fn plain() -> Layout
+    ensures { λ r. ⌜ r ≡ plain ⌝ }
+{
+    Layout {
+        none: 65535,
+        states: 60000,
+        raise: 0,
+        width: 4,
+        short: false,
+    }
+}
+
+// The layout of a sheet whose header tells a number of cards.
+pub fn layout_of(told: u32) -> Layout
+    ensures format { λ r. ⌜ formatOf r ≡ formats told ⌝ }
+    ensures fits { λ r. ⌜ Fits r ⌝ }
+{
+    plain()
 }
 
 pub fn header_told(l: HeaderLine) -> Verdict

@@ -10,7 +10,7 @@ use borrow.Author.Tests.{le-leb, eq-eqb, ne-eqb, eqb-true}
 use Rattle.laws.specs.Below.{allBelow}
 use Rattle.laws.proofs.Below.{all-at, all-intro, all-same}
 use Rattle.laws.proofs.Logic.{same-test}
-use Rattle.frame.specs.Format.{format}
+use Rattle.frame.specs.Format.{Format}
 use Rattle.frame.specs.Lines.{entryAllowed, entriesAllowed}
 
 -- a test of every number below a + b is one below a and one of the b behind it
@@ -30,17 +30,25 @@ all-split a (suc b) p =
 
 -- the test of a further card's entry
 abbrev absent : ℕ → ℕ → ℕ → Bool
-absent card state j = entryAllowed format card state (16 + j) 0 0
+absent card state j = not (eqb (16 + j) card) || eqb 0 state
+
+-- in every format none passes but for the own entry
+absent-is : (f : Format) (card state j : ℕ) → entryAllowed f card state (16 + j) 0 0 ≡ absent card state j
+absent-is f card state j = rw (le-leb 0 0 (omega arith), le-leb 0 (f .states) (omega arith)) (ap (λ (b : Bool). b && absent card state j) (either (f .short)))
+  where
+    either : (b : Bool) → b || true ≡ true
+    either true = refl
+    either false = refl
 
 entries-split :
-    (card state n : ℕ) (ps es : List ℕ) {m : ℕ} →
+    (f : Format) (card state n : ℕ) (ps es : List ℕ) {m : ℕ} →
     length ps ≡ 16 →
     length es ≡ 16 →
     m ≡ min n 16 →
-    (entriesAllowed format card state m ps es && allBelow (n - 16) (absent card state)) ≡ entriesAllowed format card state n ps es
+    (entriesAllowed f card state m ps es && allBelow (n - 16) (absent card state)) ≡ entriesAllowed f card state n ps es
 unfolding entriesAllowed
-entries-split card state n ps es {m} x y e =
-    let p : ℕ → Bool = λ j. entryAllowed format card state j (getD ps j 0) (getD es j 0) in
+entries-split f card state n ps es {m} x y e =
+    let p : ℕ → Bool = λ j. entryAllowed f card state j (getD ps j 0) (getD es j 0) in
     let z : n ≡ m + (n - 16) = omega (arith, e) in
     ap (λ (b : Bool). allBelow m p && b)
     (all-same (n - 16) (absent card state) (λ j. p (m + j))
@@ -48,12 +56,12 @@ entries-split card state n ps es {m} x y e =
     let k : m + j ≡ 16 + j = omega (arith, e, h) in
     let u : getD ps (m + j) 0 ≡ 0 = List·getD-eq-default ps 0 (omega arith) in
     let v : getD es (m + j) 0 ≡ 0 = List·getD-eq-default es 0 (omega arith) in
-    sym (rw (u, v, k))))
+    sym (rw (u, v, k) (absent-is f card state j))))
     ∙ sym (ap (λ (k : ℕ). allBelow k p) z ∙ all-split m (n - 16) p)
 
 -- an entry of another card passes where it is none
 other-absent : (card state j : ℕ) → (16 + j ≡ card → ⊥) → absent card state j ≡ true
-other-absent card state j h = rw (le-leb 0 0 (omega arith), le-leb 0 60000 (omega arith), ne-eqb (16 + j) card h)
+other-absent card state j h = rw (ne-eqb (16 + j) card h)
 
 pub absent-other : (card state n : ℕ) → ((j : ℕ) → j < n - 16 → 16 + j ≡ card → ⊥) → true ≡ allBelow (n - 16) (absent card state)
 absent-other card state n h = sym (all-intro (n - 16) (absent card state) (λ j l. other-absent card state j (h j l)))
@@ -68,7 +76,7 @@ absent-own card state n h l = same-test (eqb state 0) (allBelow (n - 16) (absent
     all-pass : eqb state 0 ≡ true → allBelow (n - 16) (absent card state) ≡ true
     all-pass e =
         let z : 0 ≡ state = sym (eqb-true state 0 e) in
-        all-intro (n - 16) (absent card state) (λ j b. rw (le-leb 0 0 (omega arith), le-leb 0 60000 (omega arith), eq-eqb 0 state z) (either (not (eqb (16 + j) card))))
+        all-intro (n - 16) (absent card state) (λ j b. rw (eq-eqb 0 state z) (either (not (eqb (16 + j) card))))
       where
         either : (b : Bool) → b || true ≡ true
         either true = refl
@@ -77,18 +85,18 @@ absent-own card state n h l = same-test (eqb state 0) (allBelow (n - 16) (absent
     own-passes : allBelow (n - 16) (absent card state) ≡ true → eqb state 0 ≡ true
     own-passes e =
         let q : absent card state (card - 16) ≡ true = all-at (n - 16) (absent card state) e (card - 16) (omega arith) in
-        let w : eqb 0 state ≡ true = rw (le-leb 0 0 (omega arith), le-leb 0 60000 (omega arith), eq-eqb (16 + (card - 16)) card at-own) at q in
+        let w : eqb 0 state ≡ true = rw (eq-eqb (16 + (card - 16)) card at-own) at q in
         eq-eqb state 0 (sym (eqb-true 0 state w))
 
 -- ---- the two tests of the code, put together
 
-module _ (card state n : ℕ) (ps es : List ℕ) {m : ℕ} (x : length ps ≡ 16) (y : length es ≡ 16) (e : m ≡ min n 16) {r : Bool} (q : r ≡ entriesAllowed format card state m ps es) where
-  pub entries-fail : r ≡ false → entriesAllowed format card state n ps es ≡ false
-  entries-fail f =
-      let z : entriesAllowed format card state m ps es ≡ false = sym q ∙ f in
-      sym (entries-split card state n ps es x y e) ∙ ap (λ (b : Bool). b && allBelow (n - 16) (absent card state)) z
+module _ (f : Format) (card state n : ℕ) (ps es : List ℕ) {m : ℕ} (x : length ps ≡ 16) (y : length es ≡ 16) (e : m ≡ min n 16) {r : Bool} (q : r ≡ entriesAllowed f card state m ps es) where
+  pub entries-fail : r ≡ false → entriesAllowed f card state n ps es ≡ false
+  entries-fail g =
+      let z : entriesAllowed f card state m ps es ≡ false = sym q ∙ g in
+      sym (entries-split f card state n ps es x y e) ∙ ap (λ (b : Bool). b && allBelow (n - 16) (absent card state)) z
 
-  pub entries-pass : {a : Bool} → r ≡ true → a ≡ allBelow (n - 16) (absent card state) → entriesAllowed format card state n ps es ≡ a
+  pub entries-pass : {a : Bool} → r ≡ true → a ≡ allBelow (n - 16) (absent card state) → entriesAllowed f card state n ps es ≡ a
   entries-pass t v =
-      let z : entriesAllowed format card state m ps es ≡ true = sym q ∙ t in
-      sym (entries-split card state n ps es x y e) ∙ ap (λ (b : Bool). b && allBelow (n - 16) (absent card state)) z ∙ sym v
+      let z : entriesAllowed f card state m ps es ≡ true = sym q ∙ t in
+      sym (entries-split f card state n ps es x y e) ∙ ap (λ (b : Bool). b && allBelow (n - 16) (absent card state)) z ∙ sym v

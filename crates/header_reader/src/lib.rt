@@ -1,28 +1,48 @@
 // The reader of a sheet's header line.
 ghost use mathlib.Core.Path.{_≡_};
-ghost use Prim.Native.Nat.{_+_, _≤_};
-ghost use lib.ListN.{length, drop};
+ghost use Prim.Native.Nat.{_+_, _-_, _≤_};
+ghost use lib.ListN.{length, take, drop};
 ghost use lib.Dec.{eqb};
 ghost use mathlib.Core.Bool.{_||_};
+ghost use Rattle.digits.specs.Digits.{number};
 ghost use Rattle.digits.specs.Line.{shapeOf};
 ghost use Rattle.digits.specs.declared.Line.the-variants.{Whole};
-ghost use Rattle.frame.specs.Format.{format};
+ghost use Rattle.frame.specs.Format.{formatOf};
 ghost use Rattle.frame.specs.Lines.{headerIn, headerAllowed, headerVerdict, headerOr};
 use digits::Line;
 use frame::Header;
 use frame::HeaderLine;
+use frame::Layout;
 use frame::Limits;
 use refusal::Refusal;
 
-fn header_in(s: &[u8], at: usize) -> Header
-    requires { ⌜ at + 20 ≤ length (now s) ⌝ }
-    ensures { λ r. ⌜ r ≡ headerIn format (drop at (now (s .entry))) ⌝ }
+// The number of cards that the header line at `at` tells, from as many of its digits as there are.
+pub fn told_at(s: &[u8], at: usize) -> u32
+    ensures { λ r. ⌜ r ≡ number (take 2 (drop 10 (drop at (now (s .entry))))) ⌝ }
 {
+    if s.len() <= at {
+        return 0;
+    }
+    let left = s.len() - at;
+    if left <= 10 {
+        return 0;
+    }
+    if left == 11 {
+        return digits::number_at(s, at + 10, 1);
+    }
+    digits::number_at(s, at + 10, 2)
+}
+
+fn header_in(f: Layout, s: &[u8], at: usize) -> Header
+    requires { ⌜ (f .width ≤ 8) × (at + (f .width + 16) ≤ length (now s)) ⌝ }
+    ensures { λ r. ⌜ r ≡ headerIn (formatOf f) (drop at (now (s .entry))) ⌝ }
+{
+    let width = f.width;
     let session = digits::number_at(s, at, 8);
     let card = digits::number_at(s, at + 8, 2);
     let cards = digits::number_at(s, at + 10, 2);
-    let base = digits::number_at(s, at + 12, 4);
-    let count = digits::number_at(s, at + 16, 4);
+    let base = digits::number_at(s, at + 12, width);
+    let count = digits::number_at(s, at + (width + 12), 4);
     Header {
         session,
         card,
@@ -30,6 +50,13 @@ fn header_in(s: &[u8], at: usize) -> Header
         base,
         count,
     }
+}
+
+// The number of cards without the raise.
+pub fn unraised(cards: u32, raise: u32) -> u32
+    ensures { λ r. ⌜ r ≡ cards - raise ⌝ }
+{
+    if cards < raise { 0 } else { cards - raise }
 }
 
 // Whether a number of cards is the first sheet's, or this is the first sheet.
@@ -42,55 +69,59 @@ fn agrees(cards: u32, first: u32) -> bool
     cards == first
 }
 
-pub fn header_allowed(h: Header, due: u32, first: u32) -> bool
-    ensures { λ r. ⌜ r ≡ headerAllowed format due first h ⌝ }
+pub fn header_allowed(f: Layout, h: Header, due: u32, first: u32) -> bool
+    ensures { λ r. ⌜ r ≡ headerAllowed (formatOf f) due first h ⌝ }
 {
+    let states = f.states;
+    let cards = unraised(h.cards, f.raise);
     if h.session == 0 {
         return false;
     }
     if h.card != due {
         return false;
     }
-    if h.cards <= h.card {
+    if cards <= h.card {
         return false;
     }
-    if Limits::CARDS < h.cards {
+    if Limits::CARDS < cards {
         return false;
     }
-    if !agrees(h.cards, first) {
+    if !agrees(cards, first) {
         return false;
     }
     if Limits::FRAMES < h.count {
         return false;
     }
-    if Limits::STATES < h.base {
+    if states < h.base {
         return false;
     }
-    h.count <= Limits::STATES - h.base
+    h.count <= states - h.base
 }
 
 // Reads the header line at `at`, where card `due` is due; `first` is the first sheet's number of cards, or 0.
-pub fn header_at(s: &[u8], at: usize, due: u32, first: u32) -> HeaderLine
-    ensures { λ r. ⌜ r ≡ headerOr (headerVerdict format due first (drop at (now (s .entry)))) (headerIn format (drop at (now (s .entry)))) ⌝ }
+pub fn header_at(f: Layout, s: &[u8], at: usize, due: u32, first: u32) -> HeaderLine
+    requires { ⌜ f .width ≤ 8 ⌝ }
+    ensures { λ r. ⌜ r ≡ headerOr (headerVerdict (formatOf f) due first (drop at (now (s .entry)))) (headerIn (formatOf f) (drop at (now (s .entry)))) ⌝ }
 {
-    let line = digits::shape_at(s, at, 20);
+    let line = digits::shape_at(s, at, f.width + 16);
     match line {
         Line::Fault(r) => HeaderLine::Fault(r),
-        Line::Whole => header_judged(s, at, due, first),
+        Line::Whole => header_judged(f, s, at, due, first),
     }
 }
 
 // The header of a line whose shape is right. Card and session are taken from the line before its check is judged.
-fn header_judged(s: &[u8], at: usize, due: u32, first: u32) -> HeaderLine
-    requires { ⌜ (at + 25 ≤ length (now s)) × (shapeOf 20 (drop at (now s)) ≡ Whole) ⌝ }
-    ensures { λ r. ⌜ r ≡ headerOr (headerVerdict format due first (drop at (now (s .entry)))) (headerIn format (drop at (now (s .entry)))) ⌝ }
+fn header_judged(f: Layout, s: &[u8], at: usize, due: u32, first: u32) -> HeaderLine
+    requires { ⌜ (f .width ≤ 8) × (at + (f .width + 16) + 5 ≤ length (now s)) × (shapeOf (f .width + 16) (drop at (now s)) ≡ Whole) ⌝ }
+    ensures { λ r. ⌜ r ≡ headerOr (headerVerdict (formatOf f) due first (drop at (now (s .entry)))) (headerIn (formatOf f) (drop at (now (s .entry)))) ⌝ }
 {
-    let h = header_in(s, at);
+    let digits = f.width + 16;
+    let h = header_in(f, s, at);
     let start = frame::start_of(h.card, h.session);
-    if !digits::check_at(s, at, 20, start) {
+    if !digits::check_at(s, at, digits, start) {
         return HeaderLine::Fault(Refusal::BadCheck);
     }
-    if !header_allowed(h, due, first) {
+    if !header_allowed(f, h, due, first) {
         return HeaderLine::Fault(Refusal::BadHeader);
     }
     HeaderLine::Read(h)

@@ -14,13 +14,13 @@ use Rattle.digits.specs.Digits.{written}
 use Rattle.digits.proofs.Digits.{total, written-length, written-all}
 use Rattle.digits.proofs.Lines.{line-length}
 use Rattle.frame.specs.declared.Frame.{Frame}
-use Rattle.frame.specs.Format.{format, entryOf}
+use Rattle.frame.specs.Format.{format, entryOf, formats}
 use Rattle.frame.specs.Lines.{startOf, headerLine, frameWidths, frameNumbers, frameLine}
 use Rattle.line_writer.proofs.Puts.{header-line-length}
 use Rattle.sheet.specs.Pages.{framesBytes, pageBytes}
 use Rattle.protocol.specs.Model.{Model}
 use Rattle.protocol.specs.Sound.{sound}
-use Rattle.protocol.specs.Sheets.{cardCount, sheetFrame, sheetOf}
+use Rattle.codec.specs.Sheets.{cardCount, sheetFrame, sheetOf}
 use Rattle.verdicts.specs.Shape.{limits16, at, presentOf}
 use Rattle.verdicts.proofs.Limits.{width16}
 use Rattle.card_sheet.specs.Card.{Within}
@@ -65,24 +65,24 @@ frames-few start n state f few e (suc count) =
     )
 
 module _ (s : Cabinet) (e : sound limits16 (view s) ≡ true) where
-  pub few-cards : s .head .cards ≤ 16
+  pub few-cards : s .core .head .cards ≤ 16
   few-cards = within s 0 e .cards
 
-  cards-counted : cardCount limits16 (view s) ≡ s .head .cards
-  cards-counted = count-first (presentOf (s .head .cards)) (limits16 .width) (s .head .cards) (omega (arith, few-cards, width16)) (λ k h. lt-ltb k (s .head .cards) h) (λ k h l. le-ltb k (s .head .cards) h)
+  cards-counted : cardCount limits16 (view s) ≡ s .core .head .cards
+  cards-counted = count-first (presentOf (s .core .head .cards)) (limits16 .width) (s .core .head .cards) (omega (arith, few-cards, width16)) (λ k h. lt-ltb k (s .core .head .cards) h) (λ k h l. le-ltb k (s .core .head .cards) h)
 
   -- a card's sheet has at most 3,913 bytes: a header line of 25 and 48 frame lines of 81
-  pub sheet-few : (c : ℕ) → c < s .head .cards → length (pageBytes format (sheetOf limits16 (view s) c)) ≤ 3913
+  pub sheet-few : (c : ℕ) → c < s .core .head .cards → length (pageBytes formats (sheetOf limits16 (view s) c)) ≤ 3913
   sheet-few c h =
-      let base : ℕ = at (s .base) c in
-      let count : ℕ = at (s .stored) c - base in
+      let base : ℕ = at (s .core .base) c in
+      let count : ℕ = at (s .core .stored) c - base in
       let frames : (ℕ → Frame) = λ k. sheetFrame limits16 (view s) c (suc (base + k)) in
       let p = sheetOf limits16 (view s) c in
       let n : ℕ = cardCount limits16 (view s) in
       omega (
         arith,
         length-append (headerLine format (p .header)) (framesBytes format (startOf format (p .header)) n (base + 1) (tabulate count frames)),
-        header-line-length (p .header),
+        header-line-length format (p .header),
         frames-few (startOf format (p .header)) n (base + 1) frames (omega (arith, cards-counted, few-cards)) (λ k. length-tabulate n (view s .memory .frame c (suc (base + k)))) count,
         within s c e .high h,
       )

@@ -13,13 +13,14 @@ use Rattle.laws.specs.Below.{selected}
 use Rattle.laws.proofs.Below.{selected-first}
 use Rattle.laws.proofs.Logic.{and-intro}
 use Rattle.refusal.specs.declared.Refusal.the-variants.{NoSuchCard, TooShort, BadCabinet}
-use Rattle.frame.specs.Format.{format}
+use Rattle.frame.specs.Format.{formats}
 use Rattle.sheet.specs.Pages.{Page, pageBytes, pagesBytes}
 use Rattle.protocol.specs.Model.{Model, isCard}
 use Rattle.protocol.specs.Plan.{Reply, accepted, written, Check, _⇒_, Plan, checked}
 use Rattle.protocol.specs.Sound.{sound}
-use Rattle.protocol.specs.Sheets.{sheetOf, sheets, sheetPlan, joinedSheets}
-use Rattle.protocol.proofs.Restart.{sheets-are}
+use Rattle.protocol.specs.Codec.{sheetPlan}
+use Rattle.codec.specs.Sheets.{sheetOf, sheets, joinedSheets, codec}
+use Rattle.codec.proofs.Written.{sheets-are}
 use Rattle.verdicts.specs.Shape.{limits16, presentOf}
 use Rattle.verdicts.proofs.Limits.{width16}
 use Rattle.write.specs.declared.Written.{Written}
@@ -32,36 +33,36 @@ use Rattle.joined.proofs.Bytes.{few-cards, sheet-few}
 
 -- ---- the sheets of the first cards
 
-pages-append : (xs ys : List Page) → pagesBytes format (xs ++ ys) ≡ pagesBytes format xs ++ pagesBytes format ys
+pages-append : (xs ys : List Page) → pagesBytes formats (xs ++ ys) ≡ pagesBytes formats xs ++ pagesBytes formats ys
 pages-append [] ys = refl
-pages-append (x ∷ xs) ys = ap (λ (l : List ℕ). pageBytes format x ++ l) (pages-append xs ys) ∙ sym (append-assoc (pageBytes format x) (pagesBytes format xs) (pagesBytes format ys))
+pages-append (x ∷ xs) ys = ap (λ (l : List ℕ). pageBytes formats x ++ l) (pages-append xs ys) ∙ sym (append-assoc (pageBytes formats x) (pagesBytes formats xs) (pagesBytes formats ys))
 
 abbrev pub front : Cabinet → ℕ → List ℕ
-front s card = pagesBytes format (selected card (view s .present) (sheetOf limits16 (view s)))
+front s card = pagesBytes formats (selected card (view s .present) (sheetOf limits16 (view s)))
 
-front-more : (s : Cabinet) (card : ℕ) → card < s .head .cards → front s (card + 1) ≡ front s card ++ pageBytes format (sheetOf limits16 (view s) card)
+front-more : (s : Cabinet) (card : ℕ) → card < s .core .head .cards → front s (card + 1) ≡ front s card ++ pageBytes formats (sheetOf limits16 (view s) card)
 front-more s card h =
     ap (front s) (add-one card)
-    ∙ ap (λ (b : Bool). pagesBytes format (selected card (view s .present) (sheetOf limits16 (view s)) ++ cond b (sheetOf limits16 (view s) card ∷ []) [])) (lt-ltb card (s .head .cards) h)
+    ∙ ap (λ (b : Bool). pagesBytes formats (selected card (view s .present) (sheetOf limits16 (view s)) ++ cond b (sheetOf limits16 (view s) card ∷ []) [])) (lt-ltb card (s .core .head .cards) h)
     ∙ pages-append (selected card (view s .present) (sheetOf limits16 (view s))) (sheetOf limits16 (view s) card ∷ [])
-    ∙ ap (λ (l : List ℕ). front s card ++ l) (append-nil (pageBytes format (sheetOf limits16 (view s) card)))
+    ∙ ap (λ (l : List ℕ). front s card ++ l) (append-nil (pageBytes formats (sheetOf limits16 (view s) card)))
 
 -- the first cards are all cards
-front-whole : (s : Cabinet) → sound limits16 (view s) ≡ true → front s (s .head .cards) ≡ joinedSheets format limits16 (view s)
+front-whole : (s : Cabinet) → sound limits16 (view s) ≡ true → front s (s .core .head .cards) ≡ joinedSheets formats limits16 (view s)
 front-whole s e =
-    let n : ℕ = s .head .cards in
-    ap (pagesBytes format)
+    let n : ℕ = s .core .head .cards in
+    ap (pagesBytes formats)
     (selected-first (presentOf n) (sheetOf limits16 (view s)) n n (omega arith) (λ k h. lt-ltb k n h) (λ k h l. absurd (omega arith))
     ∙ sym (sheets-are limits16 n (view s) (omega (arith, few-cards s e, width16)) (λ c. refl)))
 
 -- ---- one sheet
 
 -- a sheet that has room is written
-plan-passes : (s : Cabinet) (card places : ℕ) → sound limits16 (view s) ≡ true → card < s .head .cards → length (pageBytes format (sheetOf limits16 (view s) card)) ≤ places
-    → sheetPlan format limits16 (view s) card places .reply ≡ accepted (written (pageBytes format (sheetOf limits16 (view s) card)))
+plan-passes : (s : Cabinet) (card places : ℕ) → sound limits16 (view s) ≡ true → card < s .core .head .cards → length (pageBytes formats (sheetOf limits16 (view s) card)) ≤ places
+    → sheetPlan codec limits16 (view s) card places .reply ≡ accepted (written (pageBytes formats (sheetOf limits16 (view s) card)))
 plan-passes s card places e h room =
-    let page : List ℕ = pageBytes format (sheetOf limits16 (view s) card) in
-    let there : isCard limits16 (view s) card ≡ true = and-intro (lt-ltb card (limits16 .width) (omega (arith, few-cards s e, width16))) (lt-ltb card (s .head .cards) h) in
+    let page : List ℕ = pageBytes formats (sheetOf limits16 (view s) card) in
+    let there : isCard limits16 (view s) card ≡ true = and-intro (lt-ltb card (limits16 .width) (omega (arith, few-cards s e, width16))) (lt-ltb card (s .core .head .cards) h) in
     ap (λ (a : Bool). checked (not a ⇒ BadCabinet ∷ not (isCard limits16 (view s) card) ⇒ NoSuchCard ∷ ltb places (length page) ⇒ TooShort ∷ []) (written page) [] .reply) e
     ∙ ap (λ (a : Bool). checked (not a ⇒ NoSuchCard ∷ ltb places (length page) ⇒ TooShort ∷ []) (written page) [] .reply) there
     ∙ ap (λ (a : Bool). checked (a ⇒ TooShort ∷ []) (written page) [] .reply) (le-ltb places (length page) room)
@@ -84,9 +85,9 @@ joined-none s b size = record { size = size; few = omega arith; inside = omega a
 
 -- one sheet more, written from there on: 16 sheets have room
 module _ {s : Cabinet} {b : List ℕ} {card at : ℕ} {before after : List ℕ} {q : Written} {next : Cabinet}
-    (e : sound limits16 (view s) ≡ true) (h : card < s .head .cards) (j : Joined s b card at) (w : SheetCarried s card before after q next) (size : length before ≡ length b - at) where
+    (e : sound limits16 (view s) ≡ true) (h : card < s .core .head .cards) (j : Joined s b card at) (w : SheetCarried s card before after q next) (size : length before ≡ length b - at) where
   abbrev page : List ℕ
-  page = pageBytes format (sheetOf limits16 (view s) card)
+  page = pageBytes formats (sheetOf limits16 (view s) card)
 
   taken : take (lengthTold q) after ≡ page
   taken =
@@ -109,5 +110,5 @@ module _ {s : Cabinet} {b : List ℕ} {card at : ℕ} {before after : List ℕ} 
             ∙ sym (front-more s card h);
       }
 
-pub joined-all : {s : Cabinet} {b : List ℕ} {card at : ℕ} → sound limits16 (view s) ≡ true → Joined s b card at → card ≡ s .head .cards → (at ≤ 65536) × (take at b ≡ joinedSheets format limits16 (view s))
+pub joined-all : {s : Cabinet} {b : List ℕ} {card at : ℕ} → sound limits16 (view s) ≡ true → Joined s b card at → card ≡ s .core .head .cards → (at ≤ 65536) × (take at b ≡ joinedSheets formats limits16 (view s))
 joined-all {s} e j z = (j .inside, j .bytes ∙ ap (front s) z ∙ front-whole s e)

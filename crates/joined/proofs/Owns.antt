@@ -8,7 +8,7 @@ use Rattle.readout.specs.Joint.{readoutOf}
 use Rattle.protocol.specs.Plan.{Reply, refused}
 use Rattle.protocol.specs.Run.{verdictReply}
 use Rattle.protocol.specs.Sound.{sound}
-use Rattle.protocol.specs.Sheets.{restartReply}
+use Rattle.codec.specs.Sheets.{restartReply}
 use Rattle.verdicts.specs.declared.Reply as verdict
 use Rattle.verdicts.specs.Answers.{replyOf}
 use Rattle.verdicts.specs.Shape.{limits16}

@@ -4,12 +4,12 @@ use mathlib.Core.Bool.{cond}
 use mathlib.Core.List.{List}
 use Prim.Native.Nat.{ℕ}
 use Rattle.refusal.specs.declared.Refusal.the-variants.{BadCabinet}
-use Rattle.frame.specs.Format.{format}
+use Rattle.frame.specs.Format.{formats}
 use Rattle.readout.specs.Joint.{readoutOf}
 use Rattle.protocol.specs.Plan.{Reply, refused}
 use Rattle.protocol.specs.Run.{verdictReply}
 use Rattle.protocol.specs.Sound.{sound}
-use Rattle.protocol.specs.Sheets.{joinedSheets, restartReply}
+use Rattle.codec.specs.Sheets.{joinedSheets, restartReply}
 use Rattle.verdicts.specs.Shape.{limits16}
 use Rattle.cabinet.specs.declared.Cabinet.{Cabinet}
 use Rattle.cabinet.specs.View.{view}
@@ -18,7 +18,7 @@ use Rattle.demands.specs.Lists.{goingOn}
 
 -- the bytes: "the sheets of all cards in card order, joined"
 abbrev pub ownSheets : Cabinet → List ℕ
-ownSheets c = joinedSheets format limits16 (view c)
+ownSheets c = joinedSheets formats limits16 (view c)
 
 -- no sheet of a cabinet that 28 refuses is written; else what restart answers to the bytes
 abbrev pub ownReply : Cabinet → Reply

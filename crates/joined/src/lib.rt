@@ -3,9 +3,9 @@ ghost use Prim.Native.Nat.{_≤_};
 ghost use mathlib.Core.Path.{_≡_};
 ghost use mathlib.Core.Bool.{true};
 ghost use lib.ListN.{length, take};
-ghost use Rattle.frame.specs.Format.{format};
+ghost use Rattle.frame.specs.Format.{formats};
 ghost use Rattle.protocol.specs.Sound.{sound};
-ghost use Rattle.protocol.specs.Sheets.{joinedSheets};
+ghost use Rattle.codec.specs.Sheets.{joinedSheets};
 ghost use Rattle.verdicts.specs.Shape.{limits16};
 ghost use Rattle.verdicts.specs.Answers.{replyOf};
 ghost use Rattle.card_sheet.specs.Card.{lengthTold};
@@ -30,8 +30,8 @@ fn length_told(r: Written) -> usize
 
 // The sheets of all cards in card order, joined at the front of a buffer of 65,536 bytes: how many bytes they are.
 fn join(c: Cabinet, cards: u32, buffer: &mut [u8]) -> usize
-    requires { ⌜ (sound limits16 (view c) ≡ true) × (cards ≡ c .head .cards) × (length (now buffer) ≡ 65536) ⌝ }
-    ensures { λ n. ⌜ (n ≤ 65536) × (take n (now (buffer .exit)) ≡ joinedSheets format limits16 (view c)) ⌝ }
+    requires { ⌜ (sound limits16 (view c) ≡ true) × (cards ≡ c .core .head .cards) × (length (now buffer) ≡ 65536) ⌝ }
+    ensures { λ n. ⌜ (n ≤ 65536) × (take n (now (buffer .exit)) ≡ joinedSheets formats limits16 (view c)) ⌝ }
 {
     let mut at: usize = 0;
     let mut card: u32 = 0;
@@ -49,28 +49,8 @@ fn join(c: Cabinet, cards: u32, buffer: &mut [u8]) -> usize
 fn passes_28(c: Cabinet) -> bool
     ensures { λ r. ⌜ r ≡ sound limits16 (view c) ⌝ }
 {
-    let last = c.last;
-    let pending = c.pending;
-    let places = c.places;
-    let base = c.base;
-    let stored = c.stored;
-    let held = c.held;
-    let reached = c.reached;
-    let line = c.line;
-    let head = c.head;
-    soundness::cabinet_sound(
-        &c.entries,
-        &c.makers,
-        last,
-        pending,
-        places,
-        base,
-        stored,
-        held,
-        reached,
-        line,
-        head,
-    )
+    let core = c.core;
+    soundness::cabinet_sound(&c.entries, &c.makers, core)
 }
 
 // After a refused restart the caller goes on with the cabinet it has.
@@ -92,7 +72,8 @@ fn restart_sound(c: Cabinet) -> Answer
     requires { ⌜ sound limits16 (view c) ≡ true ⌝ }
     ensures { λ r. ⌜ RestartAnswered c (replyOf (r .reply)) (r .cabinet) ⌝ }
 {
-    let head = c.head;
+    let core = c.core;
+    let head = core.head;
     let cards = head.cards;
     let mut buffer = [0u8; 65536];
     let n = join(c, cards, &mut buffer);

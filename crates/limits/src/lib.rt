@@ -1,15 +1,14 @@
 // What refusal 28 says of numbers by themselves: session, number of cards, state numbers, entries, room to write.
 ghost use mathlib.Core.Path.{_≡_};
 ghost use mathlib.Core.Bool.{cond};
-ghost use mathlib.Core.List.{[]};
 ghost use Rattle.protocol.specs.Sound.{sessionSound, cardsSound, numbersSound, entriesSound, roomToWrite};
-ghost use Rattle.verdicts.specs.Shape.{limits16, at, presentOf, numbersOf, modelOf};
+ghost use Rattle.verdicts.specs.Shape.{limits16, at, presentOf, numbersOf, headModel};
 use verdicts::Head;
 use verdicts::is_rolling;
 
 // "session 0 (while rolling also 4,294,967,295)"
 pub fn session_sound(head: Head) -> bool
-    ensures { λ r. ⌜ r ≡ sessionSound limits16 (modelOf [] [] [] [] [] [] [] [] [] [] [] 0 head) ⌝ }
+    ensures { λ r. ⌜ r ≡ sessionSound limits16 (headModel head) ⌝ }
 {
     let phase = head.phase;
     let rolling = is_rolling(phase);
@@ -18,7 +17,7 @@ pub fn session_sound(head: Head) -> bool
 
 // "a number of cards .. outside the limits"
 pub fn cards_sound(head: Head) -> bool
-    ensures { λ r. ⌜ r ≡ cardsSound limits16 (modelOf [] [] [] [] [] [] [] [] [] [] [] 0 head) ⌝ }
+    ensures { λ r. ⌜ r ≡ cardsSound limits16 (headModel head) ⌝ }
 {
     (1 <= head.cards) & (head.cards <= 16)
 }

@@ -1,33 +1,36 @@
 -- Header and frame lines, written and read back, and read and written again, for any format. Assumes nothing.
 use Prim.Native.Nat.{ℕ, zero, suc, _+_, _*_, _-_, _%_, _^_, _≤_, _<_}
 use mathlib.Core.Path.{_≡_, refl, sym, _∙_, ap, ap₂}
-use mathlib.Core.Bool.{Bool, true, false, not, _&&_, _||_, cond}
+use mathlib.Core.Bool.{Bool, true, not, _&&_, _||_}
 use mathlib.Core.List.{List, [], _∷_, _++_, map, append-assoc}
 use native.Mathlib.Nat.{mod-lt, suc-mul, add-comm, zero-mul}
+use mathlib.Core.Logic.{_⊎_, inl, inr, by-cases}
+use native.Mathlib.Decide.{decLt, ℕ-discrete}
 use native.Mathlib.Omega.{arith}
 use lib.Dec.{leb, ltb, eqb, lit<}
 use lib.ListN.{length, take, drop, getD, replicate, length-map, length-replicate, length-drop, take-append-drop, set, length-set}
-use lib.Seq.{drop-drop, take-append-le, drop-append-le, take-length, length-take-le, take-set-le}
-use borrow.Author.Tests.{leb-true, eqb-true, eqb-false, eq-eqb, ne-eqb}
-use Rattle.laws.specs.Below.{allBelow}
+use lib.Seq.{drop-set-lt, drop-set-add, getD-take, getD-set-other, drop-drop, take-append-le, drop-append-le, length-take-le, take-set-le}
+use borrow.Author.Tests.{leb-true, eqb-true, eq-eqb}
 use Rattle.laws.proofs.Below.{all-at}
-use Rattle.laws.proofs.Logic.{test, and-left, and-right, and-intro}
+use Rattle.laws.proofs.Logic.{and-left, and-right, and-intro}
 use Rattle.refusal.specs.declared.Refusal.the-variants.{BadHeader, BadFrame}
 use Rattle.digits.specs.declared.Sums.{Sums}
-use Rattle.digits.specs.Digits.{number, numbers, written, digits, allDigits}
-use Rattle.digits.specs.Line.{added, summed, checkOf, lineOf, shaped, checked, shapeOf}
-use Rattle.digits.proofs.Digits.{total, Fitting, written-length, written-all, numbers-written, written-numbers, number-take}
-use Rattle.digits.proofs.Lines.{whole-shaped, shaped-whole, line-take, line-rest, line-length, line-shaped, line-checked, line-bytes, body-all, body-length, shape, altered}
-use Rattle.frame.specs.declared.Verdict.the-variants.{Accepted}
+use Rattle.digits.specs.Digits.{isNumeral, isLetter, isDigit, number, numbers, written, digits, allDigits}
+use Rattle.digits.specs.Line.{added, summed, checkOf, lineOf, shaped, checked}
+use Rattle.digits.proofs.Digits.{total, Fitting, written-length, written-all, numbers-written, written-numbers, number-take, all-getD}
+use Rattle.digits.proofs.Lines.{whole-shaped, shaped-whole, line-rest, line-shaped, line-checked, line-bytes, body-all, body-length, shape, altered}
+use Rattle.refusal.specs.declared.Verdict.the-variants.{Accepted}
 use Rattle.frame.specs.declared.Header.{Header}
 use Rattle.frame.specs.declared.Frame.{Frame}
-use Rattle.frame.specs.Format.{Format, format, noneOf, dependency, entryOf}
-use Rattle.frame.specs.Lines.{startOf, headerWidths, headerDigits, headerNumbers, headerLine, headerIn, headerAllowed, headerVerdict, frameWidths, frameDigits, frameNumbers, frameLine, stateIn, entriesIn, frameIn, entryAllowed, entriesAllowed, frameAllowed, frameVerdict}
-use Rattle.frame.proofs.Passed.{Passed, passes, header-passed, frame-passed, Header-in-limits, header-limits}
+use Rattle.frame.specs.Format.{Format, Formats, format, formats, noneOf, heldBy, shownBy}
+use Rattle.frame.specs.Lines.{formatIn, formatFor, startOf, headerWidths, headerDigits, headerNumbers, headerLine, headerIn, headerAllowed, headerVerdict, frameWidths, frameDigits, frameNumbers, frameLine, stateIn, entriesIn, frameIn, entryAllowed, entriesAllowed, frameAllowed, frameVerdict}
+use Rattle.frame.proofs.Entries.{entry-back, entry-again, entry-small}
+use Rattle.frame.proofs.Passed.{passes, header-passed, frame-passed, header-limits}
 
 -- a format whose limits fit its widths, and whose sums start within eight bits
 pub record Sound (f : Format) : Type 0 where
-  pub cards : f .cards < 16 ^ 2
+  pub cards : (told : ℕ) → f .unraised told ≤ f .cards → told < 16 ^ 2
+  pub few : f .cards < 16 ^ 2
   pub frames : f .frames < 16 ^ 4
   pub states : f .states < 16 ^ f .width
   pub first : (card session : ℕ) → f .start card session .first < 256
@@ -35,7 +38,7 @@ pub record Sound (f : Format) : Type 0 where
 
 -- document 01's format is one
 pub format-sound : Sound format
-format-sound = record { cards = lit< tt; frames = lit< tt; states = lit< tt; first = λ c s. lit< tt; second = λ c s. lit< tt }
+format-sound = record { cards = λ k h. omega arith; few = lit< tt; frames = lit< tt; states = lit< tt; first = λ c s. lit< tt; second = λ c s. lit< tt }
 
 -- the sums stay within eight bits, and the check within 4 digits
 first-small : (s : Sums) (bs : List ℕ) → s .first < 256 → summed s bs .first < 256
@@ -64,29 +67,18 @@ own-numbers ks input n t l d =
 
 -- ---- entries
 
-pub entry-back : (all d : ℕ) → d ≤ all → dependency all (entryOf all d) ≡ d
-unfolding dependency entryOf
-entry-back all d h = test (eqb d 0) (λ (e : eqb d 0 ≡ true). rw (e, eq-eqb all all refl) (sym (eqb-true d 0 e))) (λ (e : eqb d 0 ≡ false). rw (e, ne-eqb (d - 1) all (λ (q : d - 1 ≡ all). positive (eqb-false d 0 e) q)) (omega (arith, eqb-false d 0 e)))
-  where
-    positive : (d ≡ 0 → ⊥) → d - 1 ≡ all → ⊥
-    positive z q = omega arith
-
-pub entry-again : (all e : ℕ) → entryOf all (dependency all e) ≡ e
-unfolding dependency entryOf
-entry-again all e = test (eqb e all) (λ (q : eqb e all ≡ true). rw q (sym (eqb-true e all q))) (λ (q : eqb e all ≡ false). let z : e + 1 ≡ 0 → ⊥ = λ (w : e + 1 ≡ 0). omega arith in rw (q, ne-eqb (e + 1) 0 z) (omega arith))
-
-entries-again : (all : ℕ) (es : List ℕ) → map (entryOf all) (map (dependency all) es) ≡ es
-entries-again all [] = refl
-entries-again all (e ∷ es) = ap₂ (λ (x : ℕ) (xs : List ℕ). x ∷ xs) (entry-again all e) (entries-again all es)
+entries-again : (short : Bool) (all : ℕ) (es : List ℕ) → map (shownBy short all) (map (heldBy short all) es) ≡ es
+entries-again short all [] = refl
+entries-again short all (e ∷ es) = ap₂ (λ (x : ℕ) (xs : List ℕ). x ∷ xs) (entry-again short all e) (entries-again short all es)
 
 -- every entry is at most a limit
 abbrev pub Within : ℕ → List ℕ → Type 0
 Within m [] = Unit {0}
 Within m (e ∷ es) = (e ≤ m) × Within m es
 
-entries-back : (all : ℕ) (es : List ℕ) → Within all es → map (dependency all) (map (entryOf all) es) ≡ es
-entries-back all [] w = refl
-entries-back all (e ∷ es) w = ap₂ (λ (x : ℕ) (xs : List ℕ). x ∷ xs) (entry-back all e (w .0)) (entries-back all es (w .1))
+entries-back : (short : Bool) (all : ℕ) (es : List ℕ) → Within all es → map (heldBy short all) (map (shownBy short all) es) ≡ es
+entries-back short all [] w = refl
+entries-back short all (e ∷ es) w = ap₂ (λ (x : ℕ) (xs : List ℕ). x ∷ xs) (entry-back short all e (w .0)) (entries-back short all es (w .1))
 
 within-of : (m : ℕ) (es : List ℕ) → ((j : ℕ) → j < length es → getD es j 0 ≤ m) → Within m es
 within-of m [] h = tt
@@ -97,13 +89,9 @@ within-less m k [] h w = tt
 within-less m k (e ∷ es) h w = (omega (arith, w .0), within-less m k es h (w .1))
 
 -- entries within the limit fit their width
-entries-fit : (k all : ℕ) (es : List ℕ) → all < 16 ^ k → Within all es → Fitting (replicate (length es) k) (map (entryOf all) es)
-unfolding entryOf
-entries-fit k all [] h w = tt
-entries-fit k all (e ∷ es) h w = (cond-small, entries-fit k all es h (w .1))
-  where
-    cond-small : cond (eqb e 0) all (e - 1) < 16 ^ k
-    cond-small = test (eqb e 0) (λ (q : eqb e 0 ≡ true). rw q h) (λ (q : eqb e 0 ≡ false). rw q (omega (arith, w .0)))
+entries-fit : (short : Bool) (k all : ℕ) (es : List ℕ) → all < 16 ^ k → Within all es → Fitting (replicate (length es) k) (map (shownBy short all) es)
+entries-fit short k all [] h w = tt
+entries-fit short k all (e ∷ es) h w = (omega (arith, entry-small short all e (w .0)), entries-fit short k all es h (w .1))
 
 -- ---- the header line
 
@@ -131,7 +119,7 @@ module _ (f : Format) (s : Sound f) (due first : ℕ) (h : Header) (rest : List 
   header-fits : Fitting (headerWidths f) (headerNumbers h)
   header-fits =
       let l = header-limits f due first h a in
-      (session, (omega (arith, l .below, l .cards, s .cards), (omega (arith, l .cards, s .cards), (omega (arith, l .states, s .states), (omega (arith, l .count, s .frames), tt)))))
+      (session, (omega (arith, l .below, l .cards, s .few), (s .cards (h .cards) (l .cards), (omega (arith, l .states, s .states), (omega (arith, l .count, s .frames), tt)))))
 
   header-body : List ℕ
   header-body = written (headerWidths f) (headerNumbers h)
@@ -186,7 +174,7 @@ header-again f due first input e =
 frame-numbers : (f : Format) (n : ℕ) (input : List ℕ) → frameNumbers f (stateIn f input) (frameIn f n input) ≡ numbers (frameWidths f n) input
 unfolding frameIn stateIn entriesIn
 frame-numbers f n input =
-    rw (entries-again (noneOf f) (numbers (replicate n (f .width)) (drop (f .width + 8) input)), drop-drop 8 (f .width) input)
+    rw (entries-again (f .short) (noneOf f) (numbers (replicate n (f .width)) (drop (f .width + 8) input)), drop-drop 8 (f .width) input)
 
 total-replicate : (n k : ℕ) → total (replicate n k) ≡ n * k
 total-replicate zero k = sym (zero-mul k)
@@ -214,14 +202,14 @@ module _ (f : Format) (s : Sound f) (start : Sums) (p : start .first < 256) (q :
         bound j h =
             let x = getD (last .entries) j 0 in
             let y = getD (fr .entries) j 0 in
-            leb-true y (f .states) (and-left (leb y (f .states)) (not (eqb j card) || eqb y state) (and-right (leb x y) (leb y (f .states) && (not (eqb j card) || eqb y state)) (entries-pass j h)))
+            leb-true y (f .states) (and-left (leb y (f .states)) (not (eqb j card) || eqb y state) (and-right (f .short || leb x y) (leb y (f .states) && (not (eqb j card) || eqb y state)) (entries-pass j h)))
 
     frame-fits : Fitting (frameWidths f n) (frameNumbers f state fr)
     frame-fits =
-        (omega (arith, s .states), (change, rw (← l) (entries-fit (f .width) (noneOf f) (fr .entries) (omega (arith, s .states)) (within-less (f .states) (noneOf f) (fr .entries) none-room frame-within))))
+        (omega (arith, s .states), (change, rw (← l) (entries-fit (f .short) (f .width) (noneOf f) (fr .entries) (omega (arith, s .states)) (within-less (f .states) (noneOf f) (fr .entries) none-room frame-within))))
 
     frame-count : length (frameWidths f n) ≡ length (frameNumbers f state fr)
-    frame-count = ap (λ (k : ℕ). suc (suc k)) (length-replicate n (f .width) ∙ sym l ∙ sym (length-map (fr .entries) (entryOf (noneOf f))))
+    frame-count = ap (λ (k : ℕ). suc (suc k)) (length-replicate n (f .width) ∙ sym l ∙ sym (length-map (fr .entries) (shownBy (f .short) (noneOf f))))
 
     frame-length : length (written (frameWidths f n) (frameNumbers f state fr)) ≡ frameDigits f n
     frame-length = written-length (frameWidths f n) (frameNumbers f state fr) frame-count ∙ frame-total f n
@@ -247,8 +235,8 @@ module _ (f : Format) (s : Sound f) (start : Sums) (p : start .first < 256) (q :
       where
         entries-told : frameIn f n (frameLine f start n state fr ++ rest) .entries ≡ fr .entries
         entries-told =
-            ap (map (dependency (noneOf f))) (ap (numbers (replicate n (f .width))) (sym (drop-drop 8 (f .width) (frameLine f start n state fr ++ rest))) ∙ ap (λ (xs : List ℕ). drop 2 xs) frame-reads)
-            ∙ entries-back (noneOf f) (fr .entries) (within-less (f .states) (noneOf f) (fr .entries) none-room frame-within)
+            ap (map (heldBy (f .short) (noneOf f))) (ap (numbers (replicate n (f .width))) (sym (drop-drop 8 (f .width) (frameLine f start n state fr ++ rest))) ∙ ap (λ (xs : List ℕ). drop 2 xs) frame-reads)
+            ∙ entries-back (f .short) (noneOf f) (fr .entries) (within-less (f .states) (noneOf f) (fr .entries) none-room frame-within)
 
     pub frame-rest : drop (frameDigits f n + 5) (frameLine f start n state fr ++ rest) ≡ rest
     unfolding frameLine
@@ -295,7 +283,7 @@ numbers-count (k ∷ ks) bs = ap suc (numbers-count ks (drop k bs))
 pub entries-all : (f : Format) (n : ℕ) (input : List ℕ) → length (frameIn f n input .entries) ≡ n
 unfolding frameIn entriesIn
 entries-all f n input =
-    length-map (numbers (replicate n (f .width)) (drop (f .width + 8) input)) (dependency (noneOf f)) ∙ numbers-count (replicate n (f .width)) (drop (f .width + 8) input) ∙ length-replicate n (f .width)
+    length-map (numbers (replicate n (f .width)) (drop (f .width + 8) input)) (heldBy (f .short) (noneOf f)) ∙ numbers-count (replicate n (f .width)) (drop (f .width + 8) input) ∙ length-replicate n (f .width)
 
 pub change-fits : (f : Format) (start : Sums) (card n state : ℕ) (last : Frame) (input : List ℕ) → frameVerdict f start card n state last input ≡ Accepted → frameIn f n input .change < 16 ^ 8
 unfolding frameIn
@@ -330,47 +318,114 @@ frame-altered f start card n state last input p b h e g =
     let y = frame-passed f start card n state last (set input p b) g in
     altered start start k input p b refl (λ q. refl) (whole-shaped k input (x .whole)) (x .right-is) (whole-shaped k (set input p b) (y .whole)) (y .right-is) h
 
--- a format whose first sum starts without regard to the session
-pub record Steady (f : Format) : Type 0 where
-  pub same : (card session other : ℕ) → f .start card session .first ≡ f .start card other .first
+-- headers are the same where their digits are
+same-header :
+    (f : Format) (xs ys : List ℕ) →
+    take (headerDigits f) xs ≡ take (headerDigits f) ys →
+    length (take (headerDigits f) xs) ≡ headerDigits f →
+    length (take (headerDigits f) ys) ≡ headerDigits f →
+    headerIn f xs ≡ headerIn f ys
+same-header f xs ys q l m =
+    let n = headerDigits f in
+    let ks = headerWidths f in
+    let t = header-total f in
+    header-same (headerIn f xs) (headerIn f ys)
+    (header-numbers f xs
+    ∙ ap (numbers ks) (sym (take-append-drop n xs))
+    ∙ numbers-append ks (take n xs) (drop n xs) (omega arith)
+    ∙ ap (numbers ks) q
+    ∙ sym (numbers-append ks (take n ys) (drop n ys) (omega arith))
+    ∙ ap (numbers ks) (take-append-drop n ys)
+    ∙ sym (header-numbers f ys))
+
+-- a header that is read picks its format
+pub told-again : (F : Formats) (f : Format) {h : Header} (input : List ℕ) → headerIn f input ≡ h → formatIn F input ≡ formatFor F h
+unfolding headerIn
+told-again F f input e = ap (formatFor F) e
+
+-- formats whose first sums start alike, without regard to the session
+pub record Alike (F : Formats) : Type 0 where
+  pub same : (told other card session next : ℕ) → F told .start card session .first ≡ F other .start card next .first
 
 -- document 01's format is one
-pub format-steady : Steady format
-format-steady = record { same = λ c s o. refl }
+pub formats-alike : Alike formats
+formats-alike = record { same = λ j k c s o. refl }
 
-pub header-altered :
-    (f : Format) → Steady f → (due first : ℕ) (input : List ℕ) (p b : ℕ) →
-    p < headerDigits f + 5 →
-    headerVerdict f due first input ≡ Accepted →
-    headerVerdict f due first (set input p b) ≡ Accepted →
-    b ≡ getD input p 0
-header-altered f t due first input p b h e g =
-    let k = headerDigits f in
-    let x = header-passed f due first input e in
-    let y = header-passed f due first (set input p b) g in
-    let u = headerIn f input in
-    let v = headerIn f (set input p b) in
-    let c : u .card ≡ v .card = header-limits f due first u (x .allowed-is) .card ∙ sym (header-limits f due first v (y .allowed-is) .card) in
-    let w = whole-shaped k input (x .whole) in
-    let z = whole-shaped k (set input p b) (y .whole) in
-    altered (startOf f u) (startOf f v) k input p b (ap (λ (d : ℕ). f .start d (u .session) .first) c ∙ t .same (v .card) (u .session) (v .session))
-    (λ (q : take k input ≡ take k (set input p b)). ap (startOf f) (same-header q (body-length (startOf f u) k input w) (body-length (startOf f v) k (set input p b) z)))
-    w (x .right-is) z (y .right-is) h
+-- a byte that is not among the digits of the number of cards changes no format
+told-kept : (F : Formats) (input : List ℕ) (p b : ℕ) → (p < 10) ⊎ (12 ≤ p) → formatIn F (set input p b) ≡ formatIn F input
+told-kept F input p b (inl h) = ap (λ (x : List ℕ). F (number (take 2 x))) (drop-set-lt 10 input p b h)
+told-kept F input p b (inr h) =
+    let e : p ≡ 10 + (p - 10) = omega arith in
+    let q : 2 ≤ p - 10 = omega arith in
+    ap (λ (i : ℕ). F (number (take 2 (drop 10 (set input i b))))) e ∙ ap (λ (x : List ℕ). F (number (take 2 x))) (drop-set-add 10 input (p - 10) b) ∙ ap (λ (x : List ℕ). F (number x)) (take-set-le 2 (drop 10 input) (p - 10) b q)
+
+-- no two lines of different lengths begin in bytes that agree at the shorter one's end
+not-both : (n m : ℕ) (xs ys : List ℕ) → n < m → shaped n xs ≡ true → shaped m ys ≡ true → getD xs (n + 4) 0 ≡ getD ys (n + 4) 0 → ⊥
+unfolding isDigit isNumeral isLetter
+not-both n m xs ys h s t e =
+    let a = shape n xs s in
+    let b = shape m ys t in
+    let l : n + 4 < length (take (m + 4) ys) = rw (length-take-le (m + 4) ys (omega (arith, b .long))) (omega arith) in
+    let d : isDigit (getD (take (m + 4) ys) (n + 4) 0) ≡ true = all-getD (take (m + 4) ys) (n + 4) (b .all) l in
+    let v : getD (take (m + 4) ys) (n + 4) 0 ≡ 10 = getD-take (m + 4) ys (n + 4) 0 (omega arith) ∙ sym e ∙ a .ends in
+    let z : isDigit 10 ≡ true = rw v at d in
+    let w : _≡_ {A = ℕ} 0 1 = cc in
+    absurd (omega arith)
+
+module _ (F : Formats) (t : Alike F) (due first : ℕ) (input : List ℕ) (p b : ℕ) (e : headerVerdict (formatIn F input) due first input ≡ Accepted) (g : headerVerdict (formatIn F (set input p b)) due first (set input p b) ≡ Accepted) where
+  -- where both lines are of one length
+  of-one-length : p < headerDigits (formatIn F input) + 5 → formatIn F input .width ≡ formatIn F (set input p b) .width → b ≡ getD input p 0
+  of-one-length h r =
+      let f = formatIn F input in
+      let f′ = formatIn F (set input p b) in
+      let k = headerDigits f in
+      let q : headerDigits f′ ≡ headerDigits f = ap (λ (x : ℕ). x + 16) (sym r) in
+      let x = header-passed f due first input e in
+      let y = header-passed f′ due first (set input p b) g in
+      let u = headerIn f input in
+      let v = headerIn f′ (set input p b) in
+      let c : u .card ≡ v .card = header-limits f due first u (x .allowed-is) .card ∙ sym (header-limits f′ due first v (y .allowed-is) .card) in
+      let w = whole-shaped k input (x .whole) in
+      let z : shaped k (set input p b) ≡ true = rw q at (whole-shaped (headerDigits f′) (set input p b) (y .whole)) in
+      let y′ : checked (startOf f′ v) k (set input p b) ≡ true = rw q at (y .right-is) in
+      altered (startOf f u) (startOf f′ v) k input p b
+      (ap (λ (d : ℕ). f .start d (u .session) .first) c ∙ t .same (number (take 2 (drop 10 input))) (number (take 2 (drop 10 (set input p b)))) (v .card) (u .session) (v .session))
+      (λ (s : take k input ≡ take k (set input p b)).
+      let i = same-header f input (set input p b) s (body-length (startOf f u) k input w) (body-length (startOf f u) k (set input p b) z) in
+      let j : f ≡ f′ = told-again F f input i ∙ sym (told-again F f (set input p b) refl) in
+      ap (startOf f) i ∙ ap (λ (a : Format). startOf a (headerIn a (set input p b))) j)
+      w (x .right-is) z y′ h
+
+  -- a digit of the number of cards that picks a line of another length
+  of-two-lengths : (p < 10 → ⊥) → p < 12 → (formatIn F input .width ≡ formatIn F (set input p b) .width → ⊥) → ⊥
+  of-two-lengths l h r =
+      let f = formatIn F input in
+      let f′ = formatIn F (set input p b) in
+      let w = whole-shaped (headerDigits f) input (header-passed f due first input e .whole) in
+      let z = whole-shaped (headerDigits f′) (set input p b) (header-passed f′ due first (set input p b) g .whole) in
+      by-cases (decLt (f .width) (f′ .width))
+      (λ (s : f .width < f′ .width). not-both (headerDigits f) (headerDigits f′) input (set input p b) (omega arith) w z (sym (getD-set-other input p (headerDigits f + 4) b 0 (λ (q : headerDigits f + 4 ≡ p). absurd (omega arith)))))
+      (λ (s : f .width < f′ .width → ⊥). not-both (headerDigits f′) (headerDigits f) (set input p b) input (lower s) z w (getD-set-other input p (headerDigits f′ + 4) b 0 (λ (q : headerDigits f′ + 4 ≡ p). absurd (omega arith))))
+    where
+      lower : (formatIn F input .width < formatIn F (set input p b) .width → ⊥) → headerDigits (formatIn F (set input p b)) < headerDigits (formatIn F input)
+      lower s = omega (arith, r)
+
+  pub header-altered : p < headerDigits (formatIn F input) + 5 → b ≡ getD input p 0
+  header-altered h =
+      by-cases (ℕ-discrete (formatIn F input .width) (formatIn F (set input p b) .width)) (of-one-length h)
+      (λ r.
+      by-cases (decLt p 10) (λ l. absurd (r (ap (λ (a : Format). a .width) (sym (told-kept F input p b (inl l))))))
+      (λ l. by-cases (decLt p 12) (λ m. absurd (of-two-lengths l m r)) (λ m. absurd (r (ap (λ (a : Format). a .width) (sym (told-kept F input p b (inr (late m)))))))))
+    where
+      late : (p < 12 → ⊥) → 12 ≤ p
+      late m = omega arith
+
+-- behind the header a byte changes no format
+pub told-untouched : (F : Formats) (input : List ℕ) (p b : ℕ) → headerDigits (formatIn F input) + 5 ≤ p → formatIn F (set input p b) ≡ formatIn F input
+told-untouched F input p b h = told-kept F input p b (inr (late h))
   where
-    -- headers are the same where their digits are
-    same-header : take (headerDigits f) input ≡ take (headerDigits f) (set input p b) → length (take (headerDigits f) input) ≡ headerDigits f → length (take (headerDigits f) (set input p b)) ≡ headerDigits f → headerIn f input ≡ headerIn f (set input p b)
-    same-header q l m =
-        let n = headerDigits f in
-        let ks = headerWidths f in
-        let t = header-total f in
-        header-same (headerIn f input) (headerIn f (set input p b))
-        (header-numbers f input
-        ∙ ap (numbers ks) (sym (take-append-drop n input))
-        ∙ numbers-append ks (take n input) (drop n input) (omega arith)
-        ∙ ap (numbers ks) q
-        ∙ sym (numbers-append ks (take n (set input p b)) (drop n (set input p b)) (omega arith))
-        ∙ ap (numbers ks) (take-append-drop n (set input p b))
-        ∙ sym (header-numbers f (set input p b)))
+    late : headerDigits (formatIn F input) + 5 ≤ p → 12 ≤ p
+    late l = omega arith
 
 -- ---- a byte altered behind a line
 
@@ -396,7 +451,7 @@ header-untouched f input p b h l =
 
 -- a frame, made of the numbers of its line
 from-numbers : Format → List ℕ → Frame
-from-numbers f xs = record { change = getD xs 1 0; entries = map (dependency (noneOf f)) (drop 2 xs) }
+from-numbers f xs = record { change = getD xs 1 0; entries = map (heldBy (f .short) (noneOf f)) (drop 2 xs) }
 
 frame-from : (f : Format) (n : ℕ) (input : List ℕ) → frameIn f n input ≡ from-numbers f (numbers (frameWidths f n) input)
 unfolding frameIn entriesIn from-numbers

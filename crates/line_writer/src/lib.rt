@@ -5,53 +5,72 @@ ghost use mathlib.Core.List.{map};
 ghost use lib.ListN.{length, replicate};
 ghost use lib.Seq.{sets};
 ghost use Rattle.digits.specs.Digits.{written};
-ghost use Rattle.frame.specs.Format.{format, entryOf};
+ghost use Rattle.frame.specs.Format.{formatOf, Fits, shownBy};
 ghost use Rattle.frame.specs.Lines.{headerLine, frameLine};
 use digits::Sums;
 use frame::Frame;
 use frame::Header;
-use frame::Limits;
+use frame::Layout;
 
-fn entry_of(d: u32) -> u32
-    ensures { λ r. ⌜ r ≡ entryOf 65535 d ⌝ }
+// The entry that a sheet has for what is held.
+fn entry_of(short: bool, none: u32, d: u32) -> u32
+    ensures { λ r. ⌜ r ≡ shownBy short none d ⌝ }
 {
-    if d == 0 { Limits::NONE } else { d - 1 }
+    if d == 0 {
+        return none;
+    }
+    if !short {
+        return d - 1;
+    }
+    if d == none { 0 } else { d }
 }
 
 // Writes a header line at `at`.
-pub fn put_header(b: &mut [u8], at: usize, h: Header)
-    requires { ⌜ at + 25 ≤ length (now b) ⌝ }
-    ensures { λ r. ⌜ now (b .exit) ≡ sets (now (b .entry)) at (headerLine format h) ⌝ }
+pub fn put_header(f: Layout, b: &mut [u8], at: usize, h: Header)
+    requires { ⌜ at + (f .width + 16) + 5 ≤ length (now b) ⌝ }
+    ensures { λ r. ⌜ now (b .exit) ≡ sets (now (b .entry)) at (headerLine (formatOf f) h) ⌝ }
 {
+    let width = f.width;
     digits::put_number(b, at, 8, h.session);
     digits::put_number(b, at + 8, 2, h.card);
     digits::put_number(b, at + 10, 2, h.cards);
-    digits::put_number(b, at + 12, 4, h.base);
-    digits::put_number(b, at + 16, 4, h.count);
+    digits::put_number(b, at + 12, width, h.base);
+    digits::put_number(b, at + (width + 12), 4, h.count);
     let start = frame::start_of(h.card, h.session);
-    digits::end_line(b, at, 20, start);
+    digits::end_line(b, at, width + 16, start);
 }
 
 // Writes the first n of a frame's entries from `at` on.
-fn put_entries(b: &mut [u8], at: usize, n: usize, entries: [u32; 16])
-    requires { ⌜ (n ≤ 16) × (at + n * 4 ≤ length (now b)) ⌝ }
-    ensures { λ r. ⌜ now (b .exit) ≡ sets (now (b .entry)) at (written (replicate n 4) (map (entryOf 65535) entries)) ⌝ }
+fn put_entries(
+    b: &mut [u8],
+    at: usize,
+    n: usize,
+    width: usize,
+    short: bool,
+    none: u32,
+    entries: [u32; 16],
+)
+    requires { ⌜ (n ≤ 16) × (at + n * width ≤ length (now b)) ⌝ }
+    ensures { λ r. ⌜ now (b .exit) ≡ sets (now (b .entry)) at (written (replicate n width) (map (shownBy short none) entries)) ⌝ }
 {
     let mut j = 0;
     while j < n {
-        digits::put_number(b, at + j * 4, 4, entry_of(entries[j]));
+        digits::put_state(b, at + j * width, width, entry_of(short, none, entries[j]));
         j += 1;
     }
 }
 
 // Writes a frame line of n entries at `at`.
-pub fn put_frame(b: &mut [u8], at: usize, start: Sums, n: usize, state: u32, next: Frame)
-    requires { ⌜ (n ≤ 16) × (at + n * 4 + 17 ≤ length (now b)) ⌝ }
-    ensures { λ r. ⌜ now (b .exit) ≡ sets (now (b .entry)) at (frameLine format start n state next) ⌝ }
+pub fn put_frame(f: Layout, b: &mut [u8], at: usize, start: Sums, n: usize, state: u32, next: Frame)
+    requires { ⌜ Fits f × (n ≤ 16) × (at + (f .width + 8 + n * f .width) + 5 ≤ length (now b)) ⌝ }
+    ensures { λ r. ⌜ now (b .exit) ≡ sets (now (b .entry)) at (frameLine (formatOf f) start n state next) ⌝ }
 {
-    digits::put_number(b, at, 4, state);
-    digits::put_number(b, at + 4, 8, next.change);
+    let width = f.width;
+    let short = f.short;
+    let none = f.none;
+    digits::put_number(b, at, width, state);
+    digits::put_number(b, at + width, 8, next.change);
     let entries = next.entries;
-    put_entries(b, at + 12, n, entries);
-    digits::end_line(b, at, 12 + n * 4, start);
+    put_entries(b, at + (width + 8), n, width, short, none, entries);
+    digits::end_line(b, at, width + 8 + n * width, start);
 }

@@ -5,11 +5,11 @@ use mathlib.Core.Bool.{Bool, true, false, not, _&&_, _||_, cond}
 use mathlib.Core.List.{List, [], _∷_, _++_}
 use mathlib.Core.Logic.{⊎-elim}
 use native.Mathlib.Omega.{arith}
-use lib.ListN.{length, take, drop, length-append}
+use lib.ListN.{length, take, drop}
 use lib.Seq.{sets, sets-eq, length-sets, take-at}
 use lib.Dec.{eqb, ltb}
 use borrow.Author.Tests.{lt-ltb, le-leb, ltb-false, eqb-true}
-use Rattle.laws.specs.Below.{anyBelow, countBelow, greatest, selected, occurs, one-if}
+use Rattle.laws.specs.Below.{anyBelow, countBelow, greatest, occurs, one-if}
 use Rattle.laws.proofs.Logic.{test, clash, fails, and-intro, and-right, or-elim, cond-true, cond-case}
 use Rattle.laws.proofs.Below.{any-elim, Found, greatest-above, any-same, count-same}
 use Rattle.bits.specs.Member.{member}
@@ -20,12 +20,9 @@ use Rattle.history.specs.Line.{climb}
 use Rattle.protocol.specs.Model.{Model, isCard}
 use Rattle.protocol.specs.Edit.{fix}
 use Rattle.protocol.specs.Plan.{CardRow, fixed, Check, _⇒_, Plan, accepted, refused}
-use Rattle.protocol.specs.Plan as plan
 use Rattle.protocol.specs.Sound.{sound}
 use Rattle.protocol.specs.Calls.{lines, lineOf, isLost, frameAbove, cardRows, fixChecks, fixPlan}
-use Rattle.verdicts.specs.declared.Head.{Head}
-use Rattle.verdicts.specs.declared.Place.{Place}
-use Rattle.verdicts.specs.declared.Vector.{Vector}
+use Rattle.verdicts.specs.declared.Core.{Core}
 use Rattle.verdicts.specs.declared.Reply.{Reply}
 use Rattle.verdicts.specs.declared.Reply.the-variants.{Done, Refused}
 use Rattle.verdicts.specs.Shape.{limits16, at, listOf, presentOf, ringMaker, inHand, makerInHand, headModel, modelOf}
@@ -36,7 +33,7 @@ use Rattle.verdicts.proofs.Checks.{done-plan, refused-plan}
 use Rattle.recovery.specs.declared.FixReply.the-variants.{Fixed, NotFixed}
 use Rattle.merge.specs.Merge.{maker, CardRises, Rises}
 use Rattle.lost.specs.Lost.{Rising, Counted, Written, endsOf, framedBy, endedBy, lostBy}
-use Rattle.recovery.specs.Fix.{rowsOf, listAfter, linesAfter, butLast, FixTold}
+use Rattle.recovery.specs.Fix.{rowsOf, listAfter, linesAfter, butLast, FixWorked}
 use Rattle.recovery.proofs.Rows.{length-selected, selected-same}
 use Rattle.lost.proofs.Rise.{those, rising-once, rising-one}
 use Rattle.lost.proofs.Rising.{sound-rises}
@@ -106,50 +103,50 @@ or-out : (a b : Bool) → a || b ≡ false → b ≡ false
 or-out true b e = clash refl e
 or-out false b e = e
 
-module _ (entries makers : List ℕ) (last pending : List Vector) (changes : List Place) (base stored held reached fixedLine ended : List ℕ) (h : Head) where
+module _ (entries makers : List ℕ) (core : Core) where
   abbrev pub found : Model
-  found = modelOf entries makers last pending changes base stored held reached fixedLine ended 0 h
+  found = modelOf entries makers core
 
   abbrev pub foundLine : List ℕ
   foundLine = listOf (lines limits16 found)
 
-  line-at : (c : ℕ) → c < 16 → ltb c (h .cards) ≡ true → at foundLine c ≡ lineOf limits16 found c
+  line-at : (c : ℕ) → c < 16 → ltb c (core .head .cards) ≡ true → at foundLine c ≡ lineOf limits16 found c
   line-at c l t =
       at-list (lines limits16 found) c l
-      ∙ cond-true (lineOf limits16 found c) (at base c) (and-intro (lt-ltb c (limits16 .width) (omega (arith, width16))) t)
+      ∙ cond-true (lineOf limits16 found c) (at (core .base) c) (and-intro (lt-ltb c (limits16 .width) (omega (arith, width16))) t)
 
-  frames-same : (k c x : ℕ) → at base c ≤ x → framedBy makers c x (at reached c) k ≡ frameAbove found k c x
-  frames-same k c x b = any-same (at reached c - x) (λ s. eqb (ringMaker makers c (suc (x + s))) k) (λ s. eqb (makerInHand makers base reached c (suc (x + s))) k) each
+  frames-same : (k c x : ℕ) → at (core .base) c ≤ x → framedBy makers c x (at (core .reached) c) k ≡ frameAbove found k c x
+  frames-same k c x b = any-same (at (core .reached) c - x) (λ s. eqb (ringMaker makers c (suc (x + s))) k) (λ s. eqb (makerInHand makers (core .base) (core .reached) c (suc (x + s))) k) each
     where
-      each : (s : ℕ) → s < at reached c - x → eqb (ringMaker makers c (suc (x + s))) k ≡ eqb (makerInHand makers base reached c (suc (x + s))) k
+      each : (s : ℕ) → s < at (core .reached) c - x → eqb (ringMaker makers c (suc (x + s))) k ≡ eqb (makerInHand makers (core .base) (core .reached) c (suc (x + s))) k
       each s l =
-          let e : inHand base reached c (suc (x + s)) ≡ true = and-intro (lt-ltb (at base c) (suc (x + s)) (omega arith)) (le-leb (suc (x + s)) (at reached c) (omega arith)) in
+          let e : inHand (core .base) (core .reached) c (suc (x + s)) ≡ true = and-intro (lt-ltb (at (core .base) c) (suc (x + s)) (omega arith)) (le-leb (suc (x + s)) (at (core .reached) c) (omega arith)) in
           ap (λ (b : Bool). eqb (cond b (ringMaker makers c (suc (x + s))) 0) k) (sym e)
 
-  card-same : (k c : ℕ) → c < 16 → ltb c (h .cards) && framedBy makers c (at foundLine c) (at reached c) k ≡ ltb c (h .cards) && frameAbove found k c (lineOf limits16 found c)
-  card-same k c l = test (ltb c (h .cards)) there (λ e. rw e)
+  card-same : (k c : ℕ) → c < 16 → ltb c (core .head .cards) && framedBy makers c (at foundLine c) (at (core .reached) c) k ≡ ltb c (core .head .cards) && frameAbove found k c (lineOf limits16 found c)
+  card-same k c l = test (ltb c (core .head .cards)) there (λ e. rw e)
     where
-      there : ltb c (h .cards) ≡ true → ltb c (h .cards) && framedBy makers c (at foundLine c) (at reached c) k ≡ ltb c (h .cards) && frameAbove found k c (lineOf limits16 found c)
+      there : ltb c (core .head .cards) ≡ true → ltb c (core .head .cards) && framedBy makers c (at foundLine c) (at (core .reached) c) k ≡ ltb c (core .head .cards) && frameAbove found k c (lineOf limits16 found c)
       there t =
-          ap (λ (x : ℕ). ltb c (h .cards) && framedBy makers c x (at reached c) k) (line-at c l t)
-          ∙ ap (λ (b : Bool). ltb c (h .cards) && b) (frames-same k c (lineOf limits16 found c) (climb-from _ (at base c) (at reached c - at base c)))
+          ap (λ (x : ℕ). ltb c (core .head .cards) && framedBy makers c x (at (core .reached) c) k) (line-at c l t)
+          ∙ ap (λ (b : Bool). ltb c (core .head .cards) && b) (frames-same k c (lineOf limits16 found c) (climb-from _ (at (core .base) c) (at (core .reached) c - at (core .base) c)))
 
-  pub lost-same : (k : ℕ) → lostBy makers foundLine reached ended (h .cards) k ≡ isLost limits16 found k
+  pub lost-same : (k : ℕ) → lostBy makers foundLine (core .reached) (core .ended) (core .head .cards) k ≡ isLost limits16 found k
   lost-same k =
       ap₂ (λ (a b : Bool). not (eqb k 0) && (a || b))
-      (any-same 16 (λ c. ltb c (h .cards) && framedBy makers c (at foundLine c) (at reached c) k) (λ c. ltb c (h .cards) && frameAbove found k c (lineOf limits16 found c)) (card-same k) ∙ ap (λ (w : ℕ). anyBelow w (λ c. ltb c (h .cards) && frameAbove found k c (lineOf limits16 found c))) (sym width16))
-      (ap (λ (w : ℕ). anyBelow w (λ p. eqb (at ended p) k)) (sym places8))
+      (any-same 16 (λ c. ltb c (core .head .cards) && framedBy makers c (at foundLine c) (at (core .reached) c) k) (λ c. ltb c (core .head .cards) && frameAbove found k c (lineOf limits16 found c)) (card-same k) ∙ ap (λ (w : ℕ). anyBelow w (λ c. ltb c (core .head .cards) && frameAbove found k c (lineOf limits16 found c))) (sym width16))
+      (ap (λ (w : ℕ). anyBelow w (λ p. eqb (at (core .ended) p) k)) (sym places8))
 
-  line-above : (c : ℕ) → c < 16 → at base c ≤ at foundLine c
+  line-above : (c : ℕ) → c < 16 → at (core .base) c ≤ at foundLine c
   line-above c l =
-      subst (λ (x : ℕ). at base c ≤ x) (sym (at-list (lines limits16 found) c l))
-      (cond-case (λ (x : ℕ). at base c ≤ x) (isCard limits16 found c) (λ e. climb-from _ (at base c) (at reached c - at base c)) (λ e. let s : at base c ≤ at base c = omega arith in s))
+      subst (λ (x : ℕ). at (core .base) c ≤ x) (sym (at-list (lines limits16 found) c l))
+      (cond-case (λ (x : ℕ). at (core .base) c ≤ x) (isCard limits16 found c) (λ e. climb-from _ (at (core .base) c) (at (core .reached) c - at (core .base) c)) (λ e. let s : at (core .base) c ≤ at (core .base) c = omega arith in s))
 
-  once-of : {xs : List ℕ} → Rising (lostBy makers foundLine reached ended (h .cards)) xs → (k : ℕ) → occurs k xs ≡ one-if (isLost limits16 found k)
+  once-of : {xs : List ℕ} → Rising (lostBy makers foundLine (core .reached) (core .ended) (core .head .cards)) xs → (k : ℕ) → occurs k xs ≡ one-if (isLost limits16 found k)
   once-of r k = rising-once r k ∙ ap one-if (lost-same k)
 
-  rows-same : rowsOf (h .cards) stored foundLine ≡ cardRows limits16 found
-  rows-same = selected-same (limits16 .width) (presentOf (h .cards)) _ _ (λ c l t. ap (λ (x : ℕ). record { card = c; stored = at stored c; line = x }) (line-at c (omega (arith, width16)) t))
+  rows-same : rowsOf (core .head .cards) (core .stored) foundLine ≡ cardRows limits16 found
+  rows-same = selected-same (limits16 .width) (presentOf (core .head .cards)) _ _ (λ c l t. ap (λ (x : ℕ). record { card = c; stored = at (core .stored) c; line = x }) (line-at c (omega (arith, width16)) t))
 
   module _ (cp : ℕ) (before : List ℕ) where
     abbrev first : Reply
@@ -164,51 +161,55 @@ module _ (entries makers : List ℕ) (last pending : List Vector) (changes : Lis
     answer-of : (xs : List ℕ) → firstFailing (fixChecks limits16 found cp (length before) xs) ≡ next (first) (tooShort xs) TooShort
     answer-of xs = last-check (butLast (fixChecks limits16 found cp 0 [])) (tooShort xs) TooShort
 
-    refused-told : {xs : List ℕ} (q : Refusal) → Rising (lostBy makers foundLine reached ended (h .cards)) xs → firstFailing (fixChecks limits16 found cp (length before) xs) ≡ Refused q
-        → FixTold found thePlan (h .cards) stored (listOf (λ c. 0)) before before (NotFixed q)
+    refused-told : {xs : List ℕ} (q : Refusal) → Rising (lostBy makers foundLine (core .reached) (core .ended) (core .head .cards)) xs → firstFailing (fixChecks limits16 found cp (length before) xs) ≡ Refused q
+        → FixWorked found thePlan (core .head .cards) (core .stored) (listOf (λ c. 0)) before before (NotFixed q)
     refused-told {xs} q r e =
         let p : thePlan xs ≡ record { reply = refused q; edits = [] } = refused-plan (fixChecks limits16 found cp (length before) xs) (fixed (cardRows limits16 found) xs) (fix (lines limits16 found) ∷ []) q e in
         record {
-          lost = xs;
-          once = once-of r;
-          answer = sym (ap (λ (x : Plan). x .reply) p);
-          inside = let z : 0 ≤ length before = omega arith in z;
-          list = sym (ap (λ (x : Plan). listAfter (x .reply) before) p);
-          arrays = sym (ap (λ (x : Plan). linesAfter (x .reply) found) p);
+          told = record {
+            lost = xs;
+            once = once-of r;
+            answer = sym (ap (λ (x : Plan). x .reply) p);
+            inside = let z : 0 ≤ length before = omega arith in z;
+            list = sym (ap (λ (x : Plan). listAfter (x .reply) before) p);
+          };
+          lines-are = sym (ap (λ (x : Plan). linesAfter (x .reply) found) p);
         }
 
     -- one of the checks before the last refuses
-    pub told-early : (q : Refusal) → first ≡ Refused q → FixTold found thePlan (h .cards) stored (listOf (λ c. 0)) before before (NotFixed q)
+    pub told-early : (q : Refusal) → first ≡ Refused q → FixWorked found thePlan (core .head .cards) (core .stored) (listOf (λ c. 0)) before before (NotFixed q)
     told-early q e =
-        let xs : List ℕ = those (lostBy makers foundLine reached ended (h .cards)) (suc (greatest (limits16 .width * limits16 .inHand) (at makers) + greatest (limits16 .places) (at ended))) in
-        refused-told q (lost-some (limits16 .width * limits16 .inHand) (limits16 .places) (ap₂ (λ (a b : ℕ). a * b) width16 inHand48) places8 makers foundLine reached ended (h .cards)) (answer-of xs ∙ ap (λ (r : Reply). next r (tooShort xs) TooShort) e)
+        let xs : List ℕ = those (lostBy makers foundLine (core .reached) (core .ended) (core .head .cards)) (suc (greatest (limits16 .width * limits16 .inHand) (at makers) + greatest (limits16 .places) (at (core .ended)))) in
+        refused-told q (lost-some (limits16 .width * limits16 .inHand) (limits16 .places) (ap₂ (λ (a b : ℕ). a * b) width16 inHand48) places8 makers foundLine (core .reached) (core .ended) (core .head .cards)) (answer-of xs ∙ ap (λ (r : Reply). next r (tooShort xs) TooShort) e)
 
     -- the last one does
-    pub told-short : (xs : List ℕ) → first ≡ Done → Rising (lostBy makers foundLine reached ended (h .cards)) xs → ltb cp (countBelow (limits16 .width) (presentOf (h .cards))) || ltb (length before) (length xs) ≡ true
-        → FixTold found thePlan (h .cards) stored (listOf (λ c. 0)) before before (NotFixed TooShort)
+    pub told-short : (xs : List ℕ) → first ≡ Done → Rising (lostBy makers foundLine (core .reached) (core .ended) (core .head .cards)) xs → ltb cp (countBelow (limits16 .width) (presentOf (core .head .cards))) || ltb (length before) (length xs) ≡ true
+        → FixWorked found thePlan (core .head .cards) (core .stored) (listOf (λ c. 0)) before before (NotFixed TooShort)
     told-short xs e r s =
         refused-told TooShort r
-        (answer-of xs ∙ ap₂ (λ (v : Reply) (b : Bool). next v b TooShort) e (ap (λ (n : ℕ). ltb cp n || ltb (length before) (length xs)) (length-selected (limits16 .width) (presentOf (h .cards)) _) ∙ s))
+        (answer-of xs ∙ ap₂ (λ (v : Reply) (b : Bool). next v b TooShort) e (ap (λ (n : ℕ). ltb cp n || ltb (length before) (length xs)) (length-selected (limits16 .width) (presentOf (core .head .cards)) _) ∙ s))
 
     -- none does
-    pub told-fixed : (xs after : List ℕ) → first ≡ Done → Rising (lostBy makers foundLine reached ended (h .cards)) xs → ltb cp (countBelow (limits16 .width) (presentOf (h .cards))) || ltb (length before) (length xs) ≡ false → length xs ≤ length before → after ≡ sets before 0 xs
-        → FixTold found thePlan (h .cards) stored foundLine before after (Fixed (length xs))
+    pub told-fixed : (xs after : List ℕ) → first ≡ Done → Rising (lostBy makers foundLine (core .reached) (core .ended) (core .head .cards)) xs → ltb cp (countBelow (limits16 .width) (presentOf (core .head .cards))) || ltb (length before) (length xs) ≡ false → length xs ≤ length before → after ≡ sets before 0 xs
+        → FixWorked found thePlan (core .head .cards) (core .stored) foundLine before after (Fixed (length xs))
     told-fixed xs after e r s l a =
-        let d : firstFailing (fixChecks limits16 found cp (length before) xs) ≡ Done = answer-of xs ∙ ap₂ (λ (v : Reply) (b : Bool). next v b TooShort) e (ap (λ (n : ℕ). ltb cp n || ltb (length before) (length xs)) (length-selected (limits16 .width) (presentOf (h .cards)) _) ∙ s) in
+        let d : firstFailing (fixChecks limits16 found cp (length before) xs) ≡ Done = answer-of xs ∙ ap₂ (λ (v : Reply) (b : Bool). next v b TooShort) e (ap (λ (n : ℕ). ltb cp n || ltb (length before) (length xs)) (length-selected (limits16 .width) (presentOf (core .head .cards)) _) ∙ s) in
         let p : thePlan xs ≡ record { reply = accepted (fixed (cardRows limits16 found) xs); edits = fix (lines limits16 found) ∷ [] } = done-plan (fixChecks limits16 found cp (length before) xs) (fixed (cardRows limits16 found) xs) (fix (lines limits16 found) ∷ []) d in
         let t : take (length xs) after ≡ xs = ap (take (length xs)) (a ∙ sets-eq xs before 0 (omega arith)) ∙ take-at xs (drop (0 + length xs) before) (length xs) refl in
         record {
-          lost = xs;
-          once = once-of r;
-          answer = ap₂ (λ (rows : List CardRow) (ls : List ℕ). accepted (fixed rows ls)) rows-same t ∙ sym (ap (λ (x : Plan). x .reply) p);
-          inside = let z : length after ≡ length before = ap length a ∙ length-sets before 0 xs in omega (arith, z, l);
-          list = a ∙ sym (ap (λ (x : Plan). listAfter (x .reply) before) p);
-          arrays = sym (ap (λ (x : Plan). linesAfter (x .reply) found) p);
+          told = record {
+            lost = xs;
+            once = once-of r;
+            answer = ap₂ (λ (rows : List CardRow) (ls : List ℕ). accepted (fixed rows ls)) rows-same t ∙ sym (ap (λ (x : Plan). x .reply) p);
+            inside = let z : length after ≡ length before = ap length a ∙ length-sets before 0 xs in omega (arith, z, l);
+            list = a ∙ sym (ap (λ (x : Plan). listAfter (x .reply) before) p);
+          };
+          lines-are = sym (ap (λ (x : Plan). linesAfter (x .reply) found) p);
         }
 
     -- the checks before the last, by what the check for 28 found
-    pub first-told : (whole : Bool) (r : Reply) → whole ≡ sound limits16 found → r ≡ firstFailing (butLast (after28 (not whole) (fixChecks limits16 (headModel h) 0 0 []))) → first ≡ r
-    first-told whole r ew e = sym (e ∙ ap (λ (b : Bool). firstFailing (butLast (after28 (not b) (fixChecks limits16 (headModel h) 0 0 [])))) ew)
+    pub first-told : (whole : Bool) (r : Reply) → whole ≡ sound limits16 found → r ≡ firstFailing (butLast (after28 (not whole) (fixChecks limits16 (headModel (core .head)) 0 0 []))) → first ≡ r
+    first-told whole r ew e = sym (e ∙ ap (λ (b : Bool). firstFailing (butLast (after28 (not b) (fixChecks limits16 (headModel (core .head)) 0 0 [])))) ew)
 
     -- a cabinet that they let pass is sound
     sound-known : first ≡ Done → sound limits16 found ≡ true
@@ -217,30 +218,30 @@ module _ (entries makers : List ℕ) (last pending : List Vector) (changes : Lis
     -- ---- as the code has them: the lines that it worked out, the count and the list that it wrote
     module _ (line : List ℕ) (el : line ≡ foundLine) (z : List ℕ) (ez : z ≡ listOf (λ c. 0)) where
       -- the numbers above the line rise
-      pub line-rises : first ≡ Done → Rises makers line (endsOf reached (h .cards))
+      pub line-rises : first ≡ Done → Rises makers line (endsOf (core .reached) (core .head .cards))
       line-rises e =
-          subst (λ (l : List ℕ). Rises makers l (endsOf reached (h .cards))) (sym el)
-          (rises-later foundLine (sound-rises entries makers last pending changes base stored held reached fixedLine ended h (sound-known e)) line-above)
+          subst (λ (l : List ℕ). Rises makers l (endsOf (core .reached) (core .head .cards))) (sym el)
+          (rises-later foundLine (sound-rises entries makers core (sound-known e)) line-above)
 
-      pub early-told : (q : Refusal) → first ≡ Refused q → FixTold found thePlan (h .cards) stored z before before (NotFixed q)
-      early-told q e = subst (λ (l : List ℕ). FixTold found thePlan (h .cards) stored l before before (NotFixed q)) (sym ez) (told-early q e)
+      pub early-told : (q : Refusal) → first ≡ Refused q → FixWorked found thePlan (core .head .cards) (core .stored) z before before (NotFixed q)
+      early-told q e = subst (λ (l : List ℕ). FixWorked found thePlan (core .head .cards) (core .stored) l before before (NotFixed q)) (sym ez) (told-early q e)
 
-      counted : (n : ℕ) → Counted (lostBy makers line reached ended (h .cards)) n → Counted (lostBy makers foundLine reached ended (h .cards)) n
-      counted n r = subst (λ (l : List ℕ). Counted (lostBy makers l reached ended (h .cards)) n) el r
+      counted : (n : ℕ) → Counted (lostBy makers line (core .reached) (core .ended) (core .head .cards)) n → Counted (lostBy makers foundLine (core .reached) (core .ended) (core .head .cards)) n
+      counted n r = subst (λ (l : List ℕ). Counted (lostBy makers l (core .reached) (core .ended) (core .head .cards)) n) el r
 
-      pub short-told : (n : ℕ) → Counted (lostBy makers line reached ended (h .cards)) n → first ≡ Done → ltb cp (countBelow (limits16 .width) (presentOf (h .cards))) || ltb (length before) n ≡ true
-          → FixTold found thePlan (h .cards) stored z before before (NotFixed TooShort)
+      pub short-told : (n : ℕ) → Counted (lostBy makers line (core .reached) (core .ended) (core .head .cards)) n → first ≡ Done → ltb cp (countBelow (limits16 .width) (presentOf (core .head .cards))) || ltb (length before) n ≡ true
+          → FixWorked found thePlan (core .head .cards) (core .stored) z before before (NotFixed TooShort)
       short-told n r e s =
-          let r′ : Counted (lostBy makers foundLine reached ended (h .cards)) n = counted n r in
-          subst (λ (l : List ℕ). FixTold found thePlan (h .cards) stored l before before (NotFixed TooShort)) (sym ez)
-          (told-short (r′ .list) e (r′ .rising) (ap (λ (k : ℕ). ltb cp (countBelow (limits16 .width) (presentOf (h .cards))) || ltb (length before) k) (sym (r′ .count)) ∙ s))
+          let r′ : Counted (lostBy makers foundLine (core .reached) (core .ended) (core .head .cards)) n = counted n r in
+          subst (λ (l : List ℕ). FixWorked found thePlan (core .head .cards) (core .stored) l before before (NotFixed TooShort)) (sym ez)
+          (told-short (r′ .list) e (r′ .rising) (ap (λ (k : ℕ). ltb cp (countBelow (limits16 .width) (presentOf (core .head .cards))) || ltb (length before) k) (sym (r′ .count)) ∙ s))
 
-      pub fixed-told : (n : ℕ) (after : List ℕ) → Counted (lostBy makers line reached ended (h .cards)) n → Written (lostBy makers line reached ended (h .cards)) before after → first ≡ Done → ltb cp (countBelow (limits16 .width) (presentOf (h .cards))) || ltb (length before) n ≡ false
-          → FixTold found thePlan (h .cards) stored line before after (Fixed n)
+      pub fixed-told : (n : ℕ) (after : List ℕ) → Counted (lostBy makers line (core .reached) (core .ended) (core .head .cards)) n → Written (lostBy makers line (core .reached) (core .ended) (core .head .cards)) before after → first ≡ Done → ltb cp (countBelow (limits16 .width) (presentOf (core .head .cards))) || ltb (length before) n ≡ false
+          → FixWorked found thePlan (core .head .cards) (core .stored) line before after (Fixed n)
       fixed-told n after r w e s =
-          let r′ : Counted (lostBy makers foundLine reached ended (h .cards)) n = counted n r in
-          let w′ : Written (lostBy makers foundLine reached ended (h .cards)) before after = subst (λ (l : List ℕ). Written (lostBy makers l reached ended (h .cards)) before after) el w in
-          let s′ : ltb cp (countBelow (limits16 .width) (presentOf (h .cards))) || ltb (length before) (length (r′ .list)) ≡ false = ap (λ (k : ℕ). ltb cp (countBelow (limits16 .width) (presentOf (h .cards))) || ltb (length before) k) (sym (r′ .count)) ∙ s in
-          let l : length (r′ .list) ≤ length before = ltb-false (length before) (length (r′ .list)) (or-out (ltb cp (countBelow (limits16 .width) (presentOf (h .cards)))) (ltb (length before) (length (r′ .list))) s′) in
-          let t : FixTold found thePlan (h .cards) stored foundLine before after (Fixed (length (r′ .list))) = told-fixed (r′ .list) after e (r′ .rising) s′ l (w′ .stored ∙ ap (sets before 0) (rising-one (w′ .rising) (r′ .rising))) in
-          subst (λ (k : ℕ). FixTold found thePlan (h .cards) stored line before after (Fixed k)) (sym (r′ .count)) (subst (λ (x : List ℕ). FixTold found thePlan (h .cards) stored x before after (Fixed (length (r′ .list)))) (sym el) t)
+          let r′ : Counted (lostBy makers foundLine (core .reached) (core .ended) (core .head .cards)) n = counted n r in
+          let w′ : Written (lostBy makers foundLine (core .reached) (core .ended) (core .head .cards)) before after = subst (λ (l : List ℕ). Written (lostBy makers l (core .reached) (core .ended) (core .head .cards)) before after) el w in
+          let s′ : ltb cp (countBelow (limits16 .width) (presentOf (core .head .cards))) || ltb (length before) (length (r′ .list)) ≡ false = ap (λ (k : ℕ). ltb cp (countBelow (limits16 .width) (presentOf (core .head .cards))) || ltb (length before) k) (sym (r′ .count)) ∙ s in
+          let l : length (r′ .list) ≤ length before = ltb-false (length before) (length (r′ .list)) (or-out (ltb cp (countBelow (limits16 .width) (presentOf (core .head .cards)))) (ltb (length before) (length (r′ .list))) s′) in
+          let t : FixWorked found thePlan (core .head .cards) (core .stored) foundLine before after (Fixed (length (r′ .list))) = told-fixed (r′ .list) after e (r′ .rising) s′ l (w′ .stored ∙ ap (sets before 0) (rising-one (w′ .rising) (r′ .rising))) in
+          subst (λ (k : ℕ). FixWorked found thePlan (core .head .cards) (core .stored) line before after (Fixed k)) (sym (r′ .count)) (subst (λ (x : List ℕ). FixWorked found thePlan (core .head .cards) (core .stored) x before after (Fixed (length (r′ .list)))) (sym el) t)

@@ -9,17 +9,16 @@ ghost use Rattle.laws.specs.Below.{countBelow};
 ghost use Rattle.protocol.specs.Calls.{fixChecks, fixPlan};
 ghost use Rattle.verdicts.specs.Shape.{limits16, presentOf, headModel, modelOf};
 ghost use Rattle.verdicts.specs.Answers.{firstFailing, after28};
-ghost use Rattle.recovery.specs.Fix.{butLast, FixTold};
+ghost use Rattle.recovery.specs.Fix.{butLast, FixWorked};
 use listing::count_lost;
 use listing::write_lost;
 use recovery::FixReply;
 use recovery::Outcome;
 use refusal::Refusal;
 use replies::next;
+use verdicts::Core;
 use verdicts::Head;
-use verdicts::Place;
 use verdicts::Reply;
-use verdicts::Vector;
 use verdicts::is_down;
 
 mod listing;
@@ -45,38 +44,22 @@ fn is_short(head: Head, places: usize, room: usize, lost: usize) -> bool
 }
 
 // 9. fix: the line of each card, and the numbers of the changes lost in the lent list; nothing where it is refused.
-// `changes` are the open changes, `line` the line fixed last, `places` the places for card records.
+// `places` are the places for card records.
 pub fn fix<'a, 'b>(
     list: &'a mut [u32],
     entries: &'b [u32; 12288],
     makers: &'b [u32; 768],
-    last: [Vector; 16],
-    pending: [Vector; 16],
-    changes: [Place; 8],
-    base: [u32; 16],
-    stored: [u32; 16],
-    held: [u32; 16],
-    reached: [u32; 16],
-    line: [u32; 16],
-    ended: [u32; 8],
-    head: Head,
+    core: Core,
     places: usize,
 ) -> Outcome
-    ensures { λ r. ⌜ FixTold (modelOf (now (entries .entry)) (now (makers .entry)) last pending changes base stored held reached line ended 0 head) (fixPlan limits16 (modelOf (now (entries .entry)) (now (makers .entry)) last pending changes base stored held reached line ended 0 head) places (length (now (list .entry)))) (head .cards) stored (r .line) (now (list .entry)) (now (list .exit)) (r .reply) ⌝ }
+    ensures { λ r. ⌜ FixWorked (modelOf (now (entries .entry)) (now (makers .entry)) core) (fixPlan limits16 (modelOf (now (entries .entry)) (now (makers .entry)) core) places (length (now (list .entry)))) (core .head .cards) (core .stored) (r .line) (now (list .entry)) (now (list .exit)) (r .reply) ⌝ }
 {
-    let sound = soundness::cabinet_sound(
-        entries,
-        makers,
-        last,
-        pending,
-        changes,
-        base,
-        stored,
-        held,
-        reached,
-        line,
-        head,
-    );
+    let base = core.base;
+    let stored = core.stored;
+    let reached = core.reached;
+    let ended = core.ended;
+    let head = core.head;
+    let sound = soundness::cabinet_sound(entries, makers, core);
     let first = fix_reply(sound, head);
     match first {
         Reply::Done => {

@@ -1,3 +1,1 @@
-pub mod Heads
 pub mod Opening
-pub mod Standing

@@ -1,52 +1,122 @@
-// The parts of a cabinet beside its frames, the check for 28 over them, and what the calls write into a cabinet's lists.
+// What the calls write into a cabinet's lists, and what an opening answers.
+ghost use Prim.Native.Nat.{ℕ, _+_, _*_, _≤_, _<_};
 ghost use mathlib.Core.Path.{_≡_};
-ghost use Rattle.protocol.specs.Sound.{sound};
-ghost use Rattle.verdicts.specs.Shape.{limits16};
-ghost use Rattle.parts.specs.Standing.{standing};
-use verdicts::Head;
+ghost use mathlib.Core.Bool.{cond};
+ghost use lib.ListN.{set};
+ghost use lib.Seq.{sets};
+ghost use Rattle.laws.specs.Below.{tabulate};
+ghost use Rattle.bits.specs.Member.{member};
+ghost use Rattle.history.specs.Vector.{joined};
+ghost use Rattle.protocol.specs.Edit.{remembered};
+ghost use Rattle.protocol.specs.Model.{freePlace};
+ghost use Rattle.verdicts.specs.Shape.{limits16, at, ringPlace, listOf, vectorFor, openAt, placeFor};
+ghost use Rattle.parts.specs.Opening.{openAnswer};
+use verdicts::OpenReply;
 use verdicts::Place;
+use verdicts::Reply;
 use verdicts::Vector;
 
-pub mod heads;
-pub mod writes;
-
-// What 28 looks at besides the frames.
-pub struct Parts {
-    pub last: [Vector; 16],
-    pub pending: [Vector; 16],
-    pub places: [Place; 8],
-    pub base: [u32; 16],
-    pub stored: [u32; 16],
-    pub held: [u32; 16],
-    pub reached: [u32; 16],
-    pub line: [u32; 16],
-    pub head: Head,
+// The vector of a frame, at its place in the ring.
+fn put_frame(entries: &mut [u32; 12288], from: usize, v: [u32; 16])
+    requires { ⌜ from + 16 ≤ 12288 ⌝ }
+    ensures { λ r. ⌜ now (entries .exit) ≡ sets (now (entries .entry)) from (listOf (at v)) ⌝ }
+{
+    let mut j: usize = 0;
+    while j < 16 {
+        entries[from + j] = v[j];
+        j += 1;
+    }
 }
 
-// A cabinet of these frames and parts is not refused with 28.
-pub fn is_sound<'a>(entries: &'a [u32; 12288], makers: &'a [u32; 768], p: Parts) -> bool
-    ensures { λ r. ⌜ r ≡ sound limits16 (standing (now (entries .entry)) (now (makers .entry)) p) ⌝ }
+// The vector of a decided change, as a card keeps it.
+pub fn vector_of(o: Place) -> Vector
+    ensures { λ r. ⌜ (r .entries ≡ o .vector) × (o .vector ≡ listOf (at (o .vector))) ⌝ }
 {
-    let last = p.last;
-    let pending = p.pending;
-    let places = p.places;
-    let base = p.base;
-    let stored = p.stored;
-    let held = p.held;
-    let reached = p.reached;
-    let line = p.line;
-    let head = p.head;
-    soundness::cabinet_sound(
-        entries,
-        makers,
-        last,
-        pending,
-        places,
-        base,
-        stored,
-        held,
-        reached,
-        line,
-        head,
-    )
+    let v = o.vector;
+    let v = vectors::copied(v);
+    Vector { entries: v }
+}
+
+// "A card only read raises its pending entry by entry."
+pub fn raised(pending: Vector, v: Vector) -> Vector
+    ensures { λ r. ⌜ r ≡ vectorFor (joined (at (pending .entries)) (at (v .entries))) ⌝ }
+{
+    let q = pending.entries;
+    let w = v.entries;
+    let j = vectors::join(q, w);
+    Vector { entries: j }
+}
+
+// The vector of state x of card c, at its place in the ring.
+pub fn put_vector(entries: &mut [u32; 12288], c: usize, x: u32, v: Vector)
+    requires { ⌜ c < 16 ⌝ }
+    ensures { λ r. ⌜ now (entries .exit) ≡ sets (now (entries .entry)) (ringPlace c x * 16) (listOf (at (v .entries))) ⌝ }
+{
+    let place = c * 48 + (x % 48) as usize;
+    let w = v.entries;
+    put_frame(entries, place * 16, w);
+}
+
+// The change that made state x of card c, at its place in the ring.
+pub fn put_maker(makers: &mut [u32; 768], c: usize, x: u32, maker: u32)
+    requires { ⌜ c < 16 ⌝ }
+    ensures { λ r. ⌜ now (makers .exit) ≡ set (now (makers .entry)) (ringPlace c x) maker ⌝ }
+{
+    let place = c * 48 + (x % 48) as usize;
+    makers[place] = maker;
+}
+
+// The first number where the test passes, and the second where it fails.
+fn pick(first: bool, a: u32, b: u32) -> u32
+    ensures { λ r. ⌜ r ≡ cond first a b ⌝ }
+{
+    if first { a } else { b }
+}
+
+// The held numbers of a set of cards fall to stored.
+pub fn fallen(held: [u32; 16], stored: [u32; 16], cards: u16) -> [u32; 16]
+    ensures { λ r. ⌜ r ≡ listOf (λ c. cond (member cards c) (at stored c) (at held c)) ⌝ }
+{
+    let mut out = [0u32; 16];
+    let mut c: usize = 0;
+    while c < 16 {
+        let lost = bits::has(cards, c as u32);
+        out[c] = pick(lost, stored[c], held[c]);
+        c += 1;
+    }
+    out
+}
+
+// Eight free places.
+pub fn no_places() -> [Place; 8]
+    ensures { λ r. ⌜ r ≡ tabulate (limits16 .places) (λ p. placeFor freePlace) ⌝ }
+{
+    let free = verdicts::free_place();
+    [free; 8]
+}
+
+// By place, the number that a change is remembered by when a loss ends it.
+pub fn ended_numbers(places: [Place; 8]) -> [u32; 8]
+    ensures { λ r. ⌜ r ≡ tabulate (limits16 .places) (λ p. remembered limits16 (openAt places p)) ⌝ }
+{
+    let mut out = [0u32; 8];
+    let mut p: usize = 0;
+    while p < 8 {
+        let o = places[p];
+        let k = places::remembered_number(o);
+        out[p] = k;
+        p += 1;
+    }
+    out
+}
+
+// What an opening with that verdict answers, after so many changes.
+pub fn open_answer(r: Reply, count: u32) -> OpenReply
+    requires { ⌜ (r ≡ Reply.Done → count < 4294967295) ⌝ }
+    ensures { λ x. ⌜ x ≡ openAnswer r count ⌝ }
+{
+    match r {
+        Reply::Done => OpenReply::Opened(count + 1),
+        Reply::Refused(q) => OpenReply::NotOpened(q),
+    }
 }

@@ -13,25 +13,15 @@ ghost use Rattle.protocol.specs.Calls.{bars, tookShare, openedChange};
 ghost use Rattle.verdicts.specs.Shape.{limits16, at, listOf, setOf, openOf, openAt, placeFor};
 use verdicts::Place;
 
-// A free place, all zero.
-pub fn free_place() -> Place
-    ensures { λ r. ⌜ r ≡ placeFor freePlace ⌝ }
-{
-    Place {
-        vector: [0u32; 16],
-        number: 0,
-        reads: 0,
-        writes: 0,
-        yes: 0,
-        taken: 0,
-    }
-}
-
 // The change in place p; a free place where there is no place p.
 pub fn place_at(places: [Place; 8], p: usize) -> Place
     ensures { λ r. ⌜ openOf r ≡ openAt places p ⌝ }
 {
-    if p < 8 { places[p] } else { free_place() }
+    if p < 8 {
+        places[p]
+    } else {
+        verdicts::free_place()
+    }
 }
 
 // The first place whose open change has that number, and 8 where there is none.
@@ -118,17 +108,11 @@ pub fn took(o: Place, c: u32) -> Place
 {
     let taken = bits::with(o.taken, c);
     let n = awaited(o.reads, o.writes, taken);
-    let v = o.vector;
     if n == 0 {
-        free_place()
+        verdicts::free_place()
     } else {
-        Place {
-            vector: v,
-            number: o.number,
-            reads: o.reads,
-            writes: o.writes,
-            yes: o.yes,
-            taken: taken,
-        }
+        let mut next = o;
+        next.taken = taken;
+        next
     }
 }

@@ -2,46 +2,43 @@
 use Prim.Native.Nat.{ℕ, zero, suc, _+_, _-_, _≤_, _<_}
 use mathlib.Core.Path.{_≡_, refl, sym, _∙_, ap, ap₂, subst, subst₂}
 use mathlib.Core.Bool.{Bool, true, false, not, _&&_, _||_, cond}
-use mathlib.Core.Logic.{_⊎_, inl, inr, by-cases, ⊎-elim, _↔_}
-use mathlib.Core.List.{List, [], _∷_}
+use mathlib.Core.Logic.{_⊎_, by-cases, ⊎-elim}
+use mathlib.Core.List.{_++_, List, [], _∷_}
 use native.Mathlib.Nat.{le-refl, le-trans}
 use native.Mathlib.Decide.{decLe, decLt, ℕ-discrete}
 use native.Mathlib.Omega.{arith}
-use lib.Dec.{eqb, leb, ltb}
-use lib.ListN.{length}
-use borrow.Author.Tests.{lt-ltb, le-ltb, eq-eqb, eqb-true, ltb-true}
-use Rattle.laws.specs.Below.{one-if, anyBelow, tabulate, occurs}
-use Rattle.laws.proofs.Logic.{test, clash, fails, and-left, and-right, and-intro, or-elim, not-true, not-intro, cond-case, same-test}
-use Rattle.laws.proofs.Below.{Found, any-elim, any-intro, all-same, any-same, first-below, selected-first}
-use Rattle.laws.proofs.Fill.{tabulate-same}
-use Rattle.refusal.specs.declared.Refusal.{Refusal}
-use Rattle.sheet.specs.declared.Reading.{Reading}
-use Rattle.history.specs.Change.{CardSet, Change, History, Numbers, touches, writers, made, historyOf, Cut, On}
+use lib.Dec.{eqb, leb}
+use borrow.Author.Tests.{lt-ltb, eq-eqb, eqb-true}
+use Rattle.laws.specs.Below.{selected, one-if, anyBelow, occurs}
+use Rattle.laws.proofs.Logic.{test, clash, fails, and-left, and-right, and-intro, not-true, not-intro, cond-case, same-test}
+use Rattle.laws.proofs.Below.{Found, any-elim, any-intro, all-same, first-below}
+use Rattle.history.specs.Change.{CardSet, Change, History, Numbers, touches, made}
 use Rattle.history.specs.Vector.{Vector, stateVector, IsVector}
-use Rattle.history.specs.Line.{wrote, inLine, lost}
+use Rattle.history.specs.Line.{wrote, lost}
 use Rattle.history.proofs.Precedence.{writes-touches}
 use Rattle.history.proofs.Entries.{state-vector-is}
 use Rattle.history.proofs.Lines.{line-cut, cut-below}
 use Rattle.history.proofs.Theorems.{line-whole}
+use Rattle.protocol.specs.Codec.{Codec}
 use Rattle.protocol.specs.Model.{Limits, Phase, up, down, rolling, isUp, isDown, isRolling, OpenChange, Model, isCard, isOpen, decided, toWrite, awaitsWrite, placeOf, isKnown, withCard}
-use Rattle.protocol.specs.Edit.{put, Edit, place, grow, raise, fall, halt, lower, renew, editedAll}
-use Rattle.protocol.specs.Plan.{CardRow, Answer, done, safe, unsafe, fixed, Reply, accepted, refused, Check, Plan, checked, afterPlan}
+use Rattle.protocol.specs.Edit.{Edit, place, grow, raise, fall, halt, lower, renew, editedAll}
+use Rattle.protocol.specs.Plan.{CardRow, Answer, safe, unsafe, fixed, accepted, Check, Plan, checked, afterPlan}
 use Rattle.protocol.specs.Calls.{lineOf, cardRows, someFrameAbove, hasFrame, writesLeft, isSafe, isLost, tookShare, takeChecks, safeChecks, loseChecks, fixChecks, rollChecks, allRolled}
-use Rattle.protocol.specs.Sheets.{sheetOf, pageStored, restarted}
 use Rattle.protocol.specs.Journal.{Journal, Fixing, fixing}
-use Rattle.protocol.specs.Run.{Call, openCall, voteCall, takeCall, withdrawCall, storeCall, trimCall, safeCall, loseCall, fixCall, rollCall, sheetCall, restartCall, Choice, Proper, planOf, afterCall, Calls, none, further, Run, start, next, journal, lineNoted, lastKept}
-use Rattle.protocol.specs.Demands.{H, decisions, VectorsRight, FixRight, RollRight, TakeRight, SafeRight, CallRight, RestartsTo, CabinetRight, Throughout, RestartsRolling, SheetLimits, Demands}
+use Rattle.protocol.specs.Run.{Call, openCall, voteCall, takeCall, withdrawCall, storeCall, trimCall, safeCall, loseCall, fixCall, rollCall, sheetCall, restartCall, Choice, Proper, planOf, afterCall, Calls, Run, start, next, journal, lineNoted, lastKept}
+use Rattle.protocol.specs.Demands.{H, decisions, FixRight, RollRight, TakeRight, SafeRight, CallRight, RestartsTo, CabinetRight, Throughout, RestartsRolling, Demands}
 use Rattle.protocol.proofs.Taking.{put-same, reached-next}
 use Rattle.protocol.proofs.Intact.{lineAt, line-same}
 use Rattle.protocol.proofs.Places.{Stood}
 use Rattle.protocol.proofs.Running.{About, StandsFor, Running}
 use Rattle.protocol.proofs.Stores.{line-right, start-stored}
-use Rattle.protocol.proofs.Rolling.{Rolling, LineNoted}
 use Rattle.protocol.proofs.Lost.{Above, Numbered-as, frames-above, above-frames, lost-right, right-lost}
 use Rattle.protocol.proofs.Steps.{Passed, checked-case, not-not, card-below, known-place, up-only}
 use Rattle.protocol.proofs.Invariant.{RollingBack, Invariant, invariant-sound}
 use Rattle.protocol.proofs.Claims.{not-both}
-use Rattle.protocol.proofs.Lists.{run-invariant, vectors-right, base-stored, joined-back, line-back}
+use Rattle.protocol.proofs.Lists.{run-invariant, vectors-right, base-stored}
+use Rattle.protocol.proofs.Running.{Carded}
+use Rattle.protocol.proofs.Restart.{line-again, Remade, CodecLaw}
 use Rattle.protocol.proofs.Kept.{stored-last}
 
 -- what an accepted plan answers
@@ -57,7 +54,11 @@ lost-same w G s l l' e i =
     ap (λ (b : Bool). wrote w (G i) && not b)
     (all-same w (λ c. not (G i .writes c) || leb (made G s i c) (l c)) (λ c. not (G i .writes c) || leb (made G s i c) (l' c)) (λ c h. ap (λ (x : ℕ). not (G i .writes c) || leb (made G s i c) x) (e c h)))
 
-module _ (L : Limits) (n : ℕ) (few : n ≤ L .width) (m : Model) (j : Journal) (v : Invariant L n m j) where
+selected-same : {A : Type 0} (n : ℕ) (p : ℕ → Bool) (f g : ℕ → A) → ((k : ℕ) → k < n → p k ≡ true → f k ≡ g k) → selected n p f ≡ selected n p g
+selected-same zero p f g e = refl
+selected-same {A = A} (suc n) p f g e = ap₂ (λ (a b : List A). a ++ b) (selected-same n p f g (λ k h t. e k (omega arith) t)) (test (p n) (λ t. ap (λ (x : A). cond (p n) (x ∷ []) []) (e n (omega arith) t)) (λ t. rw t))
+
+module _ (L : Limits) (n : CardSet) (m : Model) (j : Journal) (v : Invariant L n m j) where
   runs : isRolling (m .phase) ≡ false → Running L m j
   runs e = ⊎-elim (λ (r : Running L m j). r) (λ (r : RollingBack L m j). clash (r .rolls .is-rolling) e) (v .state)
 
@@ -76,12 +77,11 @@ module _ (L : Limits) (n : ℕ) (few : n ≤ L .width) (m : Model) (j : Journal)
     line-is c l =
         line-right L m j r (H j) a c l ∙ line-same (L .width) (H j) (j .start) (decisions j) (m .numbers .stored) (j .stored) (λ d ld. sym (r .stored-is d ld)) c l
 
-    rows-are : cardRows L m ≡ tabulate n (λ c. record { card = c; stored = j .stored c; line = line c })
+    rows-are : cardRows L m ≡ selected (L .width) n (λ c. record { card = c; stored = j .stored c; line = line c })
     rows-are =
-        selected-first (m .present) (λ c. record { card = c; stored = m .numbers .stored c; line = lineOf L m c }) (L .width) n few
-        (λ c h. v .present-is c ∙ lt-ltb c n h) (λ c h l. v .present-is c ∙ le-ltb c n h)
-        ∙ tabulate-same n (λ c. record { card = c; stored = m .numbers .stored c; line = lineOf L m c }) (λ c. record { card = c; stored = j .stored c; line = line c })
-        (λ c h. ap₂ (λ (s l : ℕ). record { card = c; stored = s; line = l }) (sym (r .stored-is c (omega arith))) (line-is c (omega arith)))
+        ap (λ (p : CardSet). selected (L .width) p (λ c. record { card = c; stored = m .numbers .stored c; line = lineOf L m c })) (λ i c. v .present-is c i)
+        ∙ selected-same (L .width) n (λ c. record { card = c; stored = m .numbers .stored c; line = lineOf L m c }) (λ c. record { card = c; stored = j .stored c; line = line c })
+        (λ c h e. ap₂ (λ (s l : ℕ). record { card = c; stored = s; line = l }) (sym (r .stored-is c h)) (line-is c h))
 
     lost-is : (k : ℕ) → isLost L m k ≡ anyBelow (decisions j) (λ i. lost (L .width) (H j) (j .start) line i && eqb (H j i .number) k)
     lost-is k =
@@ -265,92 +265,90 @@ module _ (L : Limits) (n : ℕ) (few : n ≤ L .width) (m : Model) (j : Journal)
         is-safe e = test (isSafe L m k) (λ y. y) (λ y. let d : unsafe ≡ safe = sym (ap (λ (x : Bool). cond x safe unsafe) y) ∙ e in let u : _≡_ {A = ℕ} 0 1 = cc in absurd (omega arith))
 
 -- ---- each accepted call of a list
-call-right : (L : Limits) → SheetLimits L → (n : ℕ) → 1 ≤ n → n ≤ L .width → {cs : Calls} {m : Model} (r : Run L n cs m) → RestartsRolling r → (call : Call) (x : Choice) → Proper L m call x
-    → (a : Answer) → planOf L m call x .reply ≡ accepted a → CallRight L n cs call a m (afterCall L m call x)
-call-right L lim n low high r w (openCall reads writes) x p a e = tt
-call-right L lim n low high r w (voteCall k c agrees) x p a e = tt
-call-right L lim n low high {cs} {m} r w (takeCall k c) x p a e =
+call-right : (C : Codec) (L : Limits) (n : CardSet) → Carded L n → CodecLaw C L n → {cs : Calls} {m : Model} (r : Run C L n cs m) → RestartsRolling r → (call : Call) (x : Choice) → Proper L m call x
+    → (a : Answer) → planOf C L m call x .reply ≡ accepted a → CallRight L n cs call a m (afterCall C L m call x)
+call-right C L n carded law r w (openCall reads writes) x p a e = tt
+call-right C L n carded law r w (voteCall k c agrees) x p a e = tt
+call-right C L n carded law {cs} {m} r w (takeCall k c) x p a e =
     answered (λ (b : Answer) (q : Plan). TakeRight (journal L n cs) k c m (afterPlan L q m)) (takeChecks L m k c) _ _
     (λ ps.
     let kp : (placeOf L m k < L .places) × (isOpen (m .place (placeOf L m k)) ≡ true) × (m .place (placeOf L m k) .change .number ≡ k) = known-place L m k (not-not (isKnown L m k) (ps .1 .1 .1 .0)) in
     let aw : touches (m .place (placeOf L m k) .change) c && not (m .place (placeOf L m k) .taken c) ≡ true = not-not (touches (m .place (placeOf L m k) .change) c && not (m .place (placeOf L m k) .taken c)) (ps .1 .1 .1 .1 .1 .0) in
-    take-right L n high m (journal L n cs) v (runs L n high m (journal L n cs) v (up-only (m .phase) (not-not (isUp (m .phase)) (ps .1 .1 .0)))) k c (kp .0) (card-below L m c (not-not (isCard L m c) (ps .1 .0))) (kp .1) (kp .2)
+    take-right L n m (journal L n cs) v (runs L n m (journal L n cs) v (up-only (m .phase) (not-not (isUp (m .phase)) (ps .1 .1 .0)))) k c (kp .0) (card-below L m c (not-not (isCard L m c) (ps .1 .0))) (kp .1) (kp .2)
     (not-not (decided L (m .place (placeOf L m k))) (ps .1 .1 .1 .1 .0)) (not-true (m .place (placeOf L m k) .taken c) (and-right (touches (m .place (placeOf L m k) .change) c) (not (m .place (placeOf L m k) .taken c)) aw))) a e
   where
     v : Invariant L n m (journal L n cs)
-    v = run-invariant lim low high r w
-call-right L lim n low high r w (withdrawCall k) x p a e = tt
-call-right L lim n low high r w (storeCall c s) x p a e = tt
-call-right L lim n low high r w trimCall x p a e = tt
-call-right L lim n low high {cs} {m} r w (safeCall k) x p a e =
+    v = run-invariant carded law r w
+call-right C L n carded law r w (withdrawCall k) x p a e = tt
+call-right C L n carded law r w (storeCall c s) x p a e = tt
+call-right C L n carded law r w trimCall x p a e = tt
+call-right C L n carded law {cs} {m} r w (safeCall k) x p a e =
     answered (λ (b : Answer) (q : Plan). SafeRight L (journal L n cs) k b) (safeChecks L m k) _ _
-    (λ ps. safe-right L n high m (journal L n cs) v (runs L n high m (journal L n cs) v (up-runs (not-not (isUp (m .phase)) (ps .1 .0)))) (not-not (isUp (m .phase)) (ps .1 .0)) k (not-not (hasFrame L m k) (ps .1 .1 .0))) a e
+    (λ ps. safe-right L n m (journal L n cs) v (runs L n m (journal L n cs) v (up-runs (not-not (isUp (m .phase)) (ps .1 .0)))) (not-not (isUp (m .phase)) (ps .1 .0)) k (not-not (hasFrame L m k) (ps .1 .1 .0))) a e
   where
     v : Invariant L n m (journal L n cs)
-    v = run-invariant lim low high r w
+    v = run-invariant carded law r w
 
     up-runs : isUp (m .phase) ≡ true → isRolling (m .phase) ≡ false
     up-runs = up-only (m .phase)
-call-right L lim n low high {cs} {m} r w (loseCall cards) x p a e =
-    answered (λ (b : Answer) (q : Plan). (c : ℕ) → c < n → cards c ≡ true → afterPlan L q m .numbers .held c ≡ lastKept L n cs c) (loseChecks L m cards) _ _
-    (λ ps c h here. held-falls c here ∙ stored-last lim low high r w c h) a e
+call-right C L n carded law {cs} {m} r w (loseCall cards) x p a e =
+    answered (λ (b : Answer) (q : Plan). (c : ℕ) → c < L .width → n c ≡ true → cards c ≡ true → afterPlan L q m .numbers .held c ≡ lastKept L n cs c) (loseChecks L m cards) _ _
+    (λ ps c lw h here. held-falls c here ∙ stored-last carded law r w c lw h) a e
   where
     held-falls : (c : ℕ) → cards c ≡ true → editedAll L (fall cards ∷ cond (isUp (m .phase)) (halt ∷ []) []) m .numbers .held c ≡ m .numbers .stored c
     held-falls c here =
         cond-case (λ (es : List Edit). editedAll L (fall cards ∷ es) m .numbers .held c ≡ m .numbers .stored c) (isUp (m .phase)) (λ y. rw here) (λ y. rw here)
-call-right L lim n low high {cs} {m} r w (fixCall u z) x p a e =
+call-right C L n carded law {cs} {m} r w (fixCall u z) x p a e =
     answered (λ (b : Answer) (q : Plan). (rows : List CardRow) (numbers : List ℕ) → b ≡ fixed rows numbers → FixRight L n (journal L n cs) rows numbers) (fixChecks L m u z (x .lost)) _ _
     (λ ps rows numbers y.
     let rows-same : cardRows L m ≡ rows = cc in
     let numbers-same : x .lost ≡ numbers = cc in
     subst₂ (FixRight L n (journal L n cs)) rows-same numbers-same
-    (fix-right L n high m (journal L n cs) v (runs L n high m (journal L n cs) v (down-runs (m .phase) (not-not (isDown (m .phase)) (ps .1 .0)))) (not-not (isDown (m .phase)) (ps .1 .0)) (x .lost) p)) a e
+    (fix-right L n m (journal L n cs) v (runs L n m (journal L n cs) v (down-runs (m .phase) (not-not (isDown (m .phase)) (ps .1 .0)))) (not-not (isDown (m .phase)) (ps .1 .0)) (x .lost) p)) a e
   where
     v : Invariant L n m (journal L n cs)
-    v = run-invariant lim low high r w
+    v = run-invariant carded law r w
 
     down-runs : (q : Phase) → isDown q ≡ true → isRolling q ≡ false
     down-runs up z = refl
     down-runs down z = refl
     down-runs rolling z = clash z refl
-call-right L lim n low high {cs} {m} r w (rollCall c) x p a e =
+call-right C L n carded law {cs} {m} r w (rollCall c) x p a e =
     answered (λ (b : Answer) (q : Plan). RollRight (journal L n cs) c (afterPlan L q m)) (rollChecks L m c) _ _
-    (λ ps. roll-right L n high m (journal L n cs) (run-invariant lim low high r w) c (card-below L m c (not-not (isCard L m c) (ps .1 .0))) (not-not (isRolling (m .phase)) (ps .1 .1 .0))) a e
-call-right L lim n low high r w (sheetCall c places) x p a e = tt
-call-right L lim n low high r w restartCall x p a e = tt
+    (λ ps. roll-right L n m (journal L n cs) (run-invariant carded law r w) c (card-below L m c (not-not (isCard L m c) (ps .1 .0))) (not-not (isRolling (m .phase)) (ps .1 .1 .0))) a e
+call-right C L n carded law r w (sheetCall c places) x p a e = tt
+call-right C L n carded law r w restartCall x p a e = tt
 
-cabinet-right : (L : Limits) → SheetLimits L → (n : ℕ) → 1 ≤ n → n ≤ L .width → {cs : Calls} {m : Model} (r : Run L n cs m) → RestartsRolling r → CabinetRight L n cs m
-cabinet-right L lim n low high {cs} {m} r w =
+cabinet-right : (C : Codec) (L : Limits) (n : CardSet) → Carded L n → CodecLaw C L n → {cs : Calls} {m : Model} (r : Run C L n cs m) → RestartsRolling r → CabinetRight C L n cs m
+cabinet-right C L n carded law {cs} {m} r w =
     record {
       never-28 = invariant-sound L n m (journal L n cs) v;
       vectors = vectors-right L n m (journal L n cs) v;
-      stored-kept = stored-last lim low high r w;
-      sheet-kept = λ c h. whole c (omega arith) ∙ stored-last lim low high r w c h;
+      stored-kept = stored-last carded law r w;
+      sheet-kept = λ c lw h. law .last-stored m c (base-stored L n m (journal L n cs) v c lw) ∙ stored-last carded law r w c lw h;
       sheets-give-line = λ line marked e. ⊎-elim
           (λ (q : Running L m (journal L n cs)). let z : _≡_ {A = ℕ} 0 1 = cc (e, q .not-fixed) in absurd (omega arith))
           (λ (q : RollingBack L m (journal L n cs)). give-line line marked e q) (v .state);
-      restart-accepted = λ e. ap (λ (x : Reading). x .verdict) (joined-back L lim n low high m (journal L n cs) v (rolls L n high m (journal L n cs) v e));
+      restart-accepted = λ e. law .remade m (journal L n cs) v (rolls L n m (journal L n cs) v e) .accepts;
     }
   where
     v : Invariant L n m (journal L n cs)
-    v = run-invariant lim low high r w
+    v = run-invariant carded law r w
 
-    give-line : (line : Numbers) (marked : CardSet) → journal L n cs .fix ≡ fixing line marked → RollingBack L m (journal L n cs) → RestartsTo L n m line
+    give-line : (line : Numbers) (marked : CardSet) → journal L n cs .fix ≡ fixing line marked → RollingBack L m (journal L n cs) → RestartsTo C L n m line
     give-line line marked e q =
         let same : q .notes .line ≡ line = cc (e, q .notes .is-noted) in
+        let e : Remade C L m = law .remade m (journal L n cs) v q in
         record {
-          accepted-so = ap (λ (x : Reading). x .verdict) (joined-back L lim n low high m (journal L n cs) v q);
-          same-line = λ c h. ap (λ (x : Reading). restarted L (x .readout) .line c) (joined-back L lim n low high m (journal L n cs) v q) ∙ line-back L lim n low high m (journal L n cs) v q c (omega arith)
-              ∙ sym (q .notes .line-is c (omega arith)) ∙ ap (λ (f : Numbers). f c) same;
+          accepted-so = e .accepts;
+          same-line = λ c lw h. line-again L n m (C .restarted L (C .joined L m)) (journal L n cs) (v .present-is) (v .absent-start) (q .rolls) (e .recalled) c lw ∙ sym (q .notes .line-is c lw) ∙ ap (λ (f : Numbers). f c) same;
         }
 
-    whole : (c : ℕ) → c < L .width → m .numbers .base c + (m .numbers .stored c - m .numbers .base c) ≡ m .numbers .stored c
-    whole c l = omega (arith, base-stored L n m (journal L n cs) v c l)
+-- throughout a list, whatever cards there are and however their sheets are written, so long as a restart while rolling gives the line again
+pub throughout : (C : Codec) (L : Limits) (n : CardSet) → Carded L n → CodecLaw C L n → {cs : Calls} {m : Model} (r : Run C L n cs m) → RestartsRolling r → Throughout r
+throughout C L n carded law start w = cabinet-right C L n carded law start w
+throughout C L n carded law (next r call x p) w = (throughout C L n carded law r (w .0), call-right C L n carded law r (w .0) call x p, cabinet-right C L n carded law (next r call x p) w)
 
--- demands 2 and 3, for every list of calls in which every restart stands in phase rolling
-pub demands : (L : Limits) → SheetLimits L → Demands L
-demands L lim n low high cs m r w = throughout r w
-  where
-    throughout : {cs : Calls} {m : Model} (r : Run L n cs m) → RestartsRolling r → Throughout r
-    throughout start w = cabinet-right L lim n low high start w
-    throughout (next r call x p) w = (throughout r (w .0), call-right L lim n low high r (w .0) call x p, cabinet-right L lim n low high (next r call x p) w)
+-- demands 2 and 3
+pub demands : (C : Codec) (L : Limits) (n : CardSet) → Carded L n → CodecLaw C L n → Demands C L n
+demands C L n carded law cs m r w = throughout C L n carded law r w

@@ -1,39 +1,35 @@
 -- A restart in phase up or down is as if no card was lost and the line was fixed before it. Assumes nothing.
-use Prim.Native.Nat.{ℕ, zero, suc, _+_, _-_, _≤_, _<_}
+use Prim.Native.Nat.{ℕ, _-_, _<_}
 use mathlib.Core.Path.{_≡_, refl, sym, _∙_, ap, ap₂, subst, subst₂}
 use mathlib.Core.Bool.{Bool, true, false, not, _&&_, _||_, cond}
-use mathlib.Core.Logic.{_⊎_, inl, inr, by-cases, ⊎-elim}
+use mathlib.Core.Logic.{_⊎_, ⊎-elim}
 use mathlib.Core.List.{List, [], _∷_}
 use native.Mathlib.Nat.{le-refl}
 use native.Mathlib.Omega.{arith}
-use lib.Dec.{eqb, leb, ltb}
+use lib.Dec.{ltb}
 use lib.ListN.{length}
 use borrow.Author.Tests.{lt-leb, le-ltb}
-use Rattle.laws.specs.Below.{anyBelow, selected}
-use Rattle.laws.proofs.Logic.{test, clash, fails, and-left}
+use Rattle.laws.proofs.Logic.{test, clash, fails}
 use Rattle.laws.proofs.Below.{Found, any-elim}
-use Rattle.frame.specs.declared.Verdict.{Verdict}
-use Rattle.frame.specs.declared.Verdict.the-variants.{Accepted}
-use Rattle.frame.specs.Format.{format}
-use Rattle.sheet.specs.declared.Reading.{Reading}
-use Rattle.sheet.specs.Pages.{Page, pagesBytes}
-use Rattle.readout.specs.Joint.{readoutOf}
-use Rattle.history.specs.Change.{CardSet, Numbers}
+use Rattle.refusal.specs.declared.Verdict.{Verdict}
+use Rattle.refusal.specs.declared.Verdict.the-variants.{Accepted}
+use Rattle.history.specs.Change.{CardSet}
+use Rattle.protocol.specs.Codec.{Codec}
 use Rattle.protocol.specs.Model.{Limits, Phase, up, down, rolling, isUp, isDown, isRolling, Model, noCards, strays}
 use Rattle.protocol.specs.Sound.{sound}
-use Rattle.protocol.specs.Edit.{Edit, fall, halt, fix, edited, editedAll}
+use Rattle.protocol.specs.Edit.{Edit, fall, halt, fix, editedAll}
 use Rattle.protocol.specs.Plan.{CardRow, Answer, done, fixed, Reply, accepted, Check, _⇒_, Plan, checked, afterPlan}
 use Rattle.protocol.specs.Calls.{lines, loseChecks, losePlan, cardRows, fixChecks, fixPlan}
-use Rattle.protocol.specs.Sheets.{cardCount, sheetOf, sheetFrame, joinedSheets, restartReply, restartedFrom}
-use Rattle.protocol.specs.Journal.{Journal}
 use Rattle.protocol.specs.Run.{Call, openCall, voteCall, takeCall, withdrawCall, storeCall, trimCall, safeCall, loseCall, fixCall, rollCall, sheetCall, restartCall, Choice, Proper, planOf, afterCall, verdictReply, verdictCabinet, Calls, none, further, Run, start, next, journal}
-use Rattle.protocol.specs.Demands.{CabinetRight, Throughout, RestartsRolling, WhileRolling, SheetLimits}
-use Rattle.protocol.specs.Anywhere.{chosen, PutIn, nothing, same, put-in, SessionLeft, RestartsLeft, Sooner, Anywhere}
+use Rattle.protocol.specs.Demands.{CabinetRight, Throughout, RestartsRolling, WhileRolling}
+use Rattle.protocol.specs.Anywhere.{chosen, PutIn, nothing, same, put-in, RestartsLeft, Anywhere}
 use Rattle.protocol.proofs.Steps.{Passed}
 use Rattle.protocol.proofs.Running.{Running}
 use Rattle.protocol.proofs.Invariant.{RollingBack, Invariant, invariant-sound}
-use Rattle.protocol.proofs.Lists.{run-invariant, joined-back}
-use Rattle.protocol.proofs.Answers.{demands}
+use Rattle.protocol.proofs.Lists.{run-invariant}
+use Rattle.protocol.proofs.Running.{Carded}
+use Rattle.protocol.proofs.Restart.{CodecLaw}
+use Rattle.protocol.proofs.Answers.{throughout}
 use Rattle.protocol.proofs.Choices.{choosable}
 
 -- a plan none of whose checks fails
@@ -42,16 +38,16 @@ passed-plan [] a es ps = refl
 passed-plan ((b ⇒ r) ∷ cs) a es ps = ap (λ (x : Bool). cond x (record { reply = Rattle.protocol.specs.Plan.refused r; edits = [] }) (checked cs a es)) (ps .0) ∙ passed-plan cs a es (ps .1)
 
 -- what holds at the end of a list
-last-right : {L : Limits} {n : ℕ} {cs : Calls} {m : Model} (r : Run L n cs m) → Throughout r → CabinetRight L n cs m
+last-right : {C : Codec} {L : Limits} {n : CardSet} {cs : Calls} {m : Model} (r : Run C L n cs m) → Throughout r → CabinetRight C L n cs m
 last-right start t = t
 last-right (next r call x p) t = t .2
 
 -- ---- the loss of no card
 module _ (L : Limits) (m : Model) (fine : sound L m ≡ true) (still : isRolling (m .phase) ≡ false) where
-  abbrev lostEdits : List Edit
+  abbrev pub lostEdits : List Edit
   lostEdits = fall noCards ∷ cond (isUp (m .phase)) (halt ∷ []) []
 
-  abbrev fallen : Model
+  abbrev pub fallen : Model
   fallen = editedAll L lostEdits m
 
   nobody : strays L m noCards ≡ false
@@ -68,7 +64,6 @@ module _ (L : Limits) (m : Model) (fine : sound L m ≡ true) (still : isRolling
       cases down e s = ap isDown e
       cases rolling e s = clash refl s
 
-  -- what neither the loss nor the fix changes: all that a sheet says
   same-session : fallen .session ≡ m .session
   same-session = cases (isUp (m .phase))
     where
@@ -76,38 +71,8 @@ module _ (L : Limits) (m : Model) (fine : sound L m ≡ true) (still : isRolling
       cases true = refl
       cases false = refl
 
-  abbrev fixedModel : Model
+  abbrev pub fixedModel : Model
   fixedModel = editedAll L (fix (lines L fallen) ∷ []) fallen
-
-  same-sheet : (c : ℕ) → sheetOf L fixedModel c ≡ sheetOf L m c
-  same-sheet c = cases (isUp (m .phase)) (isRolling (m .phase)) still
-    where
-      cases : (b a : Bool) → a ≡ false → sheetOf L (editedAll L (fix (lines L fallen) ∷ []) (editedAll L (fall noCards ∷ cond b (halt ∷ []) []) m)) c
-          ≡ record {
-            header =
-                record {
-                  session = cond (a && m .rolled c) (suc (m .session)) (m .session);
-                  card = c;
-                  cards = cardCount L m;
-                  base = m .numbers .base c;
-                  count = m .numbers .stored c - m .numbers .base c;
-                };
-            frames = sheetOf L m c .frames;
-          }
-      cases true true e = clash refl e
-      cases true false e = refl
-      cases false true e = clash refl e
-      cases false false e = refl
-
-  same-present : fixedModel .present ≡ m .present
-  same-present = cases (isUp (m .phase))
-    where
-      cases : (b : Bool) → editedAll L (fix (lines L fallen) ∷ []) (editedAll L (fall noCards ∷ cond b (halt ∷ []) []) m) .present ≡ m .present
-      cases true = refl
-      cases false = refl
-
-  same-bytes : joinedSheets format L fixedModel ≡ joinedSheets format L m
-  same-bytes = ap₂ (λ (p : CardSet) (f : ℕ → Page). pagesBytes format (selected (L .width) p f)) same-present (λ i c. same-sheet c i)
 
   -- the fix after it
   module _ (fine′ : sound L fallen ≡ true) (left : m .session < L .greatestNumber) (lost : List ℕ) where
@@ -123,17 +88,21 @@ module _ (L : Limits) (m : Model) (fine : sound L m ≡ true) (still : isRolling
         (ap not fine′, (ap not fallen-down, (lt-leb (L .greatestNumber) (fallen .session) (omega (arith, left, same-session)), (not-short, tt))))
 
 -- ---- a restart in phase up or down
-module _ (L : Limits) (lim : SheetLimits L) (n : ℕ) (low : 1 ≤ n) (high : n ≤ L .width) where
+-- the bytes of sheets do not go by what a loss of no card and a fix change
+abbrev pub Unmoved : Codec → Limits → Type 0
+Unmoved C L = (m : Model) (fine : sound L m ≡ true) (still : isRolling (m .phase) ≡ false) → C .joined L (fixedModel L m fine still) ≡ C .joined L m
+
+module _ (C : Codec) (L : Limits) (n : CardSet) (carded : Carded L n) (law : CodecLaw C L n) (unmoved : Unmoved C L) where
   -- a list whose restarts all stand in phase rolling
   abbrev Good : Calls → Model → Type 0
-  Good cs m = (r : Run L n cs m) × RestartsRolling r
+  Good cs m = (r : Run C L n cs m) × RestartsRolling r
 
   abbrev chosenNothing : Choice
   chosenNothing = record { named = 0; lost = [] }
 
   module _ (cs : Calls) (m : Model) (g : Good cs m) (still : isRolling (m .phase) ≡ false) (left : m .session < L .greatestNumber) where
     fine : sound L m ≡ true
-    fine = invariant-sound L n m (journal L n cs) (run-invariant lim low high (g .0) (g .1))
+    fine = invariant-sound L n m (journal L n cs) (run-invariant carded law (g .0) (g .1))
 
     abbrev lostCalls : Calls
     lostCalls = further cs (loseCall noCards) (accepted done)
@@ -143,7 +112,7 @@ module _ (L : Limits) (lim : SheetLimits L) (n : ℕ) (low : 1 ≤ n) (high : n 
         subst (λ (p : Plan). Good (further cs (loseCall noCards) (p .reply)) (afterPlan L p m)) (lost-plan L m fine still) (next (g .0) (loseCall noCards) chosenNothing tt, (g .1, tt))
 
     fine′ : sound L (fallen L m fine still) ≡ true
-    fine′ = invariant-sound L n (fallen L m fine still) (journal L n lostCalls) (run-invariant lim low high (lost-good .0) (lost-good .1))
+    fine′ = invariant-sound L n (fallen L m fine still) (journal L n lostCalls) (run-invariant carded law (lost-good .0) (lost-good .1))
 
     abbrev lost : List ℕ
     lost = chosen L (fallen L m fine still) (fixCall 0 0) .lost
@@ -160,41 +129,41 @@ module _ (L : Limits) (lim : SheetLimits L) (n : ℕ) (low : 1 ≤ n) (high : n 
         (next (lost-good .0) (fixCall (length fixRows) (length lost)) (record { named = 0; lost = lost }) (choosable L (fallen L m fine still) (fixCall 0 0)), (lost-good .1, tt))
 
     abbrev bytes : Model → List ℕ
-    bytes x = joinedSheets format L x
+    bytes x = C .joined L x
 
     bytes-same : bytes (fixedModel L m fine still) ≡ bytes m
-    bytes-same = same-bytes L m fine still
+    bytes-same = unmoved m fine still
 
-    accepted-so : restartReply (bytes (fixedModel L m fine still)) ≡ Accepted
+    accepted-so : C .verdict (bytes (fixedModel L m fine still)) ≡ Accepted
     accepted-so =
-        let v : Invariant L n (fixedModel L m fine still) (journal L n fixedCalls) = run-invariant lim low high (fixed-good .0) (fixed-good .1) in
+        let v : Invariant L n (fixedModel L m fine still) (journal L n fixedCalls) = run-invariant carded law (fixed-good .0) (fixed-good .1) in
         ⊎-elim (λ (r : Running L (fixedModel L m fine still) (journal L n fixedCalls)). clash refl (r .not-rolling))
-        (λ (r : RollingBack L (fixedModel L m fine still) (journal L n fixedCalls)). ap (λ (x : Reading). x .verdict) (joined-back L lim n low high (fixedModel L m fine still) (journal L n fixedCalls) v r)) (v .state)
+        (λ (r : RollingBack L (fixedModel L m fine still) (journal L n fixedCalls)). law .remade (fixedModel L m fine still) (journal L n fixedCalls) v r .accepts) (v .state)
 
     -- the cabinet restarted is the same
-    same-cabinet : verdictCabinet (restartReply (bytes (fixedModel L m fine still))) (restartedFrom L (bytes (fixedModel L m fine still))) (fixedModel L m fine still)
-        ≡ verdictCabinet (restartReply (bytes m)) (restartedFrom L (bytes m)) m
+    same-cabinet : verdictCabinet (C .verdict (bytes (fixedModel L m fine still))) (C .restarted L (bytes (fixedModel L m fine still))) (fixedModel L m fine still)
+        ≡ verdictCabinet (C .verdict (bytes m)) (C .restarted L (bytes m)) m
     same-cabinet =
-        ap (λ (v : Verdict). verdictCabinet v (restartedFrom L (bytes (fixedModel L m fine still))) (fixedModel L m fine still)) accepted-so
-        ∙ ap (restartedFrom L) bytes-same
-        ∙ sym (ap (λ (v : Verdict). verdictCabinet v (restartedFrom L (bytes m)) m) (ap restartReply (sym bytes-same) ∙ accepted-so))
+        ap (λ (v : Verdict). verdictCabinet v (C .restarted L (bytes (fixedModel L m fine still))) (fixedModel L m fine still)) accepted-so
+        ∙ ap (C .restarted L) bytes-same
+        ∙ sym (ap (λ (v : Verdict). verdictCabinet v (C .restarted L (bytes m)) m) (ap (C .verdict) (sym bytes-same) ∙ accepted-so))
 
     abbrev reply : Reply
-    reply = verdictReply (restartReply (bytes m))
+    reply = verdictReply (C .verdict (bytes m))
 
-    restarted-good : Good (further fixedCalls restartCall reply) (afterCall L m restartCall chosenNothing)
+    restarted-good : Good (further fixedCalls restartCall reply) (afterCall C L m restartCall chosenNothing)
     restarted-good =
-        subst₂ (λ (y : Reply) (x : Model). Good (further fixedCalls restartCall y) x) (ap (λ (b : List ℕ). verdictReply (restartReply b)) bytes-same) same-cabinet
+        subst₂ (λ (y : Reply) (x : Model). Good (further fixedCalls restartCall y) x) (ap (λ (b : List ℕ). verdictReply (C .verdict b)) bytes-same) same-cabinet
         (next (fixed-good .0) restartCall chosenNothing tt, (fixed-good .1, refl))
 
   -- what is wanted of a list, before its claims
   abbrev Led : Calls → Model → Type 0
   Led cs m = (ds : Calls) × PutIn cs ds × Good ds m
 
-  one-more : (cs : Calls) (m : Model) → Led cs m → (call : Call) (x : Choice) → Proper L m call x → WhileRolling call m → Led (further cs call (planOf L m call x .reply)) (afterCall L m call x)
-  one-more cs m d call x p w = (further (d .0) call (planOf L m call x .reply), same (d .1) call (planOf L m call x .reply), (next (d .2 .0) call x p, (d .2 .1, w)))
+  one-more : (cs : Calls) (m : Model) → Led cs m → (call : Call) (x : Choice) → Proper L m call x → WhileRolling call m → Led (further cs call (planOf C L m call x .reply)) (afterCall C L m call x)
+  one-more cs m d call x p w = (further (d .0) call (planOf C L m call x .reply), same (d .1) call (planOf C L m call x .reply), (next (d .2 .0) call x p, (d .2 .1, w)))
 
-  led : {cs : Calls} {m : Model} (r : Run L n cs m) → RestartsLeft r → Led cs m
+  led : {cs : Calls} {m : Model} (r : Run C L n cs m) → RestartsLeft r → Led cs m
   led start w = (none, nothing, (start, tt))
   led (next {cs} {m} r (openCall reads writes) x p) w = one-more cs m (led r (w .0)) (openCall reads writes) x p tt
   led (next {cs} {m} r (voteCall k c agrees) x p) w = one-more cs m (led r (w .0)) (voteCall k c agrees) x p tt
@@ -216,13 +185,13 @@ module _ (L : Limits) (lim : SheetLimits L) (n : ℕ) (low : 1 ≤ n) (high : n 
         restarted-good (d .0) m (d .2) e left,
       ))
 
-pub sooner : (L : Limits) → SheetLimits L → Anywhere L
-sooner L lim n low high cs m r w =
-    let d : Led L lim n low high cs m = led L lim n low high r w in
+pub sooner : (C : Codec) (L : Limits) (n : CardSet) → Carded L n → CodecLaw C L n → Unmoved C L → Anywhere C L n
+sooner C L n carded law unmoved cs m r w =
+    let d : Led C L n carded law unmoved cs m = led C L n carded law unmoved r w in
     record {
       calls = d .0;
       but-for = d .1;
       run = d .2 .0;
       rolling = d .2 .1;
-      right = last-right (d .2 .0) (demands L lim n low high (d .0) m (d .2 .0) (d .2 .1));
+      right = last-right (d .2 .0) (throughout C L n carded law (d .2 .0) (d .2 .1));
     }

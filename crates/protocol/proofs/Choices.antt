@@ -1,21 +1,19 @@
 -- What is left to the program can be chosen, whatever the cabinet. Assumes nothing.
-use Prim.Native.Nat.{ℕ, zero, suc, _+_, _-_, _≤_, _<_, max}
+use Prim.Native.Nat.{ℕ, suc, _+_, _-_, _≤_, _<_, max}
 use mathlib.Core.Path.{_≡_, refl, sym, _∙_, ap, ap₂}
-use mathlib.Core.Bool.{Bool, true, false, not, _&&_, _||_, cond}
-use mathlib.Core.List.{List, []}
-use mathlib.Core.Logic.{_⊎_, inl, inr, by-cases, ⊎-elim}
+use mathlib.Core.Bool.{Bool, true, false, not, _&&_, _||_}
+use mathlib.Core.Logic.{_⊎_, by-cases, ⊎-elim}
 use native.Mathlib.Nat.{zero-add}
-use native.Mathlib.Decide.{decLt, ℕ-discrete}
+use native.Mathlib.Decide.{decLt}
 use native.Mathlib.Omega.{arith}
 use lib.Dec.{eqb}
-use borrow.Author.Tests.{eq-eqb, ne-eqb, eqb-true}
-use Rattle.laws.specs.Below.{one-if, anyBelow, countBelow, greatest, firstBelow, selected, occurs}
-use Rattle.laws.proofs.Logic.{test, clash, fails, and-left, and-right, or-elim}
+use borrow.Author.Tests.{eq-eqb, eqb-true}
+use Rattle.laws.specs.Below.{one-if, anyBelow, countBelow, greatest}
+use Rattle.laws.proofs.Logic.{test, fails, and-right, or-elim}
 use Rattle.laws.proofs.Below.{Found, any-elim, first-below, first-passes, greatest-above, count-rest, count-once, occurs-selected}
-use Rattle.history.specs.Change.{CardSet, Numbers}
 use Rattle.protocol.specs.Model.{Limits, Model}
 use Rattle.protocol.specs.Calls.{barred, frameAbove, someFrameAbove, lineOf, isLost}
-use Rattle.protocol.specs.Run.{Call, openCall, voteCall, takeCall, withdrawCall, storeCall, trimCall, safeCall, loseCall, fixCall, rollCall, sheetCall, restartCall}
+use Rattle.protocol.specs.Run.{openCall, voteCall, takeCall, withdrawCall, storeCall, trimCall, safeCall, loseCall, fixCall, rollCall, sheetCall, restartCall}
 use Rattle.protocol.specs.Anywhere.{greatestLost, Choosable}
 
 -- ---- each number below a bound that passes a test, once

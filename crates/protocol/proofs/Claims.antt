@@ -1,32 +1,22 @@
 -- Demand 1, for any limits, any cabinet and any arguments. Assumes nothing.
-use Prim.Native.Nat.{ℕ, zero, suc, _+_, _-_, _≤_, _<_, zero-le}
-use mathlib.Core.Path.{_≡_, refl, sym, _∙_, ap, ap₂, subst}
-use mathlib.Core.Bool.{Bool, true, false, not, _&&_, _||_, cond}
-use mathlib.Core.Logic.{_⊎_, inl, inr, by-cases, ⊎-elim, _↔_}
-use mathlib.Core.List.{List, [], _∷_, _++_}
-use native.Mathlib.Nat.{le-refl, le-trans, le-of-eq}
-use native.Mathlib.Decide.{decLe, decLt, ℕ-discrete}
+use Prim.Native.Nat.{ℕ, _-_, _≤_}
+use mathlib.Core.Path.{_≡_, refl}
+use mathlib.Core.Logic.{inl, inr}
+use mathlib.Core.List.{List}
 use native.Mathlib.Omega.{arith}
-use lib.Dec.{eqb, leb, ltb, lit≤}
-use lib.ListN.{length}
-use borrow.Author.Tests.{lt-ltb, le-ltb, eq-eqb, eqb-true}
-use Rattle.laws.specs.Below.{one-if, anyBelow, tabulate, occurs}
-use Rattle.laws.proofs.Logic.{test, clash, fails, and-left, and-right, and-intro, or-left, or-right, or-elim, not-true, not-intro, cond-case, same-test}
-use Rattle.laws.proofs.Below.{Found, any-elim, any-intro, all-at, all-same, any-same, selected-first}
-use Rattle.laws.proofs.Fill.{tabulate-same}
+use lib.Dec.{lit≤}
 use Rattle.refusal.specs.declared.Refusal.{Refusal}
 use Rattle.refusal.specs.declared.Refusal.the-variants.{CardCount, NoSuchCard, BothSetsEmpty, TooShort, BadLine, BadCheck, BadHeader, EndOrMore, BadFrame, TwoVectors, SessionsApart, TooLong, WrongPhase, Barred, NoPlace, InHandFull, LimitReached, NotAwaited, AlreadyDecided, StoreOutside, BadCabinet, NotDecided, AlreadyRolled}
 use Rattle.refusal.specs.Number.{numberOf}
-use Rattle.frame.specs.declared.Verdict.{Verdict}
-use Rattle.frame.specs.declared.Verdict.the-variants.{Accepted, Refused}
-use Rattle.frame.specs.Format.{format}
+use Rattle.refusal.specs.declared.Verdict.{Verdict}
+use Rattle.refusal.specs.declared.Verdict.the-variants.{Accepted, Refused}
+use Rattle.protocol.specs.Codec.{sheetChecks}
 use Rattle.protocol.specs.Model.{Limits, Model}
 use Rattle.protocol.specs.Edit.{Edit}
-use Rattle.protocol.specs.Plan.{Answer, done, Reply, accepted, refused, Check, Plan, checked, afterPlan}
+use Rattle.protocol.specs.Plan.{Answer, done, accepted, refused, Check, Plan, checked, afterPlan}
 use Rattle.protocol.specs.Calls.{openChecks, voteChecks, takeChecks, withdrawChecks, storeChecks, trimChecks, safeChecks, loseChecks, fixChecks, rollChecks}
-use Rattle.protocol.specs.Sheets.{sheetChecks, joinedSheets, restartReply, restartedFrom}
-use Rattle.protocol.specs.Run.{Call, openCall, voteCall, takeCall, withdrawCall, storeCall, trimCall, safeCall, loseCall, fixCall, rollCall, sheetCall, restartCall, Choice, planOf, afterCall, verdictReply, verdictCabinet}
-use Rattle.protocol.specs.Demands.{Listed, Refuses, Demand1}
+use Rattle.protocol.specs.Run.{Call, openCall, voteCall, takeCall, withdrawCall, storeCall, trimCall, safeCall, loseCall, fixCall, rollCall, sheetCall, restartCall, planOf, afterCall, verdictReply, verdictCabinet}
+use Rattle.protocol.specs.Demands.{Listed, Demand1}
 use Rattle.protocol.proofs.Steps.{checked-case}
 
 -- ---- demand 1
@@ -63,9 +53,9 @@ refusal-keeps L m cs a es =
     checked-case (λ (p : Plan). (r : Refusal) → p .reply ≡ refused r → afterPlan L p m ≡ m) cs a es (λ x r e. refl) (λ ps r e. not-both a r e)
 
 pub demand-1 : Demand1
-demand-1 L m call x = record { listed = λ r e. all-listed r; unchanged = unchanged call }
+demand-1 C L m call x = record { listed = λ r e. all-listed r; unchanged = unchanged call }
   where
-    unchanged : (call : Call) (r : Refusal) → planOf L m call x .reply ≡ refused r → afterCall L m call x ≡ m
+    unchanged : (call : Call) (r : Refusal) → planOf C L m call x .reply ≡ refused r → afterCall C L m call x ≡ m
     unchanged (openCall reads writes) = refusal-keeps L m (openChecks L m reads writes (x .named)) _ _
     unchanged (voteCall k c agrees) = refusal-keeps L m (voteChecks L m k c) _ _
     unchanged (takeCall k c) = refusal-keeps L m (takeChecks L m k c) _ _
@@ -76,9 +66,9 @@ demand-1 L m call x = record { listed = λ r e. all-listed r; unchanged = unchan
     unchanged (loseCall cards) = refusal-keeps L m (loseChecks L m cards) _ _
     unchanged (fixCall a b) = refusal-keeps L m (fixChecks L m a b (x .lost)) _ _
     unchanged (rollCall c) = refusal-keeps L m (rollChecks L m c) _ _
-    unchanged (sheetCall c places) = refusal-keeps L m (sheetChecks format L m c places) _ _
-    unchanged restartCall = by-verdict (restartReply (joinedSheets format L m))
+    unchanged (sheetCall c places) = refusal-keeps L m (sheetChecks C L m c places) _ _
+    unchanged restartCall = by-verdict (C .verdict (C .joined L m))
       where
-        by-verdict : (v : Verdict) (r : Refusal) → verdictReply v ≡ refused r → verdictCabinet v (restartedFrom L (joinedSheets format L m)) m ≡ m
+        by-verdict : (v : Verdict) (r : Refusal) → verdictReply v ≡ refused r → verdictCabinet v (C .restarted L (C .joined L m)) m ≡ m
         by-verdict Accepted r e = not-both done r e
         by-verdict (Refused q) r e = refl

@@ -1,22 +1,20 @@
 -- What a line is worked out from: bases, stored and reached numbers, and the vectors of the states in hand. Where these are right, the rule per card gives the
 -- line of the history. Trim, roll and restart leave them right. Assumes nothing.
-use Prim.Native.Nat.{ℕ, zero, suc, _+_, _≤_, _<_}
-use mathlib.Core.Path.{_≡_, refl, sym, _∙_, ap}
-use mathlib.Core.Bool.{Bool, true, false}
-use mathlib.Core.Logic.{by-cases}
-use native.Mathlib.Nat.{le-refl, le-trans, le-antisymm, le-of-eq}
-use native.Mathlib.Decide.{decLe}
+use Prim.Native.Nat.{ℕ, _+_, _≤_, _<_}
+use mathlib.Core.Path.{_≡_, sym, _∙_, ap}
+use mathlib.Core.Bool.{true}
+use native.Mathlib.Nat.{le-trans, le-antisymm, le-of-eq}
 use native.Mathlib.Omega.{arith}
 use Rattle.laws.proofs.Below.{any-same}
-use Rattle.history.specs.Change.{Change, History, Numbers, writers, made, Cut}
+use Rattle.history.specs.Change.{History, Numbers, writers, made}
 use Rattle.history.specs.Vector.{Vector, entryOf, vector, stateVector, IsVector}
-use Rattle.history.specs.Line.{atOrAbove, orphan, Climbed, lineFrom, line}
+use Rattle.history.specs.Line.{atOrAbove, orphan, lineFrom, line}
 use Rattle.history.proofs.Writers.{Maker, maker}
 use Rattle.history.proofs.Vectors.{frame-is}
 use Rattle.history.proofs.Climb.{line-climbed, climbed-same, climbed-unique}
 use Rattle.history.proofs.Cuts.{told-by-makers}
 use Rattle.history.proofs.Entries.{state-vector-is}
-use Rattle.history.proofs.Lines.{Fits, line-is, fits-on, on-fits, fits-line, line-cut, line-mono, line-between, rule-from}
+use Rattle.history.proofs.Lines.{line-is, fits-on, on-fits, fits-line, line-mono, line-between, rule-from}
 use Rattle.protocol.proofs.Taking.{Based}
 
 -- the line of the first n changes of a history for stored numbers s

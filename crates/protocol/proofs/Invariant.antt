@@ -1,27 +1,25 @@
 -- The invariant of whole lists of calls: a cabinet that runs or rolls back, with the journal beside it. Every call keeps it. Assumes nothing.
-use Prim.Native.Nat.{ℕ, zero, suc, _+_, _-_, _≤_, _<_, zero-le}
-use mathlib.Core.Path.{_≡_, refl, sym, _∙_, ap, ap₂, subst}
-use mathlib.Core.Bool.{Bool, true, false, not, _&&_, _||_, cond}
-use mathlib.Core.Logic.{_⊎_, inl, inr, by-cases, ⊎-elim}
-use mathlib.Core.List.{List, [], _∷_, _++_}
-use native.Mathlib.Nat.{le-refl, le-trans}
+use Prim.Native.Nat.{ℕ, suc, _-_, _<_}
+use mathlib.Core.Path.{_≡_, refl, sym, _∙_, ap, ap₂}
+use mathlib.Core.Bool.{Bool, true, false, not, _||_, cond}
+use mathlib.Core.Logic.{_⊎_, inl, inr, ⊎-elim}
+use mathlib.Core.List.{List, [], _∷_}
 use native.Mathlib.Omega.{arith}
-use lib.Dec.{eqb, leb, ltb}
+use lib.Dec.{eqb}
 use lib.ListN.{length}
-use borrow.Author.Tests.{leb-false, ltb-true, le-ltb}
-use Rattle.refusal.specs.declared.Refusal.{Refusal}
-use Rattle.laws.proofs.Logic.{test, clash, fails, and-left, and-intro, cond-case}
+use borrow.Author.Tests.{leb-false}
+use Rattle.laws.proofs.Logic.{test, clash, fails, cond-case}
 use Rattle.laws.proofs.Below.{all-same}
-use Rattle.history.specs.Change.{CardSet, Change, History, Numbers, touches, writers, historyOf}
+use Rattle.history.specs.Change.{CardSet, touches, writers, historyOf}
 use Rattle.protocol.specs.Model.{Limits, Phase, up, down, rolling, isUp, isDown, isRolling, OpenChange, Model, isCard, within, withCard, placeOf}
 use Rattle.protocol.specs.Sound.{sound}
-use Rattle.protocol.specs.Edit.{Edit, place, fix, edited, editedAll, halt, lower, renew, fall}
-use Rattle.protocol.specs.Plan.{CardRow, Answer, done, Reply, accepted, refused, Check, _⇒_, Plan, checked, afterPlan}
+use Rattle.protocol.specs.Edit.{Edit, place, fix, edited, editedAll, lower, renew, fall}
+use Rattle.protocol.specs.Plan.{Answer, Reply, accepted, refused, Check, Plan, checked, afterPlan}
 use Rattle.protocol.specs.Calls.{freshModel, openChecks, openPlan, voteChecks, votePlan, shareEdit, tookShare, takeChecks, takePlan, withdrawChecks, withdrawPlan, storeChecks, storePlan, trimChecks, trimPlan, safeChecks, safePlan, loseChecks, losePlan, fixChecks, fixPlan, cardRows, lines, rollChecks, rollPlan, allRolled}
-use Rattle.protocol.specs.Journal.{Journal, Noted, asked, noteVoteOn, Fixing, unfixed, fixing, emptyJournal, withUndecided, struck, noteOpen, noteVote, noteStruck, noteStore, noteLose, noteFix, noteRoll, noteRollOf}
-use Rattle.protocol.proofs.Intact.{Intact}
+use Rattle.protocol.specs.Journal.{Journal, Noted, asked, noteVoteOn, unfixed, fixing, emptyJournal, struck, noteOpen, noteVote, noteStruck, noteStore, noteLose, noteFix, noteRoll}
 use Rattle.protocol.proofs.Running.{Running}
 use Rattle.protocol.proofs.Openings.{fresh-running}
+use Rattle.protocol.proofs.Running.{Carded}
 use Rattle.protocol.proofs.Stores.{absent-still}
 use Rattle.protocol.proofs.Soundness.{running-sound}
 use Rattle.protocol.proofs.Rolling.{AboutLine, Rolling, LineNoted, rolling-sound, fix-rolls, fix-notes, lose-rolls, roll-rolls, renew-runs}
@@ -33,16 +31,16 @@ pub record RollingBack (L : Limits) (m : Model) (j : Journal) : Type 0 where
   pub notes : LineNoted L m j
 
 -- n is the number of cards of the fresh cabinet
-pub record Invariant (L : Limits) (n : ℕ) (m : Model) (j : Journal) : Type 0 where
-  pub present-is : (c : ℕ) → m .present c ≡ ltb c n
-  pub absent-start : (c : ℕ) → c < L .width → n ≤ c → j .start c ≡ 0
+pub record Invariant (L : Limits) (n : CardSet) (m : Model) (j : Journal) : Type 0 where
+  pub present-is : (c : ℕ) → m .present c ≡ n c
+  pub absent-start : (c : ℕ) → c < L .width → n c ≡ false → j .start c ≡ 0
   pub state : Running L m j ⊎ RollingBack L m j
 
-pub fresh-invariant : (L : Limits) (n : ℕ) → 1 ≤ n → n ≤ L .width → Invariant L n (freshModel n) emptyJournal
-fresh-invariant L n low high = record { present-is = λ c. refl; absent-start = λ c l h. refl; state = inl (fresh-running L n low high) }
+pub fresh-invariant : (L : Limits) (n : CardSet) → Carded L n → Invariant L n (freshModel n) emptyJournal
+fresh-invariant L n carded = record { present-is = λ c. refl; absent-start = λ c l h. refl; state = inl (fresh-running L n carded) }
 
 -- no cabinet of a list is refused with 28
-pub invariant-sound : (L : Limits) (n : ℕ) (m : Model) (j : Journal) → Invariant L n m j → sound L m ≡ true
+pub invariant-sound : (L : Limits) (n : CardSet) (m : Model) (j : Journal) → Invariant L n m j → sound L m ≡ true
 invariant-sound L n m j v = ⊎-elim (λ (r : Running L m j). running-sound L m j r) (λ (r : RollingBack L m j). rolling-sound L m j (r .rolls)) (v .state)
 
 rolling-not-up : (p : Phase) → isRolling p ≡ true → isUp p ≡ false
@@ -59,14 +57,14 @@ rolling-not-down rolling e = refl
 abbrev SameCards : Limits → Model → Plan → Type 0
 SameCards L m p = (c : ℕ) → afterPlan L p m .present c ≡ m .present c
 
-module _ (L : Limits) (n : ℕ) (m : Model) (j : Journal) (v : Invariant L n m j) where
+module _ (L : Limits) (n : CardSet) (m : Model) (j : Journal) (v : Invariant L n m j) where
   abbrev Next : Journal → Plan → Type 0
   Next j' p = Invariant L n (afterPlan L p m) (noted j j' (p .reply))
 
   abbrev Back : Journal → Plan → Type 0
   Back j' p = RollingBack L (afterPlan L p m) (noted j j' (p .reply))
 
-  same-start : (j' : Journal) → ((c : ℕ) → j' .start c ≡ j .start c) → (q : Reply) → (c : ℕ) → c < L .width → n ≤ c → noted j j' q .start c ≡ 0
+  same-start : (j' : Journal) → ((c : ℕ) → j' .start c ≡ j .start c) → (q : Reply) → (c : ℕ) → c < L .width → n c ≡ false → noted j j' q .start c ≡ 0
   same-start j' e (accepted a) c l h = e c ∙ v .absent-start c l h
   same-start j' e (refused r) c l h = v .absent-start c l h
 
@@ -179,7 +177,7 @@ module _ (L : Limits) (n : ℕ) (m : Model) (j : Journal) (v : Invariant L n m j
   -- ---- roll
   module _ (c : ℕ) (l : c < L .width) (r : RollingBack L m j) where
     abbrev cards : CardSet
-    cards i = ltb i n
+    cards = n
 
     same-left : within L cards (withCard (r .notes .marked) c) ≡ within L (m .present) (withCard (m .rolled) c)
     same-left =
@@ -189,10 +187,10 @@ module _ (L : Limits) (n : ℕ) (m : Model) (j : Journal) (v : Invariant L n m j
         (λ e. rw (e, sym (v .present-is i) ∙ e)))
 
     -- the line of a card that is not there is its start number, 0
-    absent-zero : (i : ℕ) → i < L .width → n ≤ i → r .notes .line i ≡ 0
+    absent-zero : (i : ℕ) → i < L .width → n i ≡ false → r .notes .line i ≡ 0
     absent-zero i li h =
         let a : AboutLine L m (j .start) (length (j .history)) (j .stored) (m .line) (historyOf (j .history)) = r .rolls .about (historyOf (j .history)) (λ x y. refl) in
-        let z : writers (historyOf (j .history)) i (length (j .history)) ≡ 0 = absent-still L m (j .start) (length (j .history)) (historyOf (j .history)) (a .there) i li (v .present-is i ∙ le-ltb i n h) in
+        let z : writers (historyOf (j .history)) i (length (j .history)) ≡ 0 = absent-still L m (j .start) (length (j .history)) (historyOf (j .history)) (a .there) i li (v .present-is i ∙ h) in
         omega
         (arith, z, r .notes .line-is i li, a .line-right i li, a .intact .line-stored i li, a .intact .stored-reached i li, a .intact .reached-top i li, v .absent-start i li h)
 
@@ -223,8 +221,8 @@ module _ (L : Limits) (n : ℕ) (m : Model) (j : Journal) (v : Invariant L n m j
             → Invariant L n (editedAll L (lower c ∷ cond (within L (m .present) (withCard (m .rolled) c)) (renew ∷ []) []) m) (cond (within L (m .present) (withCard (m .rolled) c)) beginning marking)
         last e = rw e (record { present-is = v .present-is; absent-start = absent-zero; state = inl (renew-runs L m j (r .rolls) c l (r .notes) e) })
 
-  pub next-roll : (c : ℕ) → Next (noteRoll L (λ i. ltb i n) j c) (rollPlan L m c)
+  pub next-roll : (c : ℕ) → Next (noteRoll L n j c) (rollPlan L m c)
   next-roll c =
-      checked-case (Next (noteRoll L (λ i. ltb i n) j c)) (rollChecks L m c) _ _ (λ x. v)
+      checked-case (Next (noteRoll L n j c)) (rollChecks L m c) _ _ (λ x. v)
       (λ ps. ⊎-elim (λ (r : Running L m j). clash (not-not (isRolling (m .phase)) (ps .1 .1 .0)) (r .not-rolling))
       (λ (r : RollingBack L m j). rolled c (card-below L m c (not-not (isCard L m c) (ps .1 .0))) r) (v .state))

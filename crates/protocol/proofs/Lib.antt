@@ -12,12 +12,9 @@ pub mod Lost
 pub mod Steps
 pub mod Invariant
 pub mod Restart
-pub mod Reading
 pub mod Claims
 pub mod Lists
 pub mod Kept
 pub mod Answers
-pub mod Document
 pub mod Choices
 pub mod Anywhere
-pub mod Worked

@@ -1,120 +1,73 @@
 -- Every list of calls keeps the invariant, and what follows of the cabinet after each call. Assumes nothing.
-use Prim.Native.Nat.{ℕ, zero, suc, _+_, _-_, _≤_, _<_, zero-le}
-use mathlib.Core.Path.{_≡_, refl, sym, _∙_, ap, ap₂, subst}
-use mathlib.Core.Bool.{Bool, true, false, not, _&&_, _||_, cond}
+use Prim.Native.Nat.{ℕ, suc, _+_, _-_, _≤_, _<_}
+use mathlib.Core.Path.{_≡_, refl, sym, _∙_, ap, subst}
+use mathlib.Core.Bool.{true, false, cond}
 use mathlib.Core.Logic.{_⊎_, inl, inr, by-cases, ⊎-elim}
-use mathlib.Core.List.{List, [], _∷_}
-use native.Mathlib.Nat.{le-refl, le-trans}
-use native.Mathlib.Decide.{decLe, decLt, ℕ-discrete}
+use mathlib.Core.List.{List}
+use native.Mathlib.Nat.{le-trans}
+use native.Mathlib.Decide.{decLt, ℕ-discrete}
 use native.Mathlib.Omega.{arith}
-use lib.Dec.{eqb, ltb}
 use lib.ListN.{length}
-use borrow.Author.Tests.{lt-ltb, le-ltb, eq-eqb}
-use Rattle.laws.proofs.Logic.{test, clash, fails, and-left, or-elim, not-true, cond-case}
-use Rattle.laws.proofs.Below.{all-at}
-use Rattle.frame.specs.declared.Verdict.the-variants.{Accepted}
-use Rattle.frame.specs.Format.{format}
-use Rattle.sheet.specs.declared.Readout.{Readout}
-use Rattle.sheet.specs.declared.Reading.{Reading}
-use Rattle.sheet.specs.Pages.{Page, pagesBytes}
-use Rattle.sheet.specs.Walk.{noReadout, layPages}
-use Rattle.sessions.specs.Sessions.{lowestOf}
-use Rattle.readout.specs.Joint.{readoutOf}
-use Rattle.laws.specs.Below.{tabulate}
-use Rattle.history.specs.Change.{CardSet, Change, History, Numbers, writers, made, UpTo, historyOf}
-use Rattle.history.specs.Vector.{Vector, vector, entryOf, LastPreceding}
+use Rattle.laws.proofs.Logic.{test, clash}
+use Rattle.history.specs.Change.{CardSet, History, Numbers, writers, made, UpTo, historyOf}
+use Rattle.history.specs.Vector.{vector, entryOf, LastPreceding}
 use Rattle.history.proofs.Writers.{Maker, maker, makers-order}
-use Rattle.history.proofs.Greatest.{Greatest, Makes, greatest-of}
+use Rattle.history.proofs.Greatest.{Makes, greatest-of}
 use Rattle.history.proofs.Vectors.{vector-greatest}
 use Rattle.history.proofs.Precedence.{up-to-trans}
 use Rattle.history.proofs.Cuts.{writers-precede}
 use Rattle.history.proofs.Entries.{entry-of-greatest}
-use Rattle.protocol.specs.Model.{Limits, Phase, up, down, rolling, isUp, isDown, isRolling, Model, within, withCard}
-use Rattle.protocol.specs.Edit.{put, Edit}
-use Rattle.protocol.specs.Plan.{CardRow, Answer, done, opened, fixed, Reply, accepted, refused, Check, Plan, checked, afterPlan}
-use Rattle.protocol.specs.Calls.{freshModel, cardRows, openChecks, voteChecks, takeChecks, withdrawChecks, storeChecks, trimChecks, safeChecks, loseChecks, fixChecks, rollChecks}
-use Rattle.protocol.specs.Sheets.{sheetChecks, sheetOf, pageStored, joinedSheets, restarted, restartReply, restartedFrom}
-use Rattle.protocol.specs.Journal.{Journal, Fixing, unfixed, fixing, emptyJournal, noteOpen, noteVote, noteStruck, noteStore, noteLose, noteFix, noteRoll}
-use Rattle.protocol.specs.Run.{Call, openCall, voteCall, takeCall, withdrawCall, storeCall, trimCall, safeCall, loseCall, fixCall, rollCall, sheetCall, restartCall, Choice, planOf, afterCall, verdictReply, verdictCabinet, Calls, none, further, Run, start, next, note, journal}
-use Rattle.protocol.specs.Demands.{VectorsRight, WhileRolling, RestartsRolling, SheetLimits}
-use Rattle.sheet.proofs.Lay.{Holds}
-use Rattle.protocol.proofs.Restart.{sheets-are, line-again, restart-rolls, restart-notes}
-use Rattle.protocol.proofs.Reading.{held, cards-are, lowest-is, read-back}
+use Rattle.protocol.specs.Codec.{Codec, sheetChecks}
+use Rattle.protocol.specs.Model.{Limits, Phase, up, down, rolling, isUp, isRolling, Model}
+use Rattle.protocol.specs.Edit.{Edit}
+use Rattle.protocol.specs.Plan.{Answer, accepted, Check, Plan, checked, afterPlan}
+use Rattle.protocol.specs.Calls.{cardRows, openChecks, voteChecks, takeChecks, withdrawChecks, storeChecks, trimChecks, safeChecks, loseChecks, fixChecks, rollChecks}
+use Rattle.protocol.specs.Journal.{Journal, Fixing, unfixed, fixing, noteOpen, noteVote, noteStruck, noteStore, noteLose, noteFix, noteRoll}
+use Rattle.protocol.specs.Run.{Call, openCall, voteCall, takeCall, withdrawCall, storeCall, trimCall, safeCall, loseCall, fixCall, rollCall, sheetCall, restartCall, Choice, planOf, afterCall, verdictReply, verdictCabinet, Calls, Run, start, next, note, journal}
+use Rattle.protocol.specs.Demands.{VectorsRight, WhileRolling, RestartsRolling}
+use Rattle.protocol.proofs.Restart.{restart-again, Remade, CodecLaw}
 use Rattle.protocol.proofs.Taking.{Framed, ByTakenWriters}
-use Rattle.protocol.proofs.Running.{About, Running}
-use Rattle.protocol.proofs.Rolling.{AboutLine, Rolling, LineNoted}
+use Rattle.protocol.proofs.Running.{About, Carded, Running}
+use Rattle.protocol.proofs.Rolling.{AboutLine}
 use Rattle.protocol.proofs.Steps.{checked-case, noted}
-use Rattle.protocol.proofs.Invariant.{RollingBack, Invariant, fresh-invariant, invariant-sound, next-open, next-vote, next-withdraw, next-take, next-store, next-trim, next-safe, next-lose, next-fix, next-roll}
+use Rattle.protocol.proofs.Invariant.{RollingBack, Invariant, fresh-invariant, next-open, next-vote, next-withdraw, next-take, next-store, next-trim, next-safe, next-lose, next-fix, next-roll}
 
 -- the journal notes what the call's lemma says
-same-note : (L : Limits) (n : ℕ) (j j' : Journal) (call : Call) (cs : List Check) (a : Answer) (es : List Edit) → note L n j call (accepted a) ≡ j'
+same-note : (L : Limits) (n : CardSet) (j j' : Journal) (call : Call) (cs : List Check) (a : Answer) (es : List Edit) → note L n j call (accepted a) ≡ j'
     → noted j j' (checked cs a es .reply) ≡ note L n j call (checked cs a es .reply)
 same-note L n j j' call cs a es e =
     checked-case (λ (p : Plan). noted j j' (p .reply) ≡ note L n j call (p .reply)) cs a es (λ r. refl) (λ ps. sym e)
 
--- a restart while rolling: the sheets are read back, and the cabinet restarted from them meets the invariant
-module _ (L : Limits) (lim : SheetLimits L) (n : ℕ) (low : 1 ≤ n) (high : n ≤ L .width) (m : Model) (j : Journal) (v : Invariant L n m j) (r : RollingBack L m j) where
-  abbrev out : Readout
-  out = layPages (tabulate n (sheetOf L m)) noReadout
+restart-step : (C : Codec) (L : Limits) (n : CardSet) (m : Model) (j : Journal) → Invariant L n m j → RollingBack L m j → Remade C L m
+    → Invariant L n (verdictCabinet (C .verdict (C .joined L m)) (C .restarted L (C .joined L m)) m) (note L n j restartCall (verdictReply (C .verdict (C .joined L m))))
+restart-step C L n m j v r e = rw (e .accepts) (restart-again L n m (C .restarted L (C .joined L m)) j v r (e .recalled))
 
-  pub joined-back : readoutOf (joinedSheets format L m) ≡ record { readout = out; verdict = Accepted }
-  joined-back =
-      ap (λ (ps : List Page). readoutOf (pagesBytes format ps)) (sheets-are L n m high (v .present-is))
-      ∙ read-back L n m j high low (lim .width) (lim .inHand) (lim .greatestState) (lim .greatestNumber) (v .present-is) (r .rolls)
-
-  holds : Holds n (sheetOf L m) out
-  holds = held L n m j high low (lim .width) (lim .inHand) (lim .greatestState) (lim .greatestNumber) (v .present-is) (r .rolls)
-
-  count-back : out .cards ≡ n
-  count-back = cards-are L n m j high low (lim .width) (lim .inHand) (lim .greatestState) (lim .greatestNumber) (v .present-is) (r .rolls)
-
-  lowest-back : lowestOf (out .sessions) (out .cards) ≡ m .session
-  lowest-back = lowest-is L n m j high low (lim .width) (lim .inHand) (lim .greatestState) (lim .greatestNumber) (v .present-is) (r .rolls)
-
-  pub line-back : (c : ℕ) → c < L .width → restarted L out .line c ≡ m .line c
-  line-back = line-again L n m j high (lim .width) (lim .inHand) (v .present-is) (v .absent-start) (r .rolls) out holds count-back lowest-back
-
-  restart-invariant : Invariant L n (restarted L out) j
-  restart-invariant =
-      record {
-        present-is = λ c. ap (ltb c) count-back;
-        absent-start = v .absent-start;
-        state = inr (record {
-          rolls = restart-rolls L n m j high (lim .width) (lim .inHand) (v .present-is) (v .absent-start) (r .rolls) out holds count-back lowest-back;
-          notes = restart-notes L n m j high (lim .width) (lim .inHand) (v .present-is) (v .absent-start) (r .rolls) out holds count-back lowest-back (r .notes);
-        });
-      }
-
-  restart-step : Invariant L n (verdictCabinet (restartReply (joinedSheets format L m)) (restartedFrom L (joinedSheets format L m)) m) (note L n j restartCall (verdictReply (restartReply (joinedSheets format L m))))
-  restart-step =
-      subst (λ (x : Reading). Invariant L n (verdictCabinet (x .verdict) (restarted L (x .readout)) m) (note L n j restartCall (verdictReply (x .verdict)))) (sym joined-back) restart-invariant
-
-step : (L : Limits) → SheetLimits L → (n : ℕ) → 1 ≤ n → n ≤ L .width → (m : Model) (j : Journal) → Invariant L n m j → (call : Call) (x : Choice) → WhileRolling call m
-    → Invariant L n (afterCall L m call x) (note L n j call (planOf L m call x .reply))
-step L lim n low high m j v (openCall reads writes) x w =
+step : (C : Codec) (L : Limits) (n : CardSet) → CodecLaw C L n → (m : Model) (j : Journal) → Invariant L n m j → (call : Call) (x : Choice) → WhileRolling call m
+    → Invariant L n (afterCall C L m call x) (note L n j call (planOf C L m call x .reply))
+step C L n law m j v (openCall reads writes) x w =
     subst (Invariant L n _) (same-note L n j (noteOpen j (suc (m .count)) reads writes) (openCall reads writes) (openChecks L m reads writes (x .named)) _ _ refl) (next-open L n m j v reads writes (x .named))
-step L lim n low high m j v (voteCall k c agrees) x w = subst (Invariant L n _) (same-note L n j (noteVote L j k c agrees) (voteCall k c agrees) (voteChecks L m k c) _ _ refl) (next-vote L n m j v k c agrees)
-step L lim n low high m j v (takeCall k c) x w = subst (Invariant L n _) (same-note L n j j (takeCall k c) (takeChecks L m k c) _ _ refl) (next-take L n m j v k c)
-step L lim n low high m j v (withdrawCall k) x w = subst (Invariant L n _) (same-note L n j (noteStruck j k) (withdrawCall k) (withdrawChecks L m k) _ _ refl) (next-withdraw L n m j v k)
-step L lim n low high m j v (storeCall c s) x w = subst (Invariant L n _) (same-note L n j (noteStore j c s) (storeCall c s) (storeChecks L m c s) _ _ refl) (next-store L n m j v c s)
-step L lim n low high m j v trimCall x w = subst (Invariant L n _) (same-note L n j j trimCall (trimChecks L m) _ _ refl) (next-trim L n m j v)
-step L lim n low high m j v (safeCall k) x w = subst (Invariant L n _) (same-note L n j j (safeCall k) (safeChecks L m k) _ _ refl) (next-safe L n m j v k)
-step L lim n low high m j v (loseCall cards) x w = subst (Invariant L n _) (same-note L n j (noteLose j) (loseCall cards) (loseChecks L m cards) _ _ refl) (next-lose L n m j v cards)
-step L lim n low high m j v (fixCall a b) x w = subst (Invariant L n _) (same-note L n j (noteFix j (cardRows L m)) (fixCall a b) (fixChecks L m a b (x .lost)) _ _ refl) (next-fix L n m j v a b (x .lost))
-step L lim n low high m j v (rollCall c) x w = subst (Invariant L n _) (same-note L n j (noteRoll L (λ i. ltb i n) j c) (rollCall c) (rollChecks L m c) _ _ refl) (next-roll L n m j v c)
-step L lim n low high m j v (sheetCall c places) x w =
-    subst (Invariant L n _) (same-note L n j j (sheetCall c places) (sheetChecks format L m c places) _ _ refl)
-    (checked-case (λ (p : Plan). Invariant L n (afterPlan L p m) (noted j j (p .reply))) (sheetChecks format L m c places) _ _ (λ r. v) (λ ps. v))
-step L lim n low high m j v restartCall x w =
+step C L n law m j v (voteCall k c agrees) x w = subst (Invariant L n _) (same-note L n j (noteVote L j k c agrees) (voteCall k c agrees) (voteChecks L m k c) _ _ refl) (next-vote L n m j v k c agrees)
+step C L n law m j v (takeCall k c) x w = subst (Invariant L n _) (same-note L n j j (takeCall k c) (takeChecks L m k c) _ _ refl) (next-take L n m j v k c)
+step C L n law m j v (withdrawCall k) x w = subst (Invariant L n _) (same-note L n j (noteStruck j k) (withdrawCall k) (withdrawChecks L m k) _ _ refl) (next-withdraw L n m j v k)
+step C L n law m j v (storeCall c s) x w = subst (Invariant L n _) (same-note L n j (noteStore j c s) (storeCall c s) (storeChecks L m c s) _ _ refl) (next-store L n m j v c s)
+step C L n law m j v trimCall x w = subst (Invariant L n _) (same-note L n j j trimCall (trimChecks L m) _ _ refl) (next-trim L n m j v)
+step C L n law m j v (safeCall k) x w = subst (Invariant L n _) (same-note L n j j (safeCall k) (safeChecks L m k) _ _ refl) (next-safe L n m j v k)
+step C L n law m j v (loseCall cards) x w = subst (Invariant L n _) (same-note L n j (noteLose j) (loseCall cards) (loseChecks L m cards) _ _ refl) (next-lose L n m j v cards)
+step C L n law m j v (fixCall a b) x w = subst (Invariant L n _) (same-note L n j (noteFix j (cardRows L m)) (fixCall a b) (fixChecks L m a b (x .lost)) _ _ refl) (next-fix L n m j v a b (x .lost))
+step C L n law m j v (rollCall c) x w = subst (Invariant L n _) (same-note L n j (noteRoll L n j c) (rollCall c) (rollChecks L m c) _ _ refl) (next-roll L n m j v c)
+step C L n law m j v (sheetCall c places) x w =
+    subst (Invariant L n _) (same-note L n j j (sheetCall c places) (sheetChecks C L m c places) _ _ refl)
+    (checked-case (λ (p : Plan). Invariant L n (afterPlan L p m) (noted j j (p .reply))) (sheetChecks C L m c places) _ _ (λ r. v) (λ ps. v))
+step C L n law m j v restartCall x w =
     ⊎-elim (λ (r : Running L m j). clash w (r .not-rolling))
-    (λ (r : RollingBack L m j). restart-step L lim n low high m j v r) (v .state)
+    (λ (r : RollingBack L m j). restart-step C L n m j v r (law .remade m j v r)) (v .state)
 
-pub run-invariant : {L : Limits} → SheetLimits L → {n : ℕ} → 1 ≤ n → n ≤ L .width → {cs : Calls} {m : Model} (r : Run L n cs m) → RestartsRolling r → Invariant L n m (journal L n cs)
-run-invariant {L} lim {n} low high start w = fresh-invariant L n low high
-run-invariant {L} lim {n} low high (next {cs} {m} r call x p) w = step L lim n low high m (journal L n cs) (run-invariant lim low high r (w .0)) call x (w .1)
+pub run-invariant : {C : Codec} {L : Limits} {n : CardSet} → Carded L n → CodecLaw C L n → {cs : Calls} {m : Model} (r : Run C L n cs m) → RestartsRolling r → Invariant L n m (journal L n cs)
+run-invariant {C} {L} {n} carded law start w = fresh-invariant L n carded
+run-invariant {C} {L} {n} carded law (next {cs} {m} r call x p) w = step C L n law m (journal L n cs) (run-invariant carded law r (w .0)) call x (w .1)
 
 -- ---- demand 2 of a cabinet that meets the invariant
-module _ (L : Limits) (n : ℕ) (m : Model) (j : Journal) (v : Invariant L n m j) where
+module _ (L : Limits) (n : CardSet) (m : Model) (j : Journal) (v : Invariant L n m j) where
   abbrev H₀ : History
   H₀ = historyOf (j .history)
 
@@ -194,15 +147,12 @@ abbrev pub keptOf : Numbers → Fixing → Numbers
 keptOf stored unfixed c = stored c
 keptOf stored (fixing line marked) c = cond (marked c) (line c) (stored c)
 
-pub stored-is-kept : (L : Limits) (n : ℕ) → n ≤ L .width → (m : Model) (j : Journal) → Invariant L n m j → (c : ℕ) → c < n → m .numbers .stored c ≡ keptOf (j .stored) (j .fix) c
-stored-is-kept L n few m j v c h =
+pub stored-is-kept : (L : Limits) (n : CardSet) (m : Model) (j : Journal) → Invariant L n m j → (c : ℕ) → c < L .width → n c ≡ true → m .numbers .stored c ≡ keptOf (j .stored) (j .fix) c
+stored-is-kept L n m j v c l h =
     ⊎-elim (λ (r : Running L m j). rw (r .not-fixed) (sym (r .stored-is c l)))
     (λ (r : RollingBack L m j). rw (r .notes .is-noted) (test (r .notes .marked c)
     (λ e. rw e (r .rolls .lowered c l (sym (r .notes .marked-is c l here) ∙ e) .1 ∙ sym (r .notes .line-is c l)))
     (λ e. rw e (r .rolls .kept c l here (sym (r .notes .marked-is c l here) ∙ e))))) (v .state)
   where
-    l : c < L .width
-    l = omega arith
-
     here : m .present c ≡ true
-    here = v .present-is c ∙ lt-ltb c n h
+    here = v .present-is c ∙ h

@@ -1,27 +1,25 @@
 -- The changes that a fix lists as lost are the lost changes of the history; a change is answered safe exactly where its states are stored. Assumes nothing.
-use Prim.Native.Nat.{ℕ, zero, suc, _+_, _-_, _≤_, _<_}
-use mathlib.Core.Path.{_≡_, refl, sym, _∙_, ap}
+use Prim.Native.Nat.{ℕ, suc, _+_, _-_, _≤_, _<_}
+use mathlib.Core.Path.{_≡_, sym, _∙_, ap}
 use mathlib.Core.Bool.{Bool, true, false, not, _&&_, _||_}
-use mathlib.Core.Logic.{_⊎_, inl, inr, by-cases, ⊎-elim}
-use native.Mathlib.Nat.{le-refl, le-trans}
-use native.Mathlib.Decide.{decLe, decLt}
+use mathlib.Core.Logic.{_⊎_, by-cases, ⊎-elim}
+use native.Mathlib.Nat.{le-trans}
+use native.Mathlib.Decide.{decLe}
 use native.Mathlib.Omega.{arith}
 use lib.Dec.{eqb, leb}
 use lib.ListN.{length}
-use borrow.Author.Tests.{eqb-true, eq-eqb, ne-eqb, leb-true, leb-false, le-leb}
-use Rattle.laws.specs.Below.{allBelow, anyBelow}
+use borrow.Author.Tests.{eqb-true, eq-eqb, ne-eqb, leb-true, leb-false}
+use Rattle.laws.specs.Below.{anyBelow}
 use Rattle.laws.proofs.Logic.{test, clash, fails, and-left, and-right, and-intro, or-left, or-right, or-elim, not-true, not-intro}
 use Rattle.laws.proofs.Below.{Found, any-elim, any-intro, all-at, all-intro, search-below}
-use Rattle.history.specs.Change.{Change, History, Numbers, touches, writers, made}
+use Rattle.history.specs.Change.{History, Numbers, made}
 use Rattle.history.specs.Line.{wrote, inLine, lost}
 use Rattle.history.proofs.Writers.{Maker, maker}
 use Rattle.history.proofs.Precedence.{writes-touches}
 use Rattle.protocol.specs.Model.{Limits, isDown, Model}
 use Rattle.protocol.specs.Calls.{lineOf, frameAbove, someFrameAbove, isLost}
 use Rattle.protocol.specs.Journal.{Journal}
-use Rattle.protocol.proofs.Taking.{Framed}
-use Rattle.protocol.proofs.Intact.{Intact, lineAt}
-use Rattle.protocol.proofs.Running.{Numbered, About, Remembers, Unfinished, Running}
+use Rattle.protocol.proofs.Running.{About, Remembers, Unfinished, Running}
 use Rattle.protocol.proofs.Stores.{intact, line-right}
 
 -- a change that is not in a line: a card that it wrote where its state is above

@@ -1,44 +1,38 @@
 -- A fresh cabinet meets the invariant, and these calls keep it: open, withdraw, a no, and a yes that does not decide. Assumes nothing.
-use Prim.Native.Nat.{ℕ, zero, suc, _+_, _≤_, _<_, zero-le}
+use Prim.Native.Nat.{ℕ, suc, _+_, _≤_, _<_, zero-le}
 use mathlib.Core.Path.{_≡_, refl, sym, _∙_, ap}
-use mathlib.Core.Bool.{Bool, true, false, not, _&&_, _||_, cond}
-use mathlib.Core.Logic.{_⊎_, inl, inr, by-cases, ⊎-elim}
-use mathlib.Core.List.{List, [], _∷_}
-use native.Mathlib.Nat.{le-refl, le-trans, le-step, lt-suc-self, not-suc-le-zero}
-use native.Mathlib.Decide.{decLe, decLt, ℕ-discrete}
+use mathlib.Core.Bool.{true, false, not, _&&_, _||_}
+use mathlib.Core.Logic.{_⊎_, inl, inr, ⊎-elim}
+use mathlib.Core.List.{[], _∷_}
+use native.Mathlib.Nat.{le-refl, le-step, not-suc-le-zero}
 use native.Mathlib.Omega.{arith}
-use lib.Dec.{eqb, ltb}
 use lib.ListN.{length}
-use borrow.Author.Tests.{eqb-true, eqb-false, eq-eqb, ne-eqb, lt-ltb, le-ltb}
-use Rattle.laws.specs.Below.{allBelow, anyBelow}
-use Rattle.laws.proofs.Logic.{test, clash, fails, and-left, and-right, and-intro, or-left, or-right, or-elim, not-true, not-intro}
-use Rattle.laws.proofs.Below.{all-at, all-intro, any-intro}
-use Rattle.history.specs.Change.{CardSet, Change, History, Numbers, touches, meets, writers, made, historyOf}
-use Rattle.history.specs.Vector.{Vector, noEntries}
-use Rattle.history.proofs.Precedence.{meets-first, meets-second, meets-writes, meets-intro, writes-touches}
+use Rattle.laws.proofs.Logic.{test, clash, fails, and-left, and-intro, or-left, or-right, or-elim, not-true, not-intro}
+use Rattle.laws.proofs.Below.{all-at}
+use Rattle.history.specs.Change.{CardSet, Change, History, meets, historyOf}
+use Rattle.history.proofs.Precedence.{meets-first, meets-second, meets-writes, meets-intro}
 use Rattle.history.proofs.Greatest.{greatest-none}
-use Rattle.history.proofs.Appending.{Agree}
-use Rattle.protocol.specs.Model.{Limits, Phase, up, down, rolling, isUp, isDown, isRolling, OpenChange, Model, noCards, freePlace, isOpen, decided, toWrite, within, withCard}
-use Rattle.protocol.specs.Edit.{put, Edit, place, count, edited, editedAll}
+use Rattle.protocol.specs.Model.{Limits, Phase, up, down, rolling, isUp, isDown, OpenChange, Model, noCards, isOpen, decided}
+use Rattle.protocol.specs.Edit.{put, place, count, editedAll}
 use Rattle.protocol.specs.Calls.{freshModel, openedChange, bars}
-use Rattle.protocol.specs.Journal.{Journal, Noted, struck, asked, emptyJournal, noteOpen, noteStruck, withUndecided}
-use Rattle.protocol.proofs.Taking.{Took, Orderly, Levels, Tracks, Framed, Based, put-same, put-other, put-case}
-use Rattle.protocol.proofs.Places.{Opened, Stood, Waits, Open, Standing, standing-put, open-put}
-use Rattle.protocol.proofs.Running.{Numbered, StandsFor, Remembers, Unfinished, About, Ranges, Carded, Running}
+use Rattle.protocol.specs.Journal.{Journal, asked, emptyJournal, noteOpen}
+use Rattle.protocol.proofs.Taking.{put-same, put-other}
+use Rattle.protocol.proofs.Places.{Stood, standing-put, open-put}
+use Rattle.protocol.proofs.Running.{StandsFor, About, Carded, Running}
 
 nothing : {A : Type 0} {i : ℕ} → i < 0 → A
 nothing h = absurd (not-suc-le-zero h)
 
 -- ---- a fresh cabinet
-pub fresh-running : (L : Limits) (n : ℕ) → 1 ≤ n → n ≤ L .width → Running L (freshModel n) emptyJournal
-fresh-running L n low high =
+pub fresh-running : (L : Limits) (n : CardSet) → Carded L n → Running L (freshModel n) emptyJournal
+fresh-running L n carded =
     record {
       took = λ i c. false;
       at = λ p. 0;
       not-rolling = refl;
       session-given = le-refl 1;
       count-given = zero-le;
-      carded = record { one = 0; is-card = le-trans low high; is-there = lt-ltb 0 n low; none-beyond = le-ltb (L .width) n high };
+      carded = carded;
       ranges =
           record {
             from-start = λ c l. zero-le;

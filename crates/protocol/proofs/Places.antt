@@ -1,19 +1,15 @@
 -- The open changes of a cabinet against the history: what is known of each place, and how one place is written anew. Assumes nothing.
-use Prim.Native.Nat.{ℕ, zero, suc, _+_, _≤_, _<_}
-use mathlib.Core.Path.{_≡_, refl, sym, _∙_, ap}
-use mathlib.Core.Bool.{Bool, true, false, not, _&&_, _||_, cond}
-use mathlib.Core.Logic.{_⊎_, inl, inr, by-cases, ⊎-elim}
-use native.Mathlib.Nat.{le-refl, le-trans, le-step}
-use native.Mathlib.Decide.{decLe, decLt, ℕ-discrete}
-use native.Mathlib.Omega.{arith}
-use lib.Dec.{eqb}
-use Rattle.laws.proofs.Logic.{test, clash, fails}
-use Rattle.history.specs.Change.{CardSet, Change, History, Numbers, touches, meets}
-use Rattle.history.specs.Vector.{Vector, vector}
+use Prim.Native.Nat.{ℕ, _+_, _≤_, _<_}
+use mathlib.Core.Path.{_≡_, sym, _∙_}
+use mathlib.Core.Bool.{true, false, not}
+use mathlib.Core.Logic.{by-cases}
+use native.Mathlib.Decide.{ℕ-discrete}
+use Rattle.history.specs.Change.{CardSet, History, Numbers, touches, meets}
+use Rattle.history.specs.Vector.{vector}
 use Rattle.protocol.specs.Model.{Limits, OpenChange, isOpen, decided, toWrite}
 use Rattle.protocol.specs.Edit.{put}
 use Rattle.protocol.specs.Journal.{Noted, asked}
-use Rattle.protocol.proofs.Taking.{Took, put-same, put-other, put-case}
+use Rattle.protocol.proofs.Taking.{Took, put-same, put-other}
 
 -- of any open change: its number was given, it touches cards that are there, and a card that it has yet to write has room
 pub record Opened (L : Limits) (present : CardSet) (base reached : Numbers) (count : ℕ) (o : OpenChange) : Type 0 where

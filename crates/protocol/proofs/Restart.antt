@@ -1,178 +1,116 @@
--- The sheets of a cabinet that rolls back say enough: the cabinet that restarts from them meets the same invariant, with the same line and the same cards rolled. Assumes nothing.
-use Prim.Native.Nat.{ℕ, zero, suc, _+_, _*_, _-_, _≤_, _<_, zero-le}
+-- What a restarted cabinet has of the one that rolled back, and that the invariant follows from that alone: the same line is fixed, and the same cards have rolled. Assumes nothing.
+use Prim.Native.Nat.{ℕ, _+_, _-_, _≤_, _<_}
 use mathlib.Core.Path.{_≡_, refl, sym, _∙_, ap, ap₂, subst}
 use mathlib.Core.Bool.{Bool, true, false, not, _&&_, _||_, cond}
-use mathlib.Core.Logic.{_⊎_, inl, inr, by-cases, ⊎-elim}
-use mathlib.Core.List.{List, [], _∷_, _++_}
-use native.Mathlib.Nat.{le-refl, le-trans, le-of-eq, le-antisymm}
-use native.Mathlib.Decide.{decLe, decLt}
+use mathlib.Core.Logic.{inr, by-cases}
+use native.Mathlib.Nat.{le-refl, le-trans, le-of-eq}
+use native.Mathlib.Decide.{decLt}
 use native.Mathlib.Omega.{arith}
-use lib.Dec.{eqb, leb, ltb}
-use lib.ListN.{length, getD, List·getD-eq-default}
-use borrow.Author.Tests.{le-leb, lt-ltb, le-ltb, ltb-true, lt-leb}
-use Rattle.laws.specs.Below.{countBelow, tabulate, selected}
-use Rattle.laws.proofs.Logic.{test, clash, fails, and-left, and-right, and-intro}
-use Rattle.laws.proofs.Below.{all-same, all-intro, selected-first, count-first}
-use Rattle.laws.proofs.Fill.{length-tabulate, getD-tabulate}
-use Rattle.frame.specs.declared.Frame.{Frame}
-use Rattle.sheet.specs.Pages.{Page}
-use Rattle.history.specs.Change.{CardSet, Change, History, Numbers, touches, writers, made, historyOf}
+use lib.Dec.{leb, ltb}
+use lib.ListN.{length}
+use borrow.Author.Tests.{lt-ltb, le-ltb}
+use Rattle.laws.proofs.Logic.{test, clash, and-intro}
+use Rattle.laws.proofs.Below.{all-same, all-intro}
+use Rattle.refusal.specs.declared.Verdict.the-variants.{Accepted}
+use Rattle.history.specs.Change.{CardSet, History, Numbers, writers, made, historyOf}
 use Rattle.history.specs.Vector.{Vector, vector}
+use Rattle.history.specs.Line.{lineFrom}
 use Rattle.history.proofs.Writers.{Maker, maker}
 use Rattle.history.proofs.Precedence.{writes-touches, up-to-le}
-use Rattle.history.proofs.Greatest.{Greatest, Makes}
 use Rattle.history.proofs.Vectors.{vector-greatest}
-use Rattle.history.proofs.Appending.{Agree}
-use Rattle.protocol.specs.Model.{Limits, isRolling, Model, within}
+use Rattle.protocol.specs.Model.{Limits, isRolling, Model, isOpen}
 use Rattle.protocol.specs.Sound.{entriesSound}
+use Rattle.protocol.specs.Codec.{Codec}
 use Rattle.protocol.specs.Journal.{Journal}
-use Rattle.protocol.specs.Sheets.{cardCount, sheetSession, sheetFrame, sheetOf, sheets, storedIn, isIn, restarted}
-use Rattle.sheet.proofs.Lay.{Holds}
-use Rattle.sheet.specs.declared.Readout.{Readout}
-use Rattle.sheet.specs.Walk.{placeOf}
-use Rattle.sessions.specs.Sessions.{lowestOf}
-use Rattle.frame.specs.Lines.{padded}
-use Rattle.frame.proofs.Judged.{padded-at}
-use Rattle.protocol.proofs.Taking.{Framed}
-use Rattle.protocol.proofs.Intact.{Intact, lineAt, bridge, intact-lower}
-use Rattle.protocol.proofs.Running.{Carded}
+use Rattle.protocol.proofs.Intact.{Intact, bridge, intact-lower}
 use Rattle.protocol.proofs.Stores.{absent-still}
 use Rattle.protocol.proofs.Soundness.{entry-sound, greatest-sound}
 use Rattle.protocol.proofs.Rolling.{AboutLine, Rolling, LineNoted}
+use Rattle.protocol.proofs.Invariant.{RollingBack, Invariant}
 
-module _ (L : Limits) (n : ℕ) (m : Model) (few : n ≤ L .width) (present-is : (c : ℕ) → m .present c ≡ ltb c n) where
-  there : (c : ℕ) → c < n → m .present c ≡ true
-  there c h = present-is c ∙ lt-ltb c n h
+-- what the restarted cabinet m' has of the cabinet m: cards, bases, stored numbers, frames from base + 1 to stored, the cards rolled, the session; nothing is open
+pub record Recalled (L : Limits) (m m' : Model) : Type 0 where
+  pub rolls : isRolling (m' .phase) ≡ true
+  pub session : m' .session ≡ m .session
+  pub cards : (c : ℕ) → m' .present c ≡ m .present c
+  pub base : (c : ℕ) → c < L .width → m .present c ≡ true → m' .numbers .base c ≡ m .numbers .base c
+  pub stored : (c : ℕ) → c < L .width → m .present c ≡ true → m' .numbers .stored c ≡ m .numbers .stored c
+  -- a card that is not there stands at 0
+  pub absent : (c : ℕ) → c < L .width → m .present c ≡ false → (m' .numbers .base c ≡ 0) × (m' .numbers .stored c ≡ 0)
+  -- "Held and reached are the stored number"
+  pub held : m' .numbers .held ≡ m' .numbers .stored
+  pub reached : m' .numbers .reached ≡ m' .numbers .stored
+  pub maker : (c x : ℕ) → c < L .width → m .present c ≡ true → m .numbers .base c < x → x ≤ m .numbers .stored c → m' .memory .maker c x ≡ m .memory .maker c x
+  pub frame : (c x i : ℕ) → c < L .width → i < L .width → m .present c ≡ true → m .present i ≡ true → m .numbers .base c < x → x ≤ m .numbers .stored c
+      → m' .memory .frame c x i ≡ m .memory .frame c x i
+  -- an entry of a card that is not there is none
+  pub no-entry : (c x i : ℕ) → c < L .width → i < L .width → m .present c ≡ true → m .present i ≡ false → m .numbers .base c < x → x ≤ m .numbers .stored c → m' .memory .frame c x i ≡ 0
+  -- "last and pending are those of the card's last frame or all none"
+  pub last : (c i : ℕ) → m' .memory .last c i ≡ cond (ltb (m' .numbers .base c) (m' .numbers .stored c)) (m' .memory .frame c (m' .numbers .stored c) i) 0
+  pub pending : m' .memory .pending ≡ m' .memory .last
+  -- "no change is open"
+  pub none-open : (p : ℕ) → p < L .places → isOpen (m' .place p) ≡ false
+  -- "cards one session ahead count as rolled"
+  pub rolled : (c : ℕ) → c < L .width → m .present c ≡ true → m' .rolled c ≡ m .rolled c
+  pub none-rolled : (c : ℕ) → c < L .width → m .present c ≡ false → m' .rolled c ≡ false
+  -- "with the line fixed"
+  pub line : (c : ℕ) → c < L .width → m' .line c ≡ lineFrom (L .width) (m' .numbers .stored) (m' .memory .frame c) (m' .numbers .base c) (m' .numbers .stored c)
 
-  absent : (c : ℕ) → n ≤ c → m .present c ≡ false
-  absent c h = present-is c ∙ le-ltb c n h
-
-  pub count-is : cardCount L m ≡ n
-  count-is = count-first (m .present) (L .width) n few there (λ c h l. absent c h)
-
-  pub sheets-are : sheets L m ≡ tabulate n (sheetOf L m)
-  sheets-are = selected-first (m .present) (sheetOf L m) (L .width) n few there (λ c h l. absent c h)
-
-  pub length-sheets : length (sheets L m) ≡ n
-  length-sheets = ap length sheets-are ∙ length-tabulate n (sheetOf L m)
-
-  pub entry-written : (c x j : ℕ) → j < n → getD (sheetFrame L m c x .entries) j 0 ≡ m .memory .frame c x j
-  entry-written c x j h = rw count-is (getD-tabulate n (m .memory .frame c x) 0 j h)
-
-  entry-absent : (c x j : ℕ) → n ≤ j → getD (sheetFrame L m c x .entries) j 0 ≡ 0
-  entry-absent c x j h = rw count-is (List·getD-eq-default (tabulate n (m .memory .frame c x)) 0 (omega (arith, h, length-tabulate n (m .memory .frame c x))))
-
-  pub length-entries : (c x : ℕ) → length (sheetFrame L m c x .entries) ≡ n
-  length-entries c x = rw count-is (length-tabulate n (m .memory .frame c x))
-
--- the restart of a cabinet that rolls back, from a read-out that holds its sheets
-module _ (L : Limits) (n : ℕ) (m : Model) (j : Journal) (few : n ≤ L .width) (sixteen : L .width ≡ 16) (forty-eight : L .inHand ≡ 48) (present-is : (c : ℕ) → m .present c ≡ ltb c n)
-    (absent-start : (c : ℕ) → c < L .width → n ≤ c → j .start c ≡ 0) (r : Rolling L m j)
-    (out : Readout) (holds : Holds n (sheetOf L m) out) (cards-are : out .cards ≡ n) (lowest-is : lowestOf (out .sessions) (out .cards) ≡ m .session) where
-  abbrev m' : Model
-  m' = restarted L out
-
+module _ (L : Limits) (n : CardSet) (m m' : Model) (j : Journal) (present-is : (c : ℕ) → m .present c ≡ n c) (absent-start : (c : ℕ) → c < L .width → n c ≡ false → j .start c ≡ 0)
+    (r : Rolling L m j) (k : Recalled L m m') where
   abbrev H₀ : History
   H₀ = historyOf (j .history)
 
-  a₀ : AboutLine L m (j .start) (length (j .history)) (j .stored) (m .line) H₀
+  abbrev N : ℕ
+  N = length (j .history)
+
+  a₀ : AboutLine L m (j .start) N (j .stored) (m .line) H₀
   a₀ = r .about H₀ (λ i h. refl)
 
-  present-same : (c : ℕ) → ltb c (out .cards) ≡ m .present c
-  present-same c = ap (ltb c) cards-are ∙ sym (present-is c)
-
   -- a card that is not there stands at 0
-  absent-numbers : (c : ℕ) → c < L .width → n ≤ c → (m .numbers .base c ≡ 0) × (m .numbers .stored c ≡ 0)
-  absent-numbers c l h =
-      let z : writers H₀ c (length (j .history)) ≡ 0 = absent-still L m (j .start) (length (j .history)) H₀ (a₀ .there) c l (present-is c ∙ le-ltb c n h) in
-      let s = absent-start c l h in
+  absent-numbers : (c : ℕ) → c < L .width → m .present c ≡ false → (m .numbers .base c ≡ 0) × (m .numbers .stored c ≡ 0)
+  absent-numbers c l e =
+      let z : writers H₀ c N ≡ 0 = absent-still L m (j .start) N H₀ (a₀ .there) c l e in
+      let s : j .start c ≡ 0 = absent-start c l (sym (present-is c) ∙ e) in
       let b1 = a₀ .intact .base-line c l in
       let b2 = a₀ .intact .line-stored c l in
       let b3 = a₀ .intact .stored-reached c l in
       let b4 = a₀ .intact .reached-top c l in
       (omega arith, omega arith)
 
-  base-stored : (c : ℕ) → c < L .width → m .numbers .base c ≤ m .numbers .stored c
-  base-stored c l = le-trans (a₀ .intact .base-line c l) (a₀ .intact .line-stored c l)
-
   base-same : (c : ℕ) → c < L .width → m' .numbers .base c ≡ m .numbers .base c
-  base-same c l =
-      by-cases (decLt c n) (λ h. holds .base c h) (λ h. let g : n ≤ c = omega (arith, h) in holds .no-base c g ∙ sym (absent-numbers c l g .0))
-
-  -- the count of a sheet's frames
-  frames-count : (c : ℕ) → length (sheetOf L m c .frames) ≡ m .numbers .stored c - m .numbers .base c
-  frames-count c = length-tabulate (m .numbers .stored c - m .numbers .base c) (λ k. sheetFrame L m c (suc (m .numbers .base c + k)))
+  base-same c l = test (m .present c) (λ e. k .base c l e) (λ e. k .absent c l e .0 ∙ sym (absent-numbers c l e .0))
 
   stored-same : (c : ℕ) → c < L .width → m' .numbers .stored c ≡ m .numbers .stored c
-  stored-same c l =
-      by-cases (decLt c n) (λ h. omega (arith, holds .base c h, holds .count c h, frames-count c, base-stored c l))
-      (λ h. let g : n ≤ c = omega (arith, h) in omega (arith, holds .no-base c g, holds .no-count c g, absent-numbers c l g .1))
+  stored-same c l = test (m .present c) (λ e. k .stored c l e) (λ e. k .absent c l e .1 ∙ sym (absent-numbers c l e .1))
 
   -- a state that is stored is one of a card that is there
-  stored-there : (c x : ℕ) → c < L .width → m .numbers .base c < x → x ≤ m .numbers .stored c → c < n
-  stored-there c x l a b = by-cases (decLt c n) (λ h. h) (λ h. let g : n ≤ c = omega (arith, h) in absurd (omega (arith, absent-numbers c l g .1, b, a)))
-
-  is-in : (c x : ℕ) → c < L .width → m .numbers .base c < x → x ≤ m .numbers .stored c → isIn out c x ≡ true
-  is-in c x l a b =
-      and-intro (lt-ltb (getD (out .bases) c 0) x (omega (arith, base-same c l, a))) (le-leb x (storedIn out c) (omega (arith, stored-same c l, b)))
-
-  -- state x of card c is frame x − base − 1 of its sheet
-  place-is : (c x : ℕ) → m .numbers .base c < x → m .numbers .base c + 1 + (x - suc (m .numbers .base c)) ≡ x
-  place-is c x a = omega arith
-
-  frame-at : (c x : ℕ) → m .numbers .base c < x → x ≤ m .numbers .stored c → getD (sheetOf L m c .frames) (x - suc (m .numbers .base c)) (record { change = 0; entries = [] }) ≡ sheetFrame L m c x
-  frame-at c x a b =
-      getD-tabulate (m .numbers .stored c - m .numbers .base c) (λ k. sheetFrame L m c (suc (m .numbers .base c + k))) (record { change = 0; entries = [] }) (x - suc (m .numbers .base c)) (omega arith)
-      ∙ ap (sheetFrame L m c) back
-    where
-      back : suc (m .numbers .base c + (x - suc (m .numbers .base c))) ≡ x
-      back = omega arith
-
-  in-frames : (c x : ℕ) → m .numbers .base c < x → x ≤ m .numbers .stored c → x - suc (m .numbers .base c) < length (sheetOf L m c .frames)
-  in-frames c x a b = omega (arith, frames-count c)
+  stored-there : (c x : ℕ) → c < L .width → m .numbers .base c < x → x ≤ m .numbers .stored c → m .present c ≡ true
+  stored-there c x l a b = test (m .present c) (λ e. e) (λ e. absurd (omega (arith, absent-numbers c l e .1, b, a)))
 
   maker-same : (c x : ℕ) → c < L .width → m .numbers .base c < x → x ≤ m .numbers .stored c → m' .memory .maker c x ≡ m .memory .maker c x
-  maker-same c x l a b =
-      rw (is-in c x l a b)
-      (ap (λ (y : ℕ). getD (out .changes) (placeOf c y) 0) (sym (place-is c x a)) ∙ holds .change c (x - suc (m .numbers .base c)) (record { change = 0; entries = [] }) (stored-there c x l a b) (in-frames c x a b)
-      ∙ ap (λ (f : Frame). f .change) (frame-at c x a b))
+  maker-same c x l a b = k .maker c x l (stored-there c x l a b) a b
 
   -- an entry of a card that is not there is none
-  entry-none : (c x i : ℕ) → c < L .width → i < L .width → n ≤ i → m .numbers .base c < x → x ≤ m .numbers .stored c → m .memory .frame c x i ≡ 0
-  entry-none c x i l li h a b =
-      let k : Maker H₀ (j .start) (length (j .history)) c x = maker H₀ (j .start) (length (j .history)) c x (omega (arith, a₀ .intact .from-start c l, a)) (omega (arith, b, a₀ .intact .stored-reached c l, a₀ .intact .reached-top c l)) in
-      let q : m .memory .frame c x i ≡ vector (L .width) H₀ (j .start) (k .at) i =
-      ap (λ (y : ℕ). m .memory .frame c y i) (sym (k .makes)) ∙ a₀ .intact .vectors (k .at) c i (k .in-history) l li (k .wrote) (omega (arith, k .makes, a)) (omega (arith, k .makes, b, a₀ .intact .stored-reached c l)) in
-      by-cases (decLt 0 (vector (L .width) H₀ (j .start) (k .at) i))
-      (λ z. clash (greatest-sound L (m .present) (j .start) (length (j .history)) H₀ (a₀ .there) (a₀ .bounded) li (vector-greatest (L .width) H₀ (j .start) (k .at) i li) (λ t u. omega (arith, k .in-history, up-to-le u)) z .0) (present-is i ∙ le-ltb i n h))
+  entry-none : (c x i : ℕ) → c < L .width → i < L .width → m .present i ≡ false → m .numbers .base c < x → x ≤ m .numbers .stored c → m .memory .frame c x i ≡ 0
+  entry-none c x i l li e a b =
+      let t : Maker H₀ (j .start) N c x = maker H₀ (j .start) N c x (omega (arith, a₀ .intact .from-start c l, a)) (omega (arith, b, a₀ .intact .stored-reached c l, a₀ .intact .reached-top c l)) in
+      let q : m .memory .frame c x i ≡ vector (L .width) H₀ (j .start) (t .at) i =
+      ap (λ (y : ℕ). m .memory .frame c y i) (sym (t .makes)) ∙ a₀ .intact .vectors (t .at) c i (t .in-history) l li (t .wrote) (omega (arith, t .makes, a)) (omega (arith, t .makes, b, a₀ .intact .stored-reached c l)) in
+      by-cases (decLt 0 (vector (L .width) H₀ (j .start) (t .at) i))
+      (λ z. clash (greatest-sound L (m .present) (j .start) N H₀ (a₀ .there) (a₀ .bounded) li (vector-greatest (L .width) H₀ (j .start) (t .at) i li) (λ y u. omega (arith, t .in-history, up-to-le u)) z .0) e)
       (λ z. omega (arith, q, z))
 
   frame-same : (c x i : ℕ) → c < L .width → i < L .width → m .numbers .base c < x → x ≤ m .numbers .stored c → m' .memory .frame c x i ≡ m .memory .frame c x i
   frame-same c x i l li a b =
-      rw (is-in c x l a b, lt-ltb i (L .width) li)
-      (ap (λ (y : ℕ). getD (out .entries) (placeOf c y * 16 + i) 0) (sym (place-is c x a))
-      ∙ holds .entry c (x - suc (m .numbers .base c)) i (record { change = 0; entries = [] }) (stored-there c x l a b) (in-frames c x a b) (omega (arith, sixteen, li))
-      ∙ ap (λ (f : Frame). getD (padded (f .entries)) i 0) (frame-at c x a b)
-      ∙ padded-at (sheetFrame L m c x .entries) (omega (arith, length-entries L n m few present-is c x, few, sixteen)) i
-      ∙ by-cases (decLt i n) (λ h. entry-written L n m few present-is c x i h)
-      (λ h. let g : n ≤ i = omega (arith, h) in entry-absent L n m few present-is c x i g ∙ sym (entry-none c x i l li g a b)))
+      test (m .present i) (λ e. k .frame c x i l li (stored-there c x l a b) e a b)
+      (λ e. k .no-entry c x i l li (stored-there c x l a b) e a b ∙ sym (entry-none c x i l li e a b))
 
-  rolled-same : (c : ℕ) → c < n → m' .rolled c ≡ m .rolled c
-  rolled-same c h = ap₂ ltb lowest-is (holds .session c h) ∙ rw (r .is-rolling) (ahead (m .rolled c))
-    where
-      ahead : (b : Bool) → ltb (m .session) (cond (true && b) (suc (m .session)) (m .session)) ≡ b
-      ahead true = lt-ltb (m .session) (suc (m .session)) (le-refl (suc (m .session)))
-      ahead false = le-ltb (m .session) (m .session) (le-refl (m .session))
-
-  rolled-there : (c : ℕ) → m' .rolled c ≡ true → c < n
-  rolled-there c e =
-      by-cases (decLt c n) (λ h. h)
-      (λ h. let g : n ≤ c = omega (arith, h) in clash e (ap₂ ltb lowest-is (holds .no-session c g) ∙ le-ltb (m .session) 0 zero-le))
-
-  intact-again : (H : History) → AboutLine L m (j .start) (length (j .history)) (j .stored) (m .line) H
-      → Intact (L .width) H (j .start) (length (j .history)) (j .stored) (m' .numbers .base) (m' .numbers .stored) (m' .numbers .reached) (m' .memory .frame)
-  intact-again H a =
-      intact-lower (L .width) H (j .start) (length (j .history)) (a .intact)
+  -- by stored numbers, which are those reached
+  intact-stored : (H : History) → AboutLine L m (j .start) N (j .stored) (m .line) H
+      → Intact (L .width) H (j .start) N (j .stored) (m' .numbers .base) (m' .numbers .stored) (m' .numbers .stored) (m' .memory .frame)
+  intact-stored H a =
+      intact-lower (L .width) H (j .start) N (a .intact)
       (λ c l. le-of-eq (sym (base-same c l)))
       (λ c l. rw (base-same c l) (a .intact .base-line c l))
       (λ c l. rw (stored-same c l) (a .intact .line-stored c l))
@@ -181,9 +119,20 @@ module _ (L : Limits) (n : ℕ) (m : Model) (j : Journal) (few : n ≤ L .width)
       (λ c l. rw (stored-same c l) (a .intact .stored-reached c l))
       (λ c x i l li y z. frame-same c x i l li (rw (base-same c l) at y) (rw (stored-same c l) at z))
 
+  intact-again : (H : History) → AboutLine L m (j .start) N (j .stored) (m .line) H
+      → Intact (L .width) H (j .start) N (j .stored) (m' .numbers .base) (m' .numbers .stored) (m' .numbers .reached) (m' .memory .frame)
+  intact-again H a =
+      subst (λ (q : Numbers). Intact (L .width) H (j .start) N (j .stored) (m' .numbers .base) (m' .numbers .stored) q (m' .memory .frame)) (sym (k .reached)) (intact-stored H a)
+
   -- the line is fixed again
   pub line-again : (c : ℕ) → c < L .width → m' .line c ≡ m .line c
-  line-again c l = bridge (L .width) H₀ (j .start) (length (j .history)) (intact-again H₀ a₀) c l ∙ sym (a₀ .line-right c l)
+  line-again c l = k .line c l ∙ bridge (L .width) H₀ (j .start) N (intact-stored H₀ a₀) c l ∙ sym (a₀ .line-right c l)
+
+  held-is : (c : ℕ) → m' .numbers .held c ≡ m' .numbers .stored c
+  held-is c = ap (λ (f : Numbers). f c) (k .held)
+
+  reached-is : (c : ℕ) → m' .numbers .reached c ≡ m' .numbers .stored c
+  reached-is c = ap (λ (f : Numbers). f c) (k .reached)
 
   entries-again : (c : ℕ) → c < L .width → entriesSound L (λ i. m' .present c && m' .present i) (m' .memory .last c) ≡ true
   entries-again c l =
@@ -194,75 +143,105 @@ module _ (L : Limits) (n : ℕ) (m : Model) (j : Journal) (few : n ≤ L .width)
       nothing-there : (i : ℕ) → ¬ (m' .numbers .base c < m' .numbers .stored c) → 0 < m' .memory .last c i → ⊥
       nothing-there i h z =
           let e : ltb (m' .numbers .base c) (m' .numbers .stored c) ≡ false = le-ltb (m' .numbers .base c) (m' .numbers .stored c) (omega (arith, h)) in
-          let q : m' .memory .last c i ≡ 0 = rw e in
+          let q : m' .memory .last c i ≡ 0 = k .last c i ∙ ap (λ (b : Bool). cond b (m' .memory .frame c (m' .numbers .stored c) i) 0) e in
           omega (arith, q, z)
 
       of-maker : (i : ℕ) → i < L .width → m' .numbers .base c < m' .numbers .stored c → 0 < m' .memory .last c i → (m' .present c && m' .present i ≡ true) × (m' .memory .last c i ≤ L .greatestState)
       of-maker i li h z =
           let x : ℕ = m' .numbers .stored c in
-          let k : Maker H₀ (j .start) (length (j .history)) c x = maker H₀ (j .start) (length (j .history)) c x (omega (arith, h, intact-again H₀ a₀ .from-start c l)) (intact-again H₀ a₀ .reached-top c l) in
-          let q : m' .memory .last c i ≡ vector (L .width) H₀ (j .start) (k .at) i =
-          ap (λ (y : ℕ). m' .memory .frame c y i) (sym (k .makes)) ∙ intact-again H₀ a₀ .vectors (k .at) c i (k .in-history) l li (k .wrote) (omega (arith, k .makes, h)) (omega (arith, k .makes)) in
-          let g : (m .present i ≡ true) × (vector (L .width) H₀ (j .start) (k .at) i ≤ L .greatestState) =
-          greatest-sound L (m .present) (j .start) (length (j .history)) H₀ (a₀ .there) (a₀ .bounded) li (vector-greatest (L .width) H₀ (j .start) (k .at) i li) (λ t u. omega (arith, k .in-history, up-to-le u)) (omega (arith, q, z)) in
-          (and-intro (present-same c ∙ a₀ .there (k .at) c (k .in-history) l (writes-touches (H₀ (k .at)) c (k .wrote))) (present-same i ∙ g .0), omega (arith, q, g .1))
+          let t : Maker H₀ (j .start) N c x = maker H₀ (j .start) N c x (omega (arith, h, intact-stored H₀ a₀ .from-start c l)) (intact-stored H₀ a₀ .reached-top c l) in
+          let q : m' .memory .last c i ≡ vector (L .width) H₀ (j .start) (t .at) i =
+          k .last c i ∙ ap (λ (b : Bool). cond b (m' .memory .frame c x i) 0) (lt-ltb (m' .numbers .base c) (m' .numbers .stored c) h)
+          ∙ ap (λ (y : ℕ). m' .memory .frame c y i) (sym (t .makes)) ∙ intact-stored H₀ a₀ .vectors (t .at) c i (t .in-history) l li (t .wrote) (omega (arith, t .makes, h)) (omega (arith, t .makes)) in
+          let g : (m .present i ≡ true) × (vector (L .width) H₀ (j .start) (t .at) i ≤ L .greatestState) =
+          greatest-sound L (m .present) (j .start) N H₀ (a₀ .there) (a₀ .bounded) li (vector-greatest (L .width) H₀ (j .start) (t .at) i li) (λ y u. omega (arith, t .in-history, up-to-le u)) (omega (arith, q, z)) in
+          (and-intro (k .cards c ∙ a₀ .there (t .at) c (t .in-history) l (writes-touches (H₀ (t .at)) c (t .wrote))) (k .cards i ∙ g .0), omega (arith, q, g .1))
 
-  pub restart-rolls : Rolling L m' j
+  entries-pending : (c : ℕ) → c < L .width → entriesSound L (λ i. m' .present c && m' .present i) (m' .memory .pending c) ≡ true
+  entries-pending c l = subst (λ (v : ℕ → Vector). entriesSound L (λ i. m' .present c && m' .present i) (v c) ≡ true) (sym (k .pending)) (entries-again c l)
+
+  rolled-there : (c : ℕ) → c < L .width → m' .rolled c ≡ true → m .present c ≡ true
+  rolled-there c l e = test (m .present c) (λ y. y) (λ y. clash e (k .none-rolled c l y))
+
+  restart-rolls : Rolling L m' j
   restart-rolls =
       record {
-        is-rolling = refl;
-        session-given = rw lowest-is (r .session-given);
-        session-left = rw lowest-is (r .session-left);
+        is-rolling = k .rolls;
+        session-given = rw (k .session) (r .session-given);
+        session-left = rw (k .session) (r .session-left);
         carded =
             record {
               one = r .carded .one;
               is-card = r .carded .is-card;
-              is-there = present-same (r .carded .one) ∙ r .carded .is-there;
-              none-beyond = present-same (L .width) ∙ r .carded .none-beyond;
+              is-there = k .cards (r .carded .one) ∙ r .carded .is-there;
+              none-beyond = k .cards (L .width) ∙ r .carded .none-beyond;
             };
-        stored-held = λ c l. le-refl (m' .numbers .stored c);
-        held-reached = λ c l. le-refl (m' .numbers .stored c);
-        in-hand = λ c l. omega (arith, base-same c l, stored-same c l, r .in-hand c l, r .stored-held c l, r .held-reached c l);
-        entries = λ c l. (entries-again c l, entries-again c l);
-        none-open = λ p l. refl;
-        lowered = λ c l e. let h : c < n = rolled-there c e in
-            let q = r .lowered c l (sym (rolled-same c h) ∙ e) in
+        stored-held = λ c l. le-of-eq (sym (held-is c));
+        held-reached = λ c l. le-of-eq (held-is c ∙ sym (reached-is c));
+        in-hand = λ c l. omega (arith, reached-is c, base-same c l, stored-same c l, r .in-hand c l, r .stored-held c l, r .held-reached c l);
+        entries = λ c l. (entries-again c l, entries-pending c l);
+        none-open = k .none-open;
+        lowered = λ c l e. let q = r .lowered c l (sym (k .rolled c l (rolled-there c l e)) ∙ e) in
             let b : m' .numbers .base c ≡ m' .line c = base-same c l ∙ q .0 ∙ sym (line-again c l) in
             let s : m' .numbers .stored c ≡ m' .line c = stored-same c l ∙ q .1 ∙ sym (line-again c l) in
-            (b, s, s, s);
-        kept = λ c l here e. let h : c < n = ltb-true c n (sym (present-is c) ∙ sym (present-same c) ∙ here) in
-            stored-same c l ∙ r .kept c l (sym (present-same c) ∙ here) (sym (rolled-same c h) ∙ e);
+            (b, s, held-is c ∙ s, reached-is c ∙ s);
+        kept = λ c l here e. let h : m .present c ≡ true = sym (k .cards c) ∙ here in stored-same c l ∙ r .kept c l h (sym (k .rolled c l h) ∙ e);
         some-left = all-same (L .width) (λ c. not (m' .present c) || m' .rolled c) (λ c. not (m .present c) || m .rolled c) left-same ∙ r .some-left;
-        about = λ H agree. let a : AboutLine L m (j .start) (length (j .history)) (j .stored) (m .line) H = r .about H agree in
+        about = λ H agree. let a : AboutLine L m (j .start) N (j .stored) (m .line) H = r .about H agree in
             record {
               line-right = λ c l. line-again c l ∙ a .line-right c l;
               intact = intact-again H a;
               framed =
                   record {
-                    number-is = λ i c h l e y z. maker-same c (made H (j .start) i c) l (rw (base-same c l) at y) (rw (stored-same c l) at z)
-                        ∙ a .framed .number-is i c h l e (rw (base-same c l) at y) (le-trans (rw (stored-same c l) at z) (a .intact .stored-reached c l));
+                    number-is = λ i c h l e y z. let w : made H (j .start) i c ≤ m .numbers .stored c = omega (arith, z, reached-is c, stored-same c l) in
+                        maker-same c (made H (j .start) i c) l (rw (base-same c l) at y) w
+                        ∙ a .framed .number-is i c h l e (rw (base-same c l) at y) (le-trans w (a .intact .stored-reached c l));
                     vector-is = intact-again H a .vectors;
                   };
               count = a .count;
               count-given = a .count-given;
               numbered = a .numbered;
               bounded = a .bounded;
-              there = λ i c h l e. present-same c ∙ a .there i c h l e;
+              there = λ i c h l e. k .cards c ∙ a .there i c h l e;
             };
       }
     where
       left-same : (c : ℕ) → c < L .width → not (m' .present c) || m' .rolled c ≡ not (m .present c) || m .rolled c
       left-same c l =
-          by-cases (decLt c n) (λ h. ap₂ (λ (x y : Bool). not x || y) (present-same c) (rolled-same c h))
-          (λ h. let e : m .present c ≡ false = present-is c ∙ le-ltb c n (omega (arith, h)) in rw (present-same c ∙ e, e))
+          test (m .present c) (λ e. ap₂ (λ (x y : Bool). not x || y) (k .cards c) (k .rolled c l e)) (λ e. rw (k .cards c ∙ e, e))
 
-  pub restart-notes : LineNoted L m j → LineNoted L m' j
-  restart-notes k =
+  restart-notes : LineNoted L m j → LineNoted L m' j
+  restart-notes t =
       record {
-        line = k .line;
-        marked = k .marked;
-        is-noted = k .is-noted;
-        line-is = λ c l. k .line-is c l ∙ sym (line-again c l);
-        marked-is = λ c l here. let h : c < n = ltb-true c n (sym (present-is c) ∙ sym (present-same c) ∙ here) in
-            k .marked-is c l (sym (present-same c) ∙ here) ∙ sym (rolled-same c h);
+        line = t .line;
+        marked = t .marked;
+        is-noted = t .is-noted;
+        line-is = λ c l. t .line-is c l ∙ sym (line-again c l);
+        marked-is = λ c l here. let h : m .present c ≡ true = sym (k .cards c) ∙ here in t .marked-is c l h ∙ sym (k .rolled c l h);
       }
+
+-- a cabinet restarted meets the invariant
+pub restart-again : (L : Limits) (n : CardSet) (m m' : Model) (j : Journal) → Invariant L n m j → RollingBack L m j → Recalled L m m' → Invariant L n m' j
+restart-again L n m m' j v r k =
+    record {
+      present-is = λ c. k .cards c ∙ v .present-is c;
+      absent-start = v .absent-start;
+      state =
+          inr
+          (record {
+            rolls = restart-rolls L n m m' j (v .present-is) (v .absent-start) (r .rolls) k;
+            notes = restart-notes L n m m' j (v .present-is) (v .absent-start) (r .rolls) k (r .notes);
+          });
+    }
+
+-- ---- what a list of calls asks of sheets
+-- a cabinet's sheets, joined, are accepted, and what restarts from them has of it what it must
+pub record Remade (C : Codec) (L : Limits) (m : Model) : Type 0 where
+  pub accepts : C .verdict (C .joined L m) ≡ Accepted
+  pub recalled : Recalled L m (C .restarted L (C .joined L m))
+
+pub record CodecLaw (C : Codec) (L : Limits) (n : CardSet) : Type 0 where
+  -- the last state of a sheet is the stored one
+  pub last-stored : (m : Model) (c : ℕ) → m .numbers .base c ≤ m .numbers .stored c → C .last L m c ≡ m .numbers .stored c
+  -- while rolling the sheets of all cards say enough
+  pub remade : (m : Model) (j : Journal) → Invariant L n m j → RollingBack L m j → Remade C L m

@@ -1,33 +1,32 @@
 -- The invariant in phase rolling, where the journal is frozen: fix brings it, a roll that is not the last keeps it, and the last roll begins a session. Assumes nothing.
 use Prim.Native.Nat.{ℕ, zero, suc, _+_, _-_, _≤_, _<_, zero-le}
-use mathlib.Core.Path.{_≡_, refl, sym, _∙_, ap, ap₂, subst}
+use mathlib.Core.Path.{_≡_, refl, sym, _∙_, ap, ap₂}
 use mathlib.Core.Bool.{Bool, true, false, not, _&&_, _||_, cond}
-use mathlib.Core.Logic.{_⊎_, inl, inr, by-cases, ⊎-elim}
+use mathlib.Core.Logic.{_⊎_, by-cases, ⊎-elim}
 use mathlib.Core.List.{List, [], _∷_, _++_}
 use native.Mathlib.Nat.{le-refl, le-trans, le-step, le-antisymm, not-suc-le-zero}
-use native.Mathlib.Decide.{decLe, decLt, ℕ-discrete}
+use native.Mathlib.Decide.{decLt, ℕ-discrete}
 use native.Mathlib.Omega.{arith}
-use lib.Dec.{eqb, leb, ltb}
+use lib.Dec.{eqb, ltb}
 use lib.ListN.{length}
-use borrow.Author.Tests.{le-leb, lt-ltb, le-ltb, eq-eqb, ne-eqb, eqb-true}
-use Rattle.laws.specs.Below.{allBelow, anyBelow, selected}
-use Rattle.laws.proofs.Logic.{test, clash, fails, and-left, and-right, and-intro, or-left, or-right, or-elim, not-true, not-intro, cond-case}
-use Rattle.laws.proofs.Below.{any-intro, all-at, all-intro, below-suc}
-use Rattle.history.specs.Change.{CardSet, Change, History, Numbers, touches, meets, writers, made, historyOf}
-use Rattle.history.specs.Vector.{Vector, vector, stateVector, noEntries}
+use borrow.Author.Tests.{le-leb, lt-ltb, le-ltb, eq-eqb, ne-eqb}
+use Rattle.laws.specs.Below.{selected}
+use Rattle.laws.proofs.Logic.{test, clash, fails, and-intro, or-left, or-right, or-elim, not-true, not-intro, cond-case}
+use Rattle.laws.proofs.Below.{any-intro, all-at, all-intro}
+use Rattle.history.specs.Change.{CardSet, History, Numbers, touches, writers, made, historyOf}
+use Rattle.history.specs.Vector.{Vector, noEntries}
 use Rattle.history.proofs.Greatest.{greatest-none}
 use Rattle.history.proofs.Appending.{Agree}
-use Rattle.history.proofs.Entries.{state-vector-is}
 use Rattle.history.proofs.Lines.{line-is}
-use Rattle.protocol.specs.Model.{Limits, Phase, up, down, rolling, isUp, isDown, isRolling, StateNumbers, OpenChange, Model, noCards, isOpen, decided, within, withCard}
+use Rattle.protocol.specs.Model.{Limits, rolling, isDown, isRolling, Model, noCards, isOpen, within, withCard}
 use Rattle.protocol.specs.Sound.{cardSound, placeSound, entriesSound, sound}
-use Rattle.protocol.specs.Edit.{put, Edit, fall, fix, lower, renew, edited, editedAll}
+use Rattle.protocol.specs.Edit.{put, fall, fix, lower, renew, editedAll}
 use Rattle.protocol.specs.Plan.{CardRow}
 use Rattle.protocol.specs.Calls.{lineOf, lines, cardRows}
-use Rattle.protocol.specs.Journal.{Journal, Noted, withUndecided, Fixing, unfixed, fixing, lineIn, noteFix, noteRoll}
-use Rattle.protocol.proofs.Taking.{Took, Framed, put-same, put-other, put-case}
+use Rattle.protocol.specs.Journal.{Journal, Noted, withUndecided, Fixing, unfixed, fixing, lineIn, noteFix}
+use Rattle.protocol.proofs.Taking.{Framed, put-same, put-other, put-case}
 use Rattle.protocol.proofs.Intact.{Intact, lineAt, line-same, intact-same, intact-lower}
-use Rattle.protocol.proofs.Running.{Numbered, About, Ranges, Carded, Running}
+use Rattle.protocol.proofs.Running.{Numbered, About, Carded, Running}
 use Rattle.protocol.proofs.Stores.{intact, line-right, lines-right, absent-still}
 use Rattle.protocol.proofs.Soundness.{tracks-sound, frames-sound}
 

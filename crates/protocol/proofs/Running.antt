@@ -1,14 +1,12 @@
 -- The invariant between a cabinet and the journal in the phases up and down. Assumes nothing.
-use Prim.Native.Nat.{ℕ, zero, suc, _+_, _≤_, _<_}
-use mathlib.Core.Path.{_≡_, refl, sym, _∙_, ap}
-use mathlib.Core.Bool.{Bool, true, false, not, _&&_, _||_, cond}
-use mathlib.Core.List.{List, [], _∷_}
+use Prim.Native.Nat.{ℕ, _+_, _≤_, _<_}
+use mathlib.Core.Path.{_≡_}
+use mathlib.Core.Bool.{true, false}
 use lib.ListN.{length}
-use Rattle.history.specs.Change.{CardSet, Change, History, Numbers, touches, meets, writers, made, historyOf}
-use Rattle.history.specs.Vector.{Vector}
+use Rattle.history.specs.Change.{CardSet, History, Numbers, touches, meets, writers, historyOf}
 use Rattle.history.proofs.Appending.{Agree}
-use Rattle.protocol.specs.Model.{Limits, Phase, isUp, isDown, isRolling, StateNumbers, Memory, OpenChange, Model, isOpen, decided}
-use Rattle.protocol.specs.Journal.{Journal, Fixing, unfixed}
+use Rattle.protocol.specs.Model.{Limits, Phase, isUp, isDown, isRolling, StateNumbers, OpenChange, Model, isOpen, decided}
+use Rattle.protocol.specs.Journal.{Journal, unfixed}
 use Rattle.protocol.proofs.Taking.{Took, Orderly, Levels, Tracks, Framed, Based}
 use Rattle.protocol.proofs.Places.{Open, Standing}
 

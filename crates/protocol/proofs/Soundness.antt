@@ -1,18 +1,18 @@
 -- A cabinet that meets the invariant is never refused with 28. Assumes nothing.
-use Prim.Native.Nat.{ℕ, zero, suc, _+_, _-_, _≤_, _<_, zero-le}
-use mathlib.Core.Path.{_≡_, refl, sym, _∙_, ap, ap₂, subst}
-use mathlib.Core.Bool.{Bool, true, false, not, _&&_, _||_, cond}
-use mathlib.Core.Logic.{_⊎_, inl, inr, by-cases, ⊎-elim}
-use native.Mathlib.Nat.{le-refl, le-trans, le-step, le-antisymm}
-use native.Mathlib.Decide.{decLe, decLt, ℕ-discrete}
+use Prim.Native.Nat.{ℕ, suc, _+_, _-_, _≤_, _<_}
+use mathlib.Core.Path.{_≡_, refl, sym, _∙_, ap}
+use mathlib.Core.Bool.{Bool, true, not, _&&_, _||_, cond}
+use mathlib.Core.Logic.{inl, inr, by-cases}
+use native.Mathlib.Nat.{le-trans}
+use native.Mathlib.Decide.{decLt, ℕ-discrete}
 use native.Mathlib.Omega.{arith}
-use lib.Dec.{eqb, leb, ltb}
+use lib.Dec.{eqb, leb}
 use lib.ListN.{length}
 use borrow.Author.Tests.{le-leb, lt-ltb, eq-eqb, ne-eqb}
-use Rattle.laws.specs.Below.{allBelow, anyBelow}
+use Rattle.laws.specs.Below.{allBelow}
 use Rattle.laws.proofs.Logic.{test, clash, fails, and-left, and-right, and-intro, or-left, or-right, not-true, not-intro}
 use Rattle.laws.proofs.Below.{Found, any-elim, any-intro, all-intro}
-use Rattle.history.specs.Change.{CardSet, Change, History, Numbers, touches, meets, writers, found, made, UpTo, historyOf}
+use Rattle.history.specs.Change.{CardSet, History, Numbers, touches, meets, writers, made, UpTo, historyOf}
 use Rattle.history.specs.Vector.{Vector, vector}
 use Rattle.history.proofs.Writers.{Maker, maker, made-found, found-mono}
 use Rattle.history.proofs.Precedence.{writes-touches, meets-intro, up-to-le}
@@ -20,11 +20,11 @@ use Rattle.history.proofs.Greatest.{Greatest, Makes}
 use Rattle.history.proofs.Vectors.{vector-greatest}
 use Rattle.history.proofs.Cuts.{writers-precede}
 use Rattle.history.proofs.Lines.{vector-grows, vector-own}
-use Rattle.protocol.specs.Model.{Limits, Phase, isUp, isDown, isRolling, StateNumbers, Memory, OpenChange, Model, isOpen, decided, toWrite, strays}
-use Rattle.protocol.specs.Sound.{sessionSound, cardsSound, numbersSound, entriesSound, frameSound, risesSound, framesSound, lineSound, cardSound, roomToWrite, placeSound, sound}
+use Rattle.protocol.specs.Model.{Limits, Memory, Model, isOpen, decided, toWrite, strays}
+use Rattle.protocol.specs.Sound.{entriesSound, frameSound, risesSound, framesSound, cardSound, roomToWrite, placeSound, sound}
 use Rattle.protocol.specs.Journal.{Journal}
-use Rattle.protocol.proofs.Taking.{Took, Framed}
-use Rattle.protocol.proofs.Places.{Opened, Stood, Waits}
+use Rattle.protocol.proofs.Taking.{Framed}
+use Rattle.protocol.proofs.Places.{Stood}
 use Rattle.protocol.proofs.Running.{Numbered, About, Running}
 
 -- an entry within the limits: 0, or of a card that is there and not above the greatest state

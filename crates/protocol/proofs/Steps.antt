@@ -1,33 +1,28 @@
 -- Each call's plan keeps the invariant: refused, it changes nothing; accepted, by what its checks let pass. Assumes nothing.
-use Prim.Native.Nat.{ℕ, zero, suc, _+_, _-_, _≤_, _<_, zero-le}
-use mathlib.Core.Path.{_≡_, refl, sym, _∙_, ap, ap₂, subst}
-use mathlib.Core.Bool.{Bool, true, false, not, _&&_, _||_, cond}
-use mathlib.Core.Logic.{_⊎_, inl, inr, by-cases, ⊎-elim}
+use Prim.Native.Nat.{ℕ, suc, _+_, _-_, _<_}
+use mathlib.Core.Path.{_≡_, refl, sym, _∙_, ap, subst}
+use mathlib.Core.Bool.{Bool, true, false, not, _&&_, _||_}
+use mathlib.Core.Logic.{_⊎_, inl, inr, ⊎-elim}
 use mathlib.Core.List.{List, [], _∷_, _++_}
-use native.Mathlib.Nat.{le-refl, le-trans}
-use native.Mathlib.Omega.{arith}
 use lib.Dec.{eqb, leb, ltb}
-use lib.ListN.{length}
-use borrow.Author.Tests.{leb-true, leb-false, ltb-true, eqb-true, ne-eqb}
+use borrow.Author.Tests.{leb-true, leb-false, ltb-true, eqb-true}
 use Rattle.refusal.specs.declared.Refusal.{Refusal}
-use Rattle.laws.specs.Below.{allBelow, anyBelow}
+use Rattle.laws.specs.Below.{anyBelow}
 use Rattle.laws.proofs.Logic.{test, clash, fails, and-left, and-right, and-intro, or-left, or-right, or-elim, not-true, not-intro, cond-case}
-use Rattle.laws.proofs.Below.{Found, any-elim, any-intro, all-at, all-intro, first-below, first-passes}
-use Rattle.history.specs.Change.{CardSet, Change, History, Numbers, touches}
+use Rattle.laws.proofs.Below.{Found, any-elim, any-intro, first-passes}
+use Rattle.history.specs.Change.{CardSet, touches}
 use Rattle.history.specs.Vector.{vectorOf}
-use Rattle.protocol.specs.Model.{Limits, Phase, up, down, rolling, isUp, isDown, isRolling, OpenChange, Model, noCards, freePlace, isCard, strays, isEmpty, within, withCard, isOpen, decided, placeOf, freeAt, isKnown, tracked}
-use Rattle.protocol.specs.Sound.{sound}
+use Rattle.protocol.specs.Model.{Limits, Phase, up, down, rolling, isUp, isDown, isRolling, OpenChange, Model, freePlace, isCard, strays, isEmpty, withCard, isOpen, decided, placeOf, freeAt, isKnown, tracked, withYes, withVector}
 use Rattle.protocol.specs.Edit.{put, Edit, place, editedAll}
-use Rattle.protocol.specs.Plan.{CardRow, Answer, done, Reply, accepted, refused, Check, _⇒_, Plan, checked, afterPlan}
-use Rattle.protocol.specs.Calls.{bars, barred, someWritten, openedChange, openChecks, openPlan, votedYes, voted, voteChecks, votePlan, shareEdit, tookShare, takeChecks, takePlan, withdrawChecks, withdrawPlan, storeChecks, storePlan, trimChecks, trimPlan, loseChecks, losePlan, fixChecks, fixPlan, cardRows, lines, rollChecks, rollPlan, allRolled}
-use Rattle.protocol.specs.Journal.{Journal, Noted, struck, asked, Fixing, unfixed, fixing, withUndecided, noteOpen, noteVote, noteVoteOn, noteStruck, noteStore, noteLose, noteFix, noteRoll}
+use Rattle.protocol.specs.Plan.{Answer, Reply, accepted, refused, Check, _⇒_, Plan, checked, afterPlan}
+use Rattle.protocol.specs.Calls.{bars, barred, someWritten, openChecks, openPlan, votedYes, voted, voteChecks, votePlan, shareEdit, tookShare, takeChecks, takePlan, withdrawChecks, withdrawPlan, storeChecks, storePlan, trimChecks, trimPlan, loseChecks, losePlan}
+use Rattle.protocol.specs.Journal.{Journal, struck, asked, noteOpen, noteVote, noteVoteOn, noteStruck, noteStore, noteLose}
 use Rattle.protocol.proofs.Taking.{put-same, put-other}
 use Rattle.protocol.proofs.Running.{Running}
-use Rattle.protocol.proofs.Openings.{open-keeps, not-down}
+use Rattle.protocol.proofs.Openings.{open-keeps}
 use Rattle.protocol.proofs.Votes.{replace-keeps, decide-keeps}
 use Rattle.protocol.proofs.Takes.{write-keeps, read-keeps}
 use Rattle.protocol.proofs.Stores.{not-up, store-keeps, trim-keeps, lose-up-keeps, lose-down-keeps}
-use Rattle.protocol.proofs.Rolling.{Rolling, LineNoted, fix-rolls, fix-notes, lose-rolls, roll-rolls, renew-runs}
 
 -- ---- plans
 -- no check fails
@@ -132,7 +127,7 @@ module _ (L : Limits) (m : Model) (j : Journal) (r : Running L m j) where
     is-asked = ap (j .undecided) (sym is-number) ∙ r .places-open .noted p is-place is-open undecided-yet
 
     abbrev waiting : OpenChange
-    waiting = record { change = o .change; yes = withCard (o .yes) c; taken = o .taken; vector = o .vector }
+    waiting = withYes o (withCard (o .yes) c)
 
     -- a yes
     agree : Running L (editedAll L (place p (votedYes L m o c) ∷ []) m) (noteVoteOn L j k c (j .undecided k))
@@ -143,7 +138,7 @@ module _ (L : Limits) (m : Model) (j : Journal) (r : Running L m j) where
             rw e
             (subst
             (λ (i : ℕ).
-            Running L (editedAll L (place p (record { change = o .change; yes = withCard (o .yes) c; taken = o .taken; vector = vectorOf (L .width) (tracked m) (o .change) }) ∷ []) m)
+            Running L (editedAll L (place p (withVector (withYes o (withCard (o .yes) c)) (vectorOf (L .width) (tracked m) (o .change))) ∷ []) m)
             (record { start = j .start; stored = j .stored; undecided = put (j .undecided) i struck; history = j .history ++ o .change ∷ []; fix = j .fix }))
             is-number (decide-keeps L m j r p is-up is-place is-open undecided-yet (withCard (o .yes) c) e))
 

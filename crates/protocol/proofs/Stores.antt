@@ -1,32 +1,30 @@
 -- Store, trim and lose keep the invariant; the line that the cabinet works out is the line of the history. Assumes nothing.
-use Prim.Native.Nat.{ℕ, zero, suc, _+_, _≤_, _<_, zero-le}
-use mathlib.Core.Path.{_≡_, refl, sym, _∙_, ap, ap₂, subst}
-use mathlib.Core.Bool.{Bool, true, false, not, _&&_, _||_, cond}
-use mathlib.Core.Logic.{_⊎_, inl, inr, by-cases, ⊎-elim}
-use mathlib.Core.List.{List, [], _∷_, _++_}
-use native.Mathlib.Nat.{le-refl, le-trans, le-step, le-antisymm, not-suc-le-zero}
-use native.Mathlib.Decide.{decLe, decLt, ℕ-discrete}
+use Prim.Native.Nat.{ℕ, _+_, _≤_, _<_}
+use mathlib.Core.Path.{_≡_, refl, sym, _∙_, ap}
+use mathlib.Core.Bool.{true, false, not, _&&_, cond}
+use mathlib.Core.Logic.{by-cases}
+use mathlib.Core.List.{[], _∷_}
+use native.Mathlib.Nat.{le-refl, le-trans, le-antisymm}
+use native.Mathlib.Decide.{decLt, ℕ-discrete}
 use native.Mathlib.Omega.{arith}
-use lib.Dec.{eqb, ltb}
 use lib.ListN.{length}
 use borrow.Author.Tests.{lt-ltb}
-use Rattle.laws.proofs.Logic.{test, clash, fails, and-left, and-right, and-intro, cond-case, not-true, not-intro}
+use Rattle.laws.proofs.Logic.{test, clash, and-left, and-right, and-intro, cond-case, not-true, not-intro}
 use Rattle.laws.proofs.Below.{Found, any-elim, any-intro}
-use Rattle.history.specs.Change.{CardSet, Change, History, Numbers, touches, meets, writers, made, historyOf, Cut}
-use Rattle.history.specs.Vector.{Vector, vector, stateVector}
+use Rattle.history.specs.Change.{CardSet, Change, History, Numbers, touches, writers, made, historyOf}
+use Rattle.history.specs.Vector.{stateVector}
 use Rattle.history.proofs.Writers.{Maker, maker}
 use Rattle.history.proofs.Precedence.{writes-touches}
-use Rattle.history.proofs.Appending.{Agree}
 use Rattle.history.proofs.Entries.{state-vector-is}
 use Rattle.history.proofs.Lines.{line-is, line-cut}
-use Rattle.protocol.specs.Model.{Limits, Phase, up, down, rolling, isUp, isDown, isRolling, OpenChange, Model, noCards, isCard, isOpen, decided, toWrite, awaitsWrite}
-use Rattle.protocol.specs.Edit.{put, Edit, keep, rebase, fall, halt, remembered, edited, editedAll}
-use Rattle.protocol.specs.Calls.{lineOf, ofCards, lines}
-use Rattle.protocol.specs.Journal.{Journal, Noted, struck, noteStore, noteLose}
-use Rattle.protocol.proofs.Taking.{Took, Orderly, Levels, Tracks, Framed, Based, put-same, put-other, put-case}
+use Rattle.protocol.specs.Model.{Limits, Phase, up, down, rolling, isUp, isDown, Model, isOpen, decided, toWrite, awaitsWrite}
+use Rattle.protocol.specs.Edit.{keep, rebase, fall, halt, remembered, editedAll}
+use Rattle.protocol.specs.Calls.{lineOf, lines}
+use Rattle.protocol.specs.Journal.{Journal, noteStore, noteLose}
+use Rattle.protocol.proofs.Taking.{put-same, put-other, put-case}
 use Rattle.protocol.proofs.Intact.{Intact, lineAt, bridge, based-line, line-based}
-use Rattle.protocol.proofs.Places.{Opened, Stood, Waits, Open, Standing}
-use Rattle.protocol.proofs.Running.{Numbered, StandsFor, Remembers, Unfinished, About, Ranges, Carded, Running}
+use Rattle.protocol.proofs.Places.{Opened, Stood}
+use Rattle.protocol.proofs.Running.{StandsFor, Remembers, Unfinished, About, Running}
 
 -- ---- store
 pub store-keeps : (L : Limits) (m : Model) (j : Journal) → Running L m j → (c s : ℕ) → c < L .width → m .numbers .stored c ≤ s → s ≤ m .numbers .held c

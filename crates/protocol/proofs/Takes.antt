@@ -1,28 +1,27 @@
 -- A card takes its share of a decided change: the invariant is kept. Assumes nothing.
-use Prim.Native.Nat.{ℕ, zero, suc, _+_, _≤_, _<_}
-use mathlib.Core.Path.{_≡_, refl, sym, _∙_, ap, ap₂, subst}
+use Prim.Native.Nat.{ℕ, suc, _+_, _≤_, _<_}
+use mathlib.Core.Path.{_≡_, refl, sym, _∙_, ap}
 use mathlib.Core.Bool.{Bool, true, false, not, _&&_, _||_, cond}
-use mathlib.Core.Logic.{_⊎_, inl, inr, by-cases, ⊎-elim}
-use mathlib.Core.List.{List, [], _∷_, _++_}
-use native.Mathlib.Nat.{le-refl, le-trans, le-step, lt-suc-self, not-suc-le-zero}
-use native.Mathlib.Decide.{decLe, decLt, ℕ-discrete}
+use mathlib.Core.Logic.{_⊎_, inl, by-cases, ⊎-elim}
+use mathlib.Core.List.{[], _∷_}
+use native.Mathlib.Nat.{le-refl}
+use native.Mathlib.Decide.{decLt, ℕ-discrete}
 use native.Mathlib.Omega.{arith}
-use lib.Dec.{eqb, ltb}
+use lib.Dec.{eqb}
 use lib.ListN.{length}
-use borrow.Author.Tests.{eq-eqb, ne-eqb, eqb-true}
+use borrow.Author.Tests.{eq-eqb, ne-eqb}
 use Rattle.laws.proofs.Logic.{test, clash, fails, and-left, and-right, and-intro, or-left, or-right, or-elim, not-true, not-intro}
-use Rattle.laws.proofs.Below.{all-at, all-intro}
-use Rattle.history.specs.Change.{CardSet, Change, History, Numbers, touches, meets, writers, made, historyOf}
-use Rattle.history.specs.Vector.{Vector, vector, joined}
+use Rattle.laws.proofs.Below.{all-at}
+use Rattle.history.specs.Change.{Change, History, Numbers, touches, meets, historyOf}
+use Rattle.history.specs.Vector.{vector}
 use Rattle.history.proofs.Precedence.{writes-touches, meets-intro}
-use Rattle.history.proofs.Appending.{Agree}
-use Rattle.protocol.specs.Model.{Limits, isUp, isDown, OpenChange, Model, freePlace, isOpen, decided, closed, toWrite, withCard}
-use Rattle.protocol.specs.Edit.{put, Edit, place, grow, raise, edited, editedAll}
+use Rattle.protocol.specs.Model.{Limits, isUp, OpenChange, Model, freePlace, isOpen, decided, closed, toWrite, withCard, withTaken}
+use Rattle.protocol.specs.Edit.{put, place, grow, raise, editedAll}
 use Rattle.protocol.specs.Calls.{tookShare}
 use Rattle.protocol.specs.Journal.{Journal}
-use Rattle.protocol.proofs.Taking.{Took, Orderly, Levels, Tracks, Framed, Based, put-same, put-other, put-case, alsoTook, took-older, took-now, took-cases, orderly-took, levels-wrote, tracks-wrote, framed-wrote, levels-read, tracks-read}
+use Rattle.protocol.proofs.Taking.{put-same, put-other, put-case, alsoTook, took-older, orderly-took, levels-wrote, tracks-wrote, framed-wrote, levels-read, tracks-read}
 use Rattle.protocol.proofs.Places.{Opened, Stood, Waits, Open, Standing, standing-put, open-put}
-use Rattle.protocol.proofs.Running.{Numbered, StandsFor, Remembers, Unfinished, About, Ranges, Carded, Running}
+use Rattle.protocol.proofs.Running.{StandsFor, About, Running}
 use Rattle.protocol.proofs.Openings.{not-down}
 
 module _ (L : Limits) (m : Model) (j : Journal) (r : Running L m j) (p c : ℕ) (is-up : isUp (m .phase) ≡ true)
@@ -30,7 +29,7 @@ module _ (L : Limits) (m : Model) (j : Journal) (r : Running L m j) (p c : ℕ) 
     (is-touched : touches (m .place p .change) c ≡ true) (is-untaken : m .place p .taken c ≡ false) where
   -- the place after the share is taken
   abbrev share-taken : OpenChange
-  share-taken = record { change = m .place p .change; yes = m .place p .yes; taken = withCard (m .place p .taken) c; vector = m .place p .vector }
+  share-taken = withTaken (m .place p) (withCard (m .place p .taken) c)
 
   abbrev after : OpenChange
   after = tookShare L (m .place p) c

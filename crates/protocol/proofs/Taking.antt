@@ -1,24 +1,23 @@
 -- Decided changes and the shares taken of them: what a decision, a written share and a read share keep. No cabinet is in sight: numbers, vectors and frames
 -- are functions of the card. Assumes nothing.
-use Prim.Native.Nat.{ℕ, zero, suc, _+_, _≤_, _<_}
-use mathlib.Core.Path.{_≡_, refl, sym, _∙_, ap}
-use mathlib.Core.Bool.{Bool, true, false, _&&_, _||_, cond}
+use Prim.Native.Nat.{ℕ, suc, _+_, _≤_, _<_}
+use mathlib.Core.Path.{_≡_, refl}
+use mathlib.Core.Bool.{true, false, _&&_, _||_}
 use mathlib.Core.Logic.{_⊎_, inl, inr, by-cases, ⊎-elim}
-use native.Mathlib.Nat.{le-refl, le-trans, le-step, lt-suc-self, le-antisymm, not-suc-le-zero}
+use native.Mathlib.Nat.{le-refl, le-trans, le-step, le-antisymm}
 use native.Mathlib.Decide.{decLe, decLt, ℕ-discrete}
 use native.Mathlib.Omega.{arith}
 use lib.Dec.{eqb}
-use borrow.Author.Tests.{eqb-true, eqb-false, eq-eqb, ne-eqb}
-use Rattle.laws.proofs.Logic.{test, clash, and-left, and-right, and-intro, or-left, or-right, or-elim, fails}
+use borrow.Author.Tests.{eqb-true, eq-eqb, ne-eqb}
+use Rattle.laws.proofs.Logic.{clash, and-left, and-right, or-left, or-right, or-elim, fails}
 use Rattle.laws.proofs.Below.{below-suc}
 use Rattle.protocol.specs.Edit.{put}
-use Rattle.history.specs.Change.{CardSet, Change, History, Numbers, touches, meets, writers, found, made, Precedes, direct, UpTo}
+use Rattle.history.specs.Change.{CardSet, History, Numbers, touches, meets, writers, found, made, direct, UpTo}
 use Rattle.history.specs.Vector.{Vector, Tracked, joined, vectorOf, vector}
-use Rattle.history.proofs.Writers.{Maker, maker, one-maker, made-found, makers-order, writers-step, writers-same, writers-mono}
-use Rattle.history.proofs.Precedence.{up-to-trans, up-to-le, writes-touches, meets-intro}
-use Rattle.history.proofs.Greatest.{Greatest, Makes, greatest-of, greatest-either, greatest-none, greatest-unique}
-use Rattle.history.proofs.Vectors.{ByWriters, ByTouchers, Stands, vector-stands, vector-greatest}
-use Rattle.history.proofs.Cuts.{writers-precede}
+use Rattle.history.proofs.Writers.{Maker, maker, one-maker, made-found, writers-mono}
+use Rattle.history.proofs.Precedence.{up-to-trans, writes-touches, meets-intro}
+use Rattle.history.proofs.Greatest.{Greatest, greatest-of, greatest-either, greatest-unique}
+use Rattle.history.proofs.Vectors.{Stands, vector-stands, vector-greatest}
 
 -- which card has taken its share of which change, by its position
 abbrev pub Took : Type 0

@@ -1,29 +1,28 @@
 -- What is written to the place of an undecided change keeps the invariant: nothing (withdraw, a no), one more yes, or the decision. Assumes nothing.
-use Prim.Native.Nat.{ℕ, zero, suc, _+_, _≤_, _<_}
-use mathlib.Core.Path.{_≡_, refl, sym, _∙_, ap, ap₂, subst}
-use mathlib.Core.Bool.{Bool, true, false, not, _&&_, _||_, cond}
-use mathlib.Core.Logic.{_⊎_, inl, inr, by-cases, ⊎-elim}
-use mathlib.Core.List.{List, [], _∷_, _++_}
-use native.Mathlib.Nat.{le-refl, le-trans, le-step, lt-suc-self, not-suc-le-zero}
-use native.Mathlib.Decide.{decLe, decLt, ℕ-discrete}
+use Prim.Native.Nat.{ℕ, suc, _+_, _≤_, _<_}
+use mathlib.Core.Path.{_≡_, refl, sym, _∙_, ap, ap₂}
+use mathlib.Core.Bool.{Bool, true, false, not, _&&_}
+use mathlib.Core.Logic.{_⊎_, by-cases, ⊎-elim}
+use mathlib.Core.List.{[], _∷_, _++_}
+use native.Mathlib.Nat.{le-trans, le-step, lt-suc-self}
+use native.Mathlib.Decide.{decLt}
 use native.Mathlib.Omega.{arith}
-use lib.Dec.{eqb, ltb}
+use lib.Dec.{eqb}
 use lib.ListN.{length}
-use Rattle.laws.specs.Below.{one-if}
-use Rattle.laws.proofs.Logic.{test, clash, fails, and-left, and-right, and-intro, not-true, not-intro}
-use Rattle.laws.proofs.Below.{below-suc, all-at, all-intro}
-use Rattle.history.specs.Change.{CardSet, Change, History, Numbers, touches, meets, writers, made, historyOf}
-use Rattle.history.specs.Vector.{Vector, vectorOf, vector}
-use Rattle.history.proofs.Precedence.{meets-first, meets-second, writes-touches}
+use Rattle.laws.proofs.Logic.{test, clash, fails, and-intro, not-intro}
+use Rattle.laws.proofs.Below.{below-suc}
+use Rattle.history.specs.Change.{CardSet, Change, History, touches, meets, writers, historyOf}
+use Rattle.history.specs.Vector.{vectorOf, vector}
+use Rattle.history.proofs.Precedence.{writes-touches}
 use Rattle.history.proofs.Writers.{writers-step, writers-same}
-use Rattle.history.proofs.Appending.{Agree, agree-less, grown-agree, grown-last, grown-length}
-use Rattle.protocol.specs.Model.{Limits, up, isUp, isDown, isRolling, OpenChange, Model, isOpen, decided, toWrite, within, tracked}
-use Rattle.protocol.specs.Edit.{put, Edit, place, edited, editedAll}
+use Rattle.history.proofs.Appending.{Agree, grown-agree, grown-last, grown-length}
+use Rattle.protocol.specs.Model.{Limits, isUp, OpenChange, Model, isOpen, decided, toWrite, tracked, withYes, withVector}
+use Rattle.protocol.specs.Edit.{put, place, editedAll}
 use Rattle.protocol.specs.Journal.{Journal, Noted, struck, asked, withUndecided}
-use Rattle.protocol.proofs.Taking.{Took, Orderly, Levels, Tracks, Framed, Based, put-same, put-other, put-case, orderly-decided, levels-decided, tracks-decided, framed-decided, based-decided, vector-decided, reached-decided}
-use Rattle.protocol.proofs.Places.{Opened, Stood, Waits, Open, Standing, standing-put, open-put}
-use Rattle.protocol.proofs.Running.{Numbered, StandsFor, Remembers, Unfinished, About, Ranges, Carded, Running}
-use Rattle.protocol.proofs.Openings.{not-down, meets-sym}
+use Rattle.protocol.proofs.Taking.{put-same, put-other, orderly-decided, levels-decided, tracks-decided, framed-decided, based-decided, vector-decided, reached-decided}
+use Rattle.protocol.proofs.Places.{Opened, Stood, Waits, standing-put, open-put}
+use Rattle.protocol.proofs.Running.{Numbered, StandsFor, About, Running}
+use Rattle.protocol.proofs.Openings.{not-down}
 
 module _ (L : Limits) (m : Model) (j : Journal) (r : Running L m j) (p : ℕ) (is-up : isUp (m .phase) ≡ true)
     (is-place : p < L .places) (is-open : isOpen (m .place p) ≡ true) (undecided-yet : decided L (m .place p) ≡ false) where
@@ -123,7 +122,7 @@ module _ (L : Limits) (m : Model) (j : Journal) (r : Running L m j) (p : ℕ) (i
 
     -- the change with all its votes, and its vector
     abbrev now : OpenChange
-    now = record { change = m .place p .change; yes = votes; taken = m .place p .taken; vector = vectorOf (L .width) (tracked m) (m .place p .change) }
+    now = withVector (withYes (m .place p) votes) (vectorOf (L .width) (tracked m) (m .place p .change))
 
     -- the journal with the change at the end of its history
     abbrev joined-journal : Journal

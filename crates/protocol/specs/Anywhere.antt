@@ -1,14 +1,16 @@
 -- Every call of a list can be made; and lists with restarts in any phase. Statements alone: the proofs are in proofs/Choices.antt and proofs/Anywhere.antt.
-use Prim.Native.Nat.{ℕ, suc, _+_, _-_, _≤_, _<_, max}
+use Prim.Native.Nat.{ℕ, suc, _+_, _-_, _<_, max}
 use Rattle.laws.specs.Below.{greatest, firstBelow, selected}
 use mathlib.Core.Path.{_≡_}
 use mathlib.Core.Bool.{true}
+use Rattle.history.specs.Change.{CardSet}
 use mathlib.Core.Logic.{_⊎_}
 use mathlib.Core.List.{List}
 use Rattle.protocol.specs.Model.{Limits, isRolling, Model, noCards}
 use Rattle.protocol.specs.Plan.{CardRow, done, fixed, Reply, accepted}
 use Rattle.protocol.specs.Calls.{barred, lineOf, isLost}
 use Rattle.protocol.specs.Run.{Call, openCall, voteCall, takeCall, withdrawCall, storeCall, trimCall, safeCall, loseCall, fixCall, rollCall, sheetCall, restartCall, Choice, Proper, Calls, none, further, Run, start, next}
+use Rattle.protocol.specs.Codec.{Codec}
 use Rattle.protocol.specs.Demands.{CabinetRight, RestartsRolling}
 
 -- ---- one choice for every call of what document 01 leaves to the program
@@ -64,17 +66,17 @@ SessionLeft L (rollCall c) m = Unit {0}
 SessionLeft L (sheetCall c places) m = Unit {0}
 SessionLeft L restartCall m = (isRolling (m .phase) ≡ true) ⊎ (m .session < L .greatestNumber)
 
-abbrev pub RestartsLeft : {L : Limits} {n : ℕ} {cs : Calls} {m : Model} → Run L n cs m → Type 0
+abbrev pub RestartsLeft : {C : Codec} {L : Limits} {n : CardSet} {cs : Calls} {m : Model} → Run C L n cs m → Type 0
 RestartsLeft start = Unit {0}
-RestartsLeft {L} (next {cs} {m} r call x p) = RestartsLeft r × SessionLeft L call m
+RestartsLeft {C} {L} (next {cs} {m} r call x p) = RestartsLeft r × SessionLeft L call m
 
 -- a restart in phase up or down is as if no card was lost and the line was fixed before it: another list, whose restarts all stand in phase rolling, leads to the same cabinet, and so demand 2 holds of it
-pub record Sooner (L : Limits) (n : ℕ) (cs : Calls) (m : Model) : Type 0 where
+pub record Sooner (C : Codec) (L : Limits) (n : CardSet) (cs : Calls) (m : Model) : Type 0 where
   pub calls : Calls
   pub but-for : PutIn cs calls
-  pub run : Run L n calls m
+  pub run : Run C L n calls m
   pub rolling : RestartsRolling run
-  pub right : CabinetRight L n calls m
+  pub right : CabinetRight C L n calls m
 
-abbrev pub Anywhere : Limits → Type 0
-Anywhere L = (n : ℕ) → 1 ≤ n → n ≤ L .width → (cs : Calls) (m : Model) (r : Run L n cs m) → RestartsLeft r → Sooner L n cs m
+abbrev pub Anywhere : Codec → Limits → CardSet → Type 0
+Anywhere C L n = (cs : Calls) (m : Model) (r : Run C L n cs m) → RestartsLeft r → Sooner C L n cs m

@@ -1,19 +1,18 @@
 -- Document 01's calls 1 to 10, for every cabinet and all arguments.
-use Prim.Native.Nat.{ℕ, zero, suc, _+_, _-_}
-use mathlib.Core.Bool.{Bool, true, false, not, _&&_, _||_, cond}
-use mathlib.Core.List.{List, [], _∷_, _++_}
+use Prim.Native.Nat.{ℕ, suc, _+_, _-_}
+use mathlib.Core.Bool.{Bool, not, _&&_, _||_, cond}
+use mathlib.Core.List.{List, [], _∷_}
 use lib.Dec.{eqb, leb, ltb}
 use lib.ListN.{length}
-use Rattle.laws.specs.Below.{allBelow, anyBelow, selected}
-use Rattle.refusal.specs.declared.Refusal.{Refusal}
+use Rattle.laws.specs.Below.{anyBelow, selected}
 use Rattle.refusal.specs.declared.Refusal.the-variants.{NoSuchCard, BothSetsEmpty, TooShort, WrongPhase, Barred, NoPlace, InHandFull, LimitReached, NotAwaited, AlreadyDecided, StoreOutside, BadCabinet, NotDecided, AlreadyRolled}
-use Rattle.history.specs.Change.{CardSet, Change, Numbers, touches}
-use Rattle.history.specs.Vector.{Vector, noEntries, vectorOf}
+use Rattle.history.specs.Change.{CardSet, Numbers, touches}
+use Rattle.history.specs.Vector.{noEntries, vectorOf}
 use Rattle.history.specs.Line.{lineFrom}
-use Rattle.protocol.specs.Model.{Limits, up, isUp, isDown, isRolling, OpenChange, Model, noCards, freePlace, isCard, strays, isEmpty, within, withCard, isOpen, decided, closed, toWrite, awaitsWrite, placeOf, freeAt, isKnown, tracked}
+use Rattle.protocol.specs.Model.{Limits, up, isUp, isDown, isRolling, OpenChange, Model, noCards, freePlace, isCard, strays, isEmpty, within, withCard, isOpen, decided, closed, awaitsWrite, placeOf, freeAt, isKnown, tracked, withYes, withTaken, withVector}
 use Rattle.protocol.specs.Sound.{sound}
 use Rattle.protocol.specs.Edit.{Edit, place, count, grow, raise, keep, rebase, fall, halt, fix, lower, renew}
-use Rattle.protocol.specs.Plan.{CardRow, Answer, done, opened, safe, unsafe, fixed, Check, _⇒_, Plan, checked}
+use Rattle.protocol.specs.Plan.{CardRow, done, opened, safe, unsafe, fixed, Check, _⇒_, Plan, checked}
 
 -- ---- a fresh cabinet
 -- "number of cards not 1 to 16"
@@ -21,13 +20,13 @@ abbrev pub freshRefused : Limits → ℕ → Bool
 freshRefused L n = not (leb 1 n && leb n (L .width))
 
 -- "A fresh cabinet has session 1, phase up, all state numbers 0, all entries none."
-abbrev pub freshModel : ℕ → Model
-freshModel n =
+abbrev pub freshModel : CardSet → Model
+freshModel there =
     record {
       session = 1;
       phase = up;
       count = 0;
-      present = λ c. ltb c n;
+      present = there;
       numbers = record { base = λ c. 0; stored = λ c. 0; held = λ c. 0; reached = λ c. 0 };
       memory = record { last = λ c. noEntries; pending = λ c. noEntries; maker = λ c x. 0; frame = λ c x. noEntries };
       place = λ p. freePlace;
@@ -77,9 +76,9 @@ openPlan L m reads writes named =
 -- the open change with one yes more, and with its vector where that decides it
 abbrev pub votedYes : Limits → Model → OpenChange → ℕ → OpenChange
 votedYes L m o c =
-    cond (decided L (record { change = o .change; yes = withCard (o .yes) c; taken = o .taken; vector = o .vector }))
-    (record { change = o .change; yes = withCard (o .yes) c; taken = o .taken; vector = vectorOf (L .width) (tracked m) (o .change) })
-    (record { change = o .change; yes = withCard (o .yes) c; taken = o .taken; vector = o .vector })
+    cond (decided L (withYes o (withCard (o .yes) c)))
+    (withVector (withYes o (withCard (o .yes) c)) (vectorOf (L .width) (tracked m) (o .change)))
+    (withYes o (withCard (o .yes) c))
 
 -- "A no ends the change."
 abbrev pub voted : Limits → Model → OpenChange → ℕ → Bool → OpenChange
@@ -104,8 +103,8 @@ votePlan L m k c agrees =
 -- the open change after card c took its share: closed after the last one
 abbrev pub tookShare : Limits → OpenChange → ℕ → OpenChange
 tookShare L o c =
-    cond (closed L (record { change = o .change; yes = o .yes; taken = withCard (o .taken) c; vector = o .vector })) freePlace
-    (record { change = o .change; yes = o .yes; taken = withCard (o .taken) c; vector = o .vector })
+    cond (closed L (withTaken o (withCard (o .taken) c))) freePlace
+    (withTaken o (withCard (o .taken) c))
 
 -- "A written card goes up by one state .. A card only read raises its pending"
 abbrev pub shareEdit : OpenChange → ℕ → Edit

@@ -1,26 +1,25 @@
--- Demands 1 to 3 over whole lists of calls, and what belongs to them. Statements alone: the proofs are in proofs/Claims.antt (demand 1) and proofs/Answers.antt.
-use Prim.Native.Nat.{ℕ, zero, suc, _+_, _≤_, _<_}
+-- Demands 1 to 3 over whole lists of calls, and what belongs to them, whatever cards there are and however their sheets are written. Statements alone: the proofs are in proofs/Claims.antt (demand 1) and proofs/Answers.antt.
+use Prim.Native.Nat.{ℕ, _≤_, _<_}
 use mathlib.Core.Path.{_≡_}
-use mathlib.Core.Bool.{Bool, true, false, not, _&&_, _||_}
+use mathlib.Core.Bool.{true, false, not, _&&_}
 use mathlib.Core.Logic.{_⊎_, _↔_}
-use mathlib.Core.List.{List, [], _∷_}
-use lib.Dec.{eqb, ltb}
+use mathlib.Core.List.{List}
+use lib.Dec.{eqb}
 use lib.ListN.{length}
-use Rattle.laws.specs.Below.{one-if, anyBelow, tabulate, occurs}
+use Rattle.laws.specs.Below.{one-if, anyBelow, selected, occurs}
 use Rattle.refusal.specs.declared.Refusal.{Refusal}
 use Rattle.refusal.specs.Number.{numberOf}
-use Rattle.frame.specs.declared.Verdict.the-variants.{Accepted}
-use Rattle.frame.specs.Format.{format}
-use Rattle.history.specs.Change.{CardSet, Change, History, Numbers, writers, made, Cut, On, historyOf}
-use Rattle.history.specs.Vector.{Entry, entryOf, LastPreceding}
+use Rattle.refusal.specs.declared.Verdict.the-variants.{Accepted}
+use Rattle.history.specs.Change.{CardSet, History, Numbers, made, Cut, On, historyOf}
+use Rattle.history.specs.Vector.{entryOf, LastPreceding}
 use Rattle.history.specs.Line.{lost}
 use Rattle.protocol.specs.Model.{Limits, isUp, isRolling, Model}
 use Rattle.protocol.specs.Sound.{sound}
-use Rattle.protocol.specs.Plan.{CardRow, Answer, done, safe, unsafe, fixed, Reply, accepted, refused, Plan}
+use Rattle.protocol.specs.Plan.{CardRow, Answer, safe, fixed, accepted, refused}
 use Rattle.protocol.specs.Calls.{freshModel}
-use Rattle.protocol.specs.Sheets.{sheetOf, pageStored, joinedSheets, restartReply, restartedFrom}
-use Rattle.protocol.specs.Journal.{Journal, Fixing, fixing, lineIn}
-use Rattle.protocol.specs.Run.{Call, voteCall, takeCall, withdrawCall, openCall, storeCall, trimCall, safeCall, loseCall, fixCall, rollCall, sheetCall, restartCall, Choice, Proper, planOf, afterCall, Calls, none, further, Run, start, next, journal, lineNoted, lastKept}
+use Rattle.protocol.specs.Codec.{Codec}
+use Rattle.protocol.specs.Journal.{Journal, fixing}
+use Rattle.protocol.specs.Run.{Call, voteCall, takeCall, withdrawCall, openCall, storeCall, trimCall, safeCall, loseCall, fixCall, rollCall, sheetCall, restartCall, Choice, planOf, afterCall, Calls, none, further, Run, start, next, journal, lineNoted, lastKept}
 
 -- ---- Demand 1, for any cabinet, a forged one too, and any arguments: "gets an answer or a refusal from document 01. A refusal changes neither the cabinet nor any lent list or buffer."
 -- (The lent lists and buffers are in the contracts of the calls.)
@@ -29,12 +28,12 @@ use Rattle.protocol.specs.Run.{Call, voteCall, takeCall, withdrawCall, o
 abbrev pub Listed : ℕ → Type 0
 Listed k = ((1 ≤ k) × (k ≤ 12)) ⊎ ((20 ≤ k) × (k ≤ 30))
 
-pub record Refuses (L : Limits) (m : Model) (call : Call) (x : Choice) : Type 0 where
-  pub listed : (r : Refusal) → planOf L m call x .reply ≡ refused r → Listed (numberOf r)
-  pub unchanged : (r : Refusal) → planOf L m call x .reply ≡ refused r → afterCall L m call x ≡ m
+pub record Refuses (C : Codec) (L : Limits) (m : Model) (call : Call) (x : Choice) : Type 0 where
+  pub listed : (r : Refusal) → planOf C L m call x .reply ≡ refused r → Listed (numberOf r)
+  pub unchanged : (r : Refusal) → planOf C L m call x .reply ≡ refused r → afterCall C L m call x ≡ m
 
 abbrev pub Demand1 : Type 0
-Demand1 = (L : Limits) (m : Model) (call : Call) (x : Choice) → Refuses L m call x
+Demand1 = (C : Codec) (L : Limits) (m : Model) (call : Call) (x : Choice) → Refuses C L m call x
 
 -- ---- the history of the journal: "the changes decided since the last recovery"
 abbrev pub H : Journal → History
@@ -55,11 +54,11 @@ pub record VectorsRight (L : Limits) (m : Model) (j : Journal) : Type 0 where
   pub none-yet : isUp (m .phase) ≡ true → (c i : ℕ) → c < L .width → i < L .width → m .numbers .reached c ≡ j .start c → m .memory .last c i ≡ 0
 
 -- ---- Demand 3: "at each accepted fixing"
-pub record FixRight (L : Limits) (n : ℕ) (j : Journal) (rows : List CardRow) (numbers : List ℕ) : Type 0 where
+pub record FixRight (L : Limits) (n : CardSet) (j : Journal) (rows : List CardRow) (numbers : List ℕ) : Type 0 where
   -- the line answered, by card
   pub line : Numbers
   -- "the stored numbers answered are the book's"
-  pub answered : rows ≡ tabulate n (λ c. record { card = c; stored = j .stored c; line = line c })
+  pub answered : rows ≡ selected (L .width) n (λ c. record { card = c; stored = j .stored c; line = line c })
   -- "the line answered is a choice"
   pub is-cut : Cut (L .width) (H j) (j .start) (decisions j) (j .stored) line
   -- "and every other choice is on no card above it"
@@ -94,7 +93,7 @@ pub record SafeRight (L : Limits) (j : Journal) (k : ℕ) (answer : Answer) : Ty
   pub right : (answer ≡ safe) ↔ ((c : ℕ) → c < L .width → H j i .writes c ≡ true → made (H j) (j .start) i c ≤ j .stored c)
 
 -- what holds of an accepted call, made at the cabinet m after the calls cs, that leaves the cabinet m'
-abbrev pub CallRight : Limits → (n : ℕ) → Calls → Call → Answer → (m m' : Model) → Type 0
+abbrev pub CallRight : Limits → (n : CardSet) → Calls → Call → Answer → (m m' : Model) → Type 0
 CallRight L n cs (openCall reads writes) a m m' = Unit {0}
 CallRight L n cs (voteCall k c agrees) a m m' = Unit {0}
 CallRight L n cs (takeCall k c) a m m' = TakeRight (journal L n cs) k c m m'
@@ -103,38 +102,38 @@ CallRight L n cs (storeCall c s) a m m' = Unit {0}
 CallRight L n cs trimCall a m m' = Unit {0}
 CallRight L n cs (safeCall k) a m m' = SafeRight L (journal L n cs) k a
 -- "on a lost card its last accepted store or roll stands .. and nothing above"
-CallRight L n cs (loseCall cards) a m m' = (c : ℕ) → c < n → cards c ≡ true → m' .numbers .held c ≡ lastKept L n cs c
+CallRight L n cs (loseCall cards) a m m' = (c : ℕ) → c < L .width → n c ≡ true → cards c ≡ true → m' .numbers .held c ≡ lastKept L n cs c
 CallRight L n cs (fixCall x y) a m m' = (rows : List CardRow) (numbers : List ℕ) → a ≡ fixed rows numbers → FixRight L n (journal L n cs) rows numbers
 CallRight L n cs (rollCall c) a m m' = RollRight (journal L n cs) c m'
 CallRight L n cs (sheetCall c places) a m m' = Unit {0}
 CallRight L n cs restartCall a m m' = Unit {0}
 
 -- the sheets of the cabinet m, joined, restart to the line
-pub record RestartsTo (L : Limits) (n : ℕ) (m : Model) (line : Numbers) : Type 0 where
-  pub accepted-so : restartReply (joinedSheets format L m) ≡ Accepted
-  pub same-line : (c : ℕ) → c < n → restartedFrom L (joinedSheets format L m) .line c ≡ line c
+pub record RestartsTo (C : Codec) (L : Limits) (n : CardSet) (m : Model) (line : Numbers) : Type 0 where
+  pub accepted-so : C .verdict (C .joined L m) ≡ Accepted
+  pub same-line : (c : ℕ) → c < L .width → n c ≡ true → C .restarted L (C .joined L m) .line c ≡ line c
 
 -- what holds of the cabinet m after the calls cs
-pub record CabinetRight (L : Limits) (n : ℕ) (cs : Calls) (m : Model) : Type 0 where
+pub record CabinetRight (C : Codec) (L : Limits) (n : CardSet) (cs : Calls) (m : Model) : Type 0 where
   -- never refused with 28
   pub never-28 : sound L m ≡ true
   -- demand 2
   pub vectors : VectorsRight L m (journal L n cs)
   -- cuts: the stored number of each card, and the last state of its sheet, is its last accepted store or roll
-  pub stored-kept : (c : ℕ) → c < n → m .numbers .stored c ≡ lastKept L n cs c
-  pub sheet-kept : (c : ℕ) → c < n → pageStored (sheetOf L m c) ≡ lastKept L n cs c
+  pub stored-kept : (c : ℕ) → c < L .width → n c ≡ true → m .numbers .stored c ≡ lastKept L n cs c
+  pub sheet-kept : (c : ℕ) → c < L .width → n c ≡ true → C .last L m c ≡ lastKept L n cs c
   -- "After an accepted fix, and after each later call short of the last roll, the sheets of all cards, joined, restart to the line answered": the engine's memory is gone
-  pub sheets-give-line : (line : Numbers) (marked : CardSet) → journal L n cs .fix ≡ fixing line marked → RestartsTo L n m line
+  pub sheets-give-line : (line : Numbers) (marked : CardSet) → journal L n cs .fix ≡ fixing line marked → RestartsTo C L n m line
   -- while rolling a restart is never refused
-  pub restart-accepted : isRolling (m .phase) ≡ true → restartReply (joinedSheets format L m) ≡ Accepted
+  pub restart-accepted : isRolling (m .phase) ≡ true → C .verdict (C .joined L m) ≡ Accepted
 
 -- throughout a list: of each call, and of the cabinet after it
-abbrev pub Throughout : {L : Limits} {n : ℕ} {cs : Calls} {m : Model} → Run L n cs m → Type 0
-Throughout {L} {n} start = CabinetRight L n none (freshModel n)
-Throughout {L} {n} (next {cs} {m} r call x p) =
+abbrev pub Throughout : {C : Codec} {L : Limits} {n : CardSet} {cs : Calls} {m : Model} → Run C L n cs m → Type 0
+Throughout {C} {L} {n} start = CabinetRight C L n none (freshModel n)
+Throughout {C} {L} {n} (next {cs} {m} r call x p) =
     Throughout r
-    × ((a : Answer) → planOf L m call x .reply ≡ accepted a → CallRight L n cs call a m (afterCall L m call x))
-    × CabinetRight L n (further cs call (planOf L m call x .reply)) (afterCall L m call x)
+    × ((a : Answer) → planOf C L m call x .reply ≡ accepted a → CallRight L n cs call a m (afterCall C L m call x))
+    × CabinetRight C L n (further cs call (planOf C L m call x .reply)) (afterCall C L m call x)
 
 -- "While rolling, the list may also hold a restart"
 abbrev pub WhileRolling : Call → Model → Type 0
@@ -152,25 +151,10 @@ WhileRolling (sheetCall c places) m = Unit {0}
 WhileRolling restartCall m = isRolling (m .phase) ≡ true
 
 -- every restart of a list stands in phase rolling
-abbrev pub RestartsRolling : {L : Limits} {n : ℕ} {cs : Calls} {m : Model} → Run L n cs m → Type 0
+abbrev pub RestartsRolling : {C : Codec} {L : Limits} {n : CardSet} {cs : Calls} {m : Model} → Run C L n cs m → Type 0
 RestartsRolling start = Unit {0}
 RestartsRolling (next {cs} {m} r call x p) = RestartsRolling r × WhileRolling call m
 
--- the limits for which document 01's sheets have room
-pub record SheetLimits (L : Limits) : Type 0 where
-  pub width : L .width ≡ 16
-  pub inHand : L .inHand ≡ 48
-  pub greatestState : L .greatestState ≡ 60000
-  pub greatestNumber : L .greatestNumber ≡ 4294967295
-
--- demands 2 and 3, for every list of calls from a fresh cabinet of any allowed size in which every restart stands in phase rolling
-abbrev pub Demands : Limits → Type 0
-Demands L = (n : ℕ) → 1 ≤ n → n ≤ L .width → (cs : Calls) (m : Model) (r : Run L n cs m) → RestartsRolling r → Throughout r
-
--- document 01's limits: 16 cards, 48 states in hand, 8 open changes, states to 60,000, sessions and change numbers to 4,294,967,295
-abbrev pub limits : Limits
-limits = record { width = 16; inHand = 48; places = 8; greatestState = 60000; greatestNumber = 4294967295 }
-
--- demands 2 and 3 of a cabinet of document 01
-abbrev pub Demands23 : Type 0
-Demands23 = Demands limits
+-- demands 2 and 3, for every list of calls from a fresh cabinet of the cards n in which every restart stands in phase rolling
+abbrev pub Demands : Codec → Limits → CardSet → Type 0
+Demands C L n = (cs : Calls) (m : Model) (r : Run C L n cs m) → RestartsRolling r → Throughout r

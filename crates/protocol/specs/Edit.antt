@@ -1,9 +1,9 @@
 -- What a call changes: each edit says one thing, and `edited` says what it does to the model.
-use Prim.Native.Nat.{ℕ, zero, suc, _+_}
-use mathlib.Core.Bool.{Bool, true, false, not, _&&_, _||_, cond}
+use Prim.Native.Nat.{ℕ, suc}
+use mathlib.Core.Bool.{_&&_, cond}
 use mathlib.Core.List.{List, [], _∷_}
-use lib.Dec.{eqb, leb, ltb}
-use Rattle.history.specs.Change.{CardSet, Change, Numbers}
+use lib.Dec.{eqb, ltb}
+use Rattle.history.specs.Change.{CardSet, Numbers}
 use Rattle.history.specs.Vector.{Vector, noEntries, joined}
 use Rattle.protocol.specs.Model.{Limits, Phase, up, down, rolling, StateNumbers, Memory, OpenChange, Model, noCards, freePlace, withCard, isOpen, decided, awaitsWrite}
 
@@ -54,28 +54,11 @@ withNumbers m n y =
 abbrev pub withMemory : Model → Memory → Model
 withMemory m y = withNumbers m (m .numbers) y
 
--- the number that a place is remembered by when a loss ends it: of a decided change with a written share untaken its own, otherwise 0
-abbrev pub remembered : Limits → OpenChange → ℕ
-remembered L o = cond (isOpen o && decided L o && awaitsWrite L o) (o .change .number) 0
-
-abbrev pub edited : Limits → Edit → Model → Model
-edited L (place p o) m =
+abbrev pub withHead : Model → (session : ℕ) → Phase → (last : ℕ) → Model
+withHead m session phase k =
     record {
-      session = m .session;
-      phase = m .phase;
-      count = m .count;
-      present = m .present;
-      numbers = m .numbers;
-      memory = m .memory;
-      place = put (m .place) p o;
-      ended = m .ended;
-      line = m .line;
-      rolled = m .rolled;
-    }
-edited L (count k) m =
-    record {
-      session = m .session;
-      phase = m .phase;
+      session = session;
+      phase = phase;
       count = k;
       present = m .present;
       numbers = m .numbers;
@@ -85,6 +68,44 @@ edited L (count k) m =
       line = m .line;
       rolled = m .rolled;
     }
+
+abbrev pub withPlaces : Model → (ℕ → OpenChange) → (ended : ℕ → ℕ) → Model
+withPlaces m places ended =
+    record {
+      session = m .session;
+      phase = m .phase;
+      count = m .count;
+      present = m .present;
+      numbers = m .numbers;
+      memory = m .memory;
+      place = places;
+      ended = ended;
+      line = m .line;
+      rolled = m .rolled;
+    }
+
+abbrev pub withLine : Model → Numbers → (rolled : CardSet) → Model
+withLine m line rolled =
+    record {
+      session = m .session;
+      phase = m .phase;
+      count = m .count;
+      present = m .present;
+      numbers = m .numbers;
+      memory = m .memory;
+      place = m .place;
+      ended = m .ended;
+      line = line;
+      rolled = rolled;
+    }
+
+-- the number that a place is remembered by when a loss ends it: of a decided change with a written share untaken its own, otherwise 0
+abbrev pub remembered : Limits → OpenChange → ℕ
+remembered L o = cond (isOpen o && decided L o && awaitsWrite L o) (o .change .number) 0
+
+abbrev pub edited : Limits → Edit → Model → Model
+edited L (place p o) m = withPlaces m (put (m .place) p o) (m .ended)
+edited L (count k) m = withHead m (m .session) (m .phase) k
 edited L (grow c k v) m =
     withNumbers m
     (record {
@@ -134,73 +155,31 @@ edited L (fall cards) m =
       reached = m .numbers .reached;
     })
     (m .memory)
-edited L halt m =
-    record {
-      session = m .session;
-      phase = down;
-      count = m .count;
-      present = m .present;
-      numbers = m .numbers;
-      memory = m .memory;
-      place = λ p. freePlace;
-      ended = λ p. remembered L (m .place p);
-      line = m .line;
-      rolled = m .rolled;
-    }
-edited L (fix line) m =
-    record {
-      session = m .session;
-      phase = rolling;
-      count = m .count;
-      present = m .present;
-      numbers = m .numbers;
-      memory = m .memory;
-      place = m .place;
-      ended = λ p. 0;
-      line = line;
-      rolled = noCards;
-    }
+edited L halt m = withHead (withPlaces m (λ p. freePlace) (λ p. remembered L (m .place p))) (m .session) down (m .count)
+edited L (fix line) m = withHead (withLine (withPlaces m (m .place) (λ p. 0)) line noCards) (m .session) rolling (m .count)
 edited L (lower c) m =
-    record {
-      session = m .session;
-      phase = m .phase;
-      count = m .count;
-      present = m .present;
-      numbers = record {
-        base = put (m .numbers .base) c (m .line c);
-        stored = put (m .numbers .stored) c (m .line c);
-        held = put (m .numbers .held) c (m .line c);
-        reached = put (m .numbers .reached) c (m .line c);
-      };
-      memory = record {
-        last = m .memory .last;
-        pending = m .memory .pending;
-        maker = put (m .memory .maker) c (λ x. 0);
-        frame = put (m .memory .frame) c (λ x. noEntries);
-      };
-      place = m .place;
-      ended = m .ended;
-      line = m .line;
-      rolled = withCard (m .rolled) c;
-    }
+    withLine
+    (withNumbers m
+    (record {
+      base = put (m .numbers .base) c (m .line c);
+      stored = put (m .numbers .stored) c (m .line c);
+      held = put (m .numbers .held) c (m .line c);
+      reached = put (m .numbers .reached) c (m .line c);
+    })
+    (record {
+      last = m .memory .last;
+      pending = m .memory .pending;
+      maker = put (m .memory .maker) c (λ x. 0);
+      frame = put (m .memory .frame) c (λ x. noEntries);
+    }))
+    (m .line)
+    (withCard (m .rolled) c)
 edited L renew m =
-    record {
-      session = suc (m .session);
-      phase = up;
-      count = 0;
-      present = m .present;
-      numbers = m .numbers;
-      memory = record {
-        last = λ c. noEntries;
-        pending = λ c. noEntries;
-        maker = m .memory .maker;
-        frame = m .memory .frame;
-      };
-      place = m .place;
-      ended = m .ended;
-      line = m .line;
-      rolled = noCards;
-    }
+    withHead
+    (withLine (withMemory m (record { last = λ c. noEntries; pending = λ c. noEntries; maker = m .memory .maker; frame = m .memory .frame })) (m .line) noCards)
+    (suc (m .session))
+    up
+    0
 
 -- the edits of a list, one after the other
 abbrev pub editedAll : Limits → List Edit → Model → Model

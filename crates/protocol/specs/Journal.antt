@@ -1,9 +1,8 @@
 -- Document 01's setter's book, here the journal. It "is fed the calls' arguments and answers, nothing from the cabinet".
-use Prim.Native.Nat.{ℕ, zero, suc}
-use mathlib.Core.Bool.{Bool, true, false, not, _||_, cond}
+use Prim.Native.Nat.{ℕ}
+use mathlib.Core.Bool.{Bool, cond}
 use mathlib.Core.List.{List, [], _∷_, _++_}
 use lib.Dec.{eqb}
-use Rattle.laws.specs.Below.{allBelow}
 use Rattle.history.specs.Change.{CardSet, Change, Numbers, touches}
 use Rattle.protocol.specs.Model.{Limits, noCards, within, withCard}
 use Rattle.protocol.specs.Edit.{put}

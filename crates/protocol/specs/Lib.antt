@@ -4,8 +4,7 @@ pub mod Edit
 pub mod Plan
 pub mod Calls
 pub mod Journal
-pub mod Sheets
+pub mod Codec
 pub mod Run
 pub mod Demands
 pub mod Anywhere
-pub mod Worked

@@ -1,7 +1,7 @@
 -- A cabinet with no layout: what document 01 says of it, by card, by state and by place. Every representation has a view into this model.
-use Prim.Native.Nat.{ℕ, zero, suc, _+_, _≤_, _<_}
-use mathlib.Core.Bool.{Bool, true, false, not, _&&_, _||_, cond}
-use lib.Dec.{eqb, leb, ltb}
+use Prim.Native.Nat.{ℕ, _+_, _≤_}
+use mathlib.Core.Bool.{Bool, true, false, not, _&&_, _||_}
+use lib.Dec.{eqb, ltb}
 use Rattle.laws.specs.Below.{allBelow, anyBelow, firstBelow}
 use Rattle.history.specs.Change.{CardSet, Change, Numbers, touches, noChange}
 use Rattle.history.specs.Vector.{Vector, noEntries, Tracked}
@@ -95,6 +95,16 @@ within L s t = allBelow (L .width) (λ c. not (s c) || t c)
 -- the set with one card more
 abbrev pub withCard : CardSet → ℕ → CardSet
 withCard s c k = eqb k c || s k
+
+-- an open change, with one of its fields set
+abbrev pub withYes : OpenChange → CardSet → OpenChange
+withYes o s = record { change = o .change; yes = s; taken = o .taken; vector = o .vector }
+
+abbrev pub withTaken : OpenChange → CardSet → OpenChange
+withTaken o s = record { change = o .change; yes = o .yes; taken = s; vector = o .vector }
+
+abbrev pub withVector : OpenChange → Vector → OpenChange
+withVector o v = record { change = o .change; yes = o .yes; taken = o .taken; vector = v }
 
 abbrev pub isOpen : OpenChange → Bool
 isOpen o = not (eqb (o .change .number) 0)

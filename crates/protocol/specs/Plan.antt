@@ -1,6 +1,6 @@
 -- A call is a plan over the model: a table of checks, each with its refusal, in document 01's order; then the answer and the edits.
 use Prim.Native.Nat.{ℕ}
-use mathlib.Core.Bool.{Bool, true, false, cond}
+use mathlib.Core.Bool.{Bool, cond}
 use mathlib.Core.List.{List, [], _∷_}
 use Rattle.refusal.specs.declared.Refusal.{Refusal}
 use Rattle.protocol.specs.Model.{Limits, Model}

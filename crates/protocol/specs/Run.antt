@@ -1,19 +1,17 @@
 -- Lists of calls from a fresh cabinet, refused ones included, with every answer and the cabinet after each call.
-use Prim.Native.Nat.{ℕ, zero, suc, _<_}
+use Prim.Native.Nat.{ℕ, _<_}
 use mathlib.Core.Path.{_≡_}
-use mathlib.Core.Bool.{Bool, true, false}
+use mathlib.Core.Bool.{Bool, true}
 use mathlib.Core.List.{List, []}
-use lib.Dec.{ltb}
 use Rattle.laws.specs.Below.{one-if, anyBelow, occurs}
-use Rattle.frame.specs.declared.Verdict.{Verdict}
-use Rattle.frame.specs.declared.Verdict.the-variants.{Accepted, Refused}
-use Rattle.frame.specs.Format.{format}
+use Rattle.refusal.specs.declared.Verdict.{Verdict}
+use Rattle.refusal.specs.declared.Verdict.the-variants.{Accepted, Refused}
 use Rattle.history.specs.Change.{CardSet, Numbers}
 use Rattle.protocol.specs.Model.{Limits, Model}
 use Rattle.protocol.specs.Edit.{put}
 use Rattle.protocol.specs.Plan.{CardRow, Answer, done, opened, safe, unsafe, fixed, written, Reply, accepted, refused, Plan, afterPlan}
 use Rattle.protocol.specs.Calls.{freshModel, barred, isLost, openPlan, votePlan, takePlan, withdrawPlan, storePlan, trimPlan, safePlan, losePlan, fixPlan, rollPlan}
-use Rattle.protocol.specs.Sheets.{joinedSheets, sheetPlan, restartReply, restartedFrom}
+use Rattle.protocol.specs.Codec.{Codec, sheetPlan}
 use Rattle.protocol.specs.Journal.{Journal, Fixing, unfixed, fixing, emptyJournal, noteOpen, noteVote, noteStruck, noteStore, noteLose, noteFix, noteRoll}
 
 -- calls 1 to 10 with the lengths of the lists lent, sheet writing with the buffer's, and restart
@@ -63,45 +61,45 @@ verdictCabinet Accepted new old = new
 verdictCabinet (Refused r) new old = old
 
 -- the plan of a call; a restart gives another cabinet, and no edits
-abbrev pub planOf : Limits → Model → Call → Choice → Plan
-planOf L m (openCall reads writes) x = openPlan L m reads writes (x .named)
-planOf L m (voteCall k c agrees) x = votePlan L m k c agrees
-planOf L m (takeCall k c) x = takePlan L m k c
-planOf L m (withdrawCall k) x = withdrawPlan L m k
-planOf L m (storeCall c s) x = storePlan L m c s
-planOf L m trimCall x = trimPlan L m
-planOf L m (safeCall k) x = safePlan L m k
-planOf L m (loseCall cards) x = losePlan L m cards
-planOf L m (fixCall a b) x = fixPlan L m a b (x .lost)
-planOf L m (rollCall c) x = rollPlan L m c
-planOf L m (sheetCall c places) x = sheetPlan format L m c places
-planOf L m restartCall x = record { reply = verdictReply (restartReply (joinedSheets format L m)); edits = [] }
+abbrev pub planOf : Codec → Limits → Model → Call → Choice → Plan
+planOf C L m (openCall reads writes) x = openPlan L m reads writes (x .named)
+planOf C L m (voteCall k c agrees) x = votePlan L m k c agrees
+planOf C L m (takeCall k c) x = takePlan L m k c
+planOf C L m (withdrawCall k) x = withdrawPlan L m k
+planOf C L m (storeCall c s) x = storePlan L m c s
+planOf C L m trimCall x = trimPlan L m
+planOf C L m (safeCall k) x = safePlan L m k
+planOf C L m (loseCall cards) x = losePlan L m cards
+planOf C L m (fixCall a b) x = fixPlan L m a b (x .lost)
+planOf C L m (rollCall c) x = rollPlan L m c
+planOf C L m (sheetCall c places) x = sheetPlan C L m c places
+planOf C L m restartCall x = record { reply = verdictReply (C .verdict (C .joined L m)); edits = [] }
 
 -- the cabinet after a call
-abbrev pub afterCall : Limits → Model → Call → Choice → Model
-afterCall L m (openCall reads writes) x = afterPlan L (planOf L m (openCall reads writes) x) m
-afterCall L m (voteCall k c agrees) x = afterPlan L (planOf L m (voteCall k c agrees) x) m
-afterCall L m (takeCall k c) x = afterPlan L (planOf L m (takeCall k c) x) m
-afterCall L m (withdrawCall k) x = afterPlan L (planOf L m (withdrawCall k) x) m
-afterCall L m (storeCall c s) x = afterPlan L (planOf L m (storeCall c s) x) m
-afterCall L m trimCall x = afterPlan L (planOf L m trimCall x) m
-afterCall L m (safeCall k) x = afterPlan L (planOf L m (safeCall k) x) m
-afterCall L m (loseCall cards) x = afterPlan L (planOf L m (loseCall cards) x) m
-afterCall L m (fixCall a b) x = afterPlan L (planOf L m (fixCall a b) x) m
-afterCall L m (rollCall c) x = afterPlan L (planOf L m (rollCall c) x) m
-afterCall L m (sheetCall c places) x = afterPlan L (planOf L m (sheetCall c places) x) m
-afterCall L m restartCall x = verdictCabinet (restartReply (joinedSheets format L m)) (restartedFrom L (joinedSheets format L m)) m
+abbrev pub afterCall : Codec → Limits → Model → Call → Choice → Model
+afterCall C L m (openCall reads writes) x = afterPlan L (planOf C L m (openCall reads writes) x) m
+afterCall C L m (voteCall k c agrees) x = afterPlan L (planOf C L m (voteCall k c agrees) x) m
+afterCall C L m (takeCall k c) x = afterPlan L (planOf C L m (takeCall k c) x) m
+afterCall C L m (withdrawCall k) x = afterPlan L (planOf C L m (withdrawCall k) x) m
+afterCall C L m (storeCall c s) x = afterPlan L (planOf C L m (storeCall c s) x) m
+afterCall C L m trimCall x = afterPlan L (planOf C L m trimCall x) m
+afterCall C L m (safeCall k) x = afterPlan L (planOf C L m (safeCall k) x) m
+afterCall C L m (loseCall cards) x = afterPlan L (planOf C L m (loseCall cards) x) m
+afterCall C L m (fixCall a b) x = afterPlan L (planOf C L m (fixCall a b) x) m
+afterCall C L m (rollCall c) x = afterPlan L (planOf C L m (rollCall c) x) m
+afterCall C L m (sheetCall c places) x = afterPlan L (planOf C L m (sheetCall c places) x) m
+afterCall C L m restartCall x = verdictCabinet (C .verdict (C .joined L m)) (C .restarted L (C .joined L m)) m
 
 -- the calls of a list with their replies, the last one outermost
 pub data Calls : Type 0 where
   none : Calls
   further : Calls → Call → Reply → Calls
 
--- a list of calls from a fresh cabinet of n cards, and the cabinet that it leads to. "Each call gets the cabinet that the last one returned".
-pub data Run (L : Limits) (n : ℕ) : Calls → Model → Type 0 where
-  start : Run L n none (freshModel n)
-  next : {cs : Calls} {m : Model} → Run L n cs m → (call : Call) (x : Choice) → Proper L m call x
-      → Run L n (further cs call (planOf L m call x .reply)) (afterCall L m call x)
+-- a list of calls from a fresh cabinet of the cards n, and the cabinet that it leads to. "Each call gets the cabinet that the last one returned".
+pub data Run (C : Codec) (L : Limits) (n : CardSet) : Calls → Model → Type 0 where
+  start : Run C L n none (freshModel n)
+  next : {cs : Calls} {m : Model} → Run C L n cs m → (call : Call) (x : Choice) → Proper L m call x
+      → Run C L n (further cs call (planOf C L m call x .reply)) (afterCall C L m call x)
 
 -- ---- the journal of a list
 -- the number that an opening answers
@@ -123,7 +121,7 @@ rowsIn (fixed rows lost) = rows
 rowsIn (written bytes) = []
 
 -- what the journal notes of an accepted call
-abbrev pub noteAccepted : Limits → ℕ → Journal → Call → Answer → Journal
+abbrev pub noteAccepted : Limits → CardSet → Journal → Call → Answer → Journal
 noteAccepted L n j (openCall reads writes) a = noteOpen j (numberIn a) reads writes
 noteAccepted L n j (voteCall k c agrees) a = noteVote L j k c agrees
 noteAccepted L n j (takeCall k c) a = j
@@ -133,16 +131,16 @@ noteAccepted L n j trimCall a = j
 noteAccepted L n j (safeCall k) a = j
 noteAccepted L n j (loseCall cards) a = noteLose j
 noteAccepted L n j (fixCall x y) a = noteFix j (rowsIn a)
-noteAccepted L n j (rollCall c) a = noteRoll L (λ i. ltb i n) j c
+noteAccepted L n j (rollCall c) a = noteRoll L n j c
 noteAccepted L n j (sheetCall c places) a = j
 noteAccepted L n j restartCall a = j
 
 -- "Refused call .. : nothing."
-abbrev pub note : Limits → ℕ → Journal → Call → Reply → Journal
+abbrev pub note : Limits → CardSet → Journal → Call → Reply → Journal
 note L n j call (accepted a) = noteAccepted L n j call a
 note L n j call (refused r) = j
 
-abbrev pub journal : Limits → ℕ → Calls → Journal
+abbrev pub journal : Limits → CardSet → Calls → Journal
 journal L n none = emptyJournal
 journal L n (further cs call reply) = note L n (journal L n cs) call reply
 
@@ -171,6 +169,6 @@ keptBy j call (accepted a) x = keptAfter j call x
 keptBy j call (refused r) x = x
 
 -- by arguments and answers: each card's last accepted store or roll, and 0 if there was none
-abbrev pub lastKept : Limits → ℕ → Calls → Numbers
+abbrev pub lastKept : Limits → CardSet → Calls → Numbers
 lastKept L n none c = 0
 lastKept L n (further cs call reply) c = keptBy (journal L n cs) call reply (lastKept L n cs) c

@@ -1,11 +1,11 @@
 -- Refusal 28: what a cabinet must be, so that a call looks at anything else. Document 01's row, clause by clause.
-use Prim.Native.Nat.{ℕ, zero, suc, _+_, _-_}
-use mathlib.Core.Bool.{Bool, true, false, not, _&&_, _||_, cond}
+use Prim.Native.Nat.{ℕ, suc, _+_, _-_}
+use mathlib.Core.Bool.{Bool, not, _&&_, _||_, cond}
 use lib.Dec.{eqb, leb, ltb}
 use Rattle.laws.specs.Below.{allBelow, anyBelow}
-use Rattle.history.specs.Change.{CardSet, Change, touches}
+use Rattle.history.specs.Change.{CardSet, touches}
 use Rattle.history.specs.Vector.{Vector}
-use Rattle.protocol.specs.Model.{Limits, Phase, isRolling, StateNumbers, Memory, OpenChange, Model, strays, isOpen, toWrite}
+use Rattle.protocol.specs.Model.{Limits, isRolling, StateNumbers, Memory, OpenChange, Model, strays, isOpen, toWrite}
 
 -- "session 0 (while rolling also 4,294,967,295)"
 abbrev pub sessionSound : Limits → Model → Bool

@@ -1,88 +1,85 @@
 -- An accepted read-out is the very bytes that the restarted cabinet writes. Assumes nothing.
-use Prim.Native.Nat.{ℕ, zero, suc, _+_, _*_, _-_, _≤_, _<_}
+use Prim.Native.Nat.{ℕ, suc, _+_, _-_, _≤_, _<_}
 use mathlib.Core.Path.{_≡_, refl, sym, _∙_, ap, ap₂}
-use mathlib.Core.Bool.{Bool, true, false, cond}
-use mathlib.Core.List.{List, [], _∷_}
+use mathlib.Core.List.{List}
 use native.Mathlib.Omega.{arith}
 use lib.Dec.{ltb}
 use lib.ListN.{length, getD}
 use borrow.Author.Tests.{ltb-true, ltb-false}
-use Rattle.laws.specs.Below.{tabulate}
 use Rattle.laws.proofs.Logic.{test, cond-true, cond-false}
-use Rattle.laws.proofs.Fill.{tabulate-ext, tabulate-same}
-use Rattle.frame.specs.declared.Verdict.the-variants.{Accepted}
-use Rattle.frame.specs.declared.Frame.{Frame}
-use Rattle.frame.specs.Format.{format}
+use Rattle.laws.proofs.Fill.{tabulate-ext}
+use Rattle.refusal.specs.declared.Verdict.the-variants.{Accepted}
+use Rattle.frame.specs.Format.{formats}
 use Rattle.frame.specs.Lines.{noFrame}
 use Rattle.sheet.specs.Pages.{Page, pagesBytes}
+use Rattle.sheet.specs.Ring.{noPage, pageAt}
+use Rattle.sheet.specs.Whole.{Whole}
+use Rattle.readout.specs.Joint.{lowestSession, jointVerdict, pagesRead}
 use Rattle.protocol.specs.Model.{Model}
-use Rattle.protocol.specs.Sheets.{cardCount, sheetSession, sheetFrame, sheetOf, sheets, joinedSheets, storedIn, vectorIn, restarted, restartReply, restartedFrom}
-use Rattle.protocol.proofs.Restart.{count-is, sheets-are}
+use Rattle.codec.specs.Sheets.{cardCount, sheetSession, sheetFrame, sheetOf, sheets, pageStored, vectorOn, restarted}
+use Rattle.codec.proofs.Written.{count-is, sheets-are}
 use Rattle.verdicts.specs.Shape.{limits16}
 use Rattle.verdicts.proofs.Limits.{width16}
 use Rattle.readback.specs.Readback.{WritesTheSame}
-use Rattle.readback.proofs.Shown.{Shown, shown, r, low, frames, session-low, session-high, base-at, count-at, long, change-at, vector-at}
+use Rattle.readout.proofs.Accepted.{AcceptedPages, accepted-pages, joint-passed, session-low, session-high}
+use Rattle.readback.proofs.Shown.{stored-is, long, change-at, vector-at}
 
-module _ (bytes : List ℕ) (s : Shown bytes) where
+module _ (ps : List Page) (w : Whole formats ps) (joint : jointVerdict ps ≡ Accepted) where
   abbrev m : Model
-  m = restartedFrom limits16 bytes
+  m = restarted limits16 ps
 
-  few : s .n ≤ limits16 .width
-  few = let f = s .few in omega (arith, width16)
+  few : length ps ≤ limits16 .width
+  few = let f : length ps ≤ 16 = w .few in omega (arith, width16)
 
-  present-is : (c : ℕ) → m .present c ≡ ltb c (s .n)
-  present-is c = ap (ltb c) (s .cards)
+  count-of : cardCount limits16 m ≡ length ps
+  count-of = count-is limits16 (length ps) m few (λ c. refl)
 
-  count-of : cardCount limits16 m ≡ s .n
-  count-of = count-is limits16 (s .n) m few present-is
+  module _ (c : ℕ) (h : c < length ps) where
+    abbrev p : Page
+    p = pageAt ps c
 
-  module _ (c : ℕ) (h : c < s .n) where
-    session-same : sheetSession m c ≡ s .page c .header .session
+    session-same : sheetSession m c ≡ p .header .session
     session-same =
-        test (ltb (low bytes s) (getD (r bytes s .sessions) c 0))
-        (λ t. cond-true (suc (low bytes s)) (low bytes s) t ∙ ahead (ltb-true (low bytes s) (getD (r bytes s .sessions) c 0) t))
-        (λ t. cond-false (suc (low bytes s)) (low bytes s) t ∙ level (ltb-false (low bytes s) (getD (r bytes s .sessions) c 0) t))
+        test (ltb (lowestSession ps) (p .header .session))
+        (λ t. cond-true (suc (lowestSession ps)) (lowestSession ps) t ∙ ahead (ltb-true (lowestSession ps) (p .header .session) t))
+        (λ t. cond-false (suc (lowestSession ps)) (lowestSession ps) t ∙ level (ltb-false (lowestSession ps) (p .header .session) t))
       where
-        ahead : low bytes s < getD (r bytes s .sessions) c 0 → suc (low bytes s) ≡ s .page c .header .session
-        ahead l = omega (arith, session-high bytes s c h, s .holds .session c h)
+        ahead : lowestSession ps < pageAt ps c .header .session → suc (lowestSession ps) ≡ pageAt ps c .header .session
+        ahead l = omega (arith, session-high ps (joint-passed ps joint .level) c h)
 
-        level : getD (r bytes s .sessions) c 0 ≤ low bytes s → low bytes s ≡ s .page c .header .session
-        level l = omega (arith, session-low bytes s c h, s .holds .session c h)
+        level : pageAt ps c .header .session ≤ lowestSession ps → lowestSession ps ≡ pageAt ps c .header .session
+        level l = omega (arith, session-low ps c h)
 
-    count-same : storedIn (r bytes s) c - getD (r bytes s .bases) c 0 ≡ length (frames bytes s c)
-    count-same = omega (arith, count-at bytes s c h)
+    count-same : pageStored p - p .header .base ≡ length (p .frames)
+    count-same = omega (arith, stored-is ps w c h)
 
-    frame-same : (i : ℕ) → i < length (frames bytes s c) → getD (frames bytes s c) i noFrame ≡ sheetFrame limits16 m c (suc (getD (r bytes s .bases) c 0 + i))
+    frame-same : (i : ℕ) → i < length (p .frames) → getD (p .frames) i noFrame ≡ sheetFrame limits16 m c (suc (p .header .base + i))
     frame-same i l =
-        let f = s .few in
-        let es : List ℕ = getD (frames bytes s c) i noFrame .entries in
-        ap₂ (λ (k : ℕ) (e : List ℕ). record { change = k; entries = e }) (sym (change-at bytes s c h i l))
-        (tabulate-ext 0 (cardCount limits16 m) (vectorIn limits16 (r bytes s) c (suc (getD (r bytes s .bases) c 0 + i))) es (long bytes s c h i l ∙ sym count-of)
-        (λ j k. sym (vector-at bytes s c h i l j (omega (arith, k, count-of)))))
+        ap₂ (λ (k : ℕ) (e : List ℕ). record { change = k; entries = e }) (sym (change-at ps w c h i l))
+        (tabulate-ext 0 (cardCount limits16 m) (vectorOn p (suc (p .header .base + i))) (getD (p .frames) i noFrame .entries) (long ps w c h i l ∙ sym count-of)
+        (λ j k. sym (vector-at ps w c h i l j)))
 
-    frames-same : sheetOf limits16 m c .frames ≡ frames bytes s c
+    frames-same : sheetOf limits16 m c .frames ≡ p .frames
     frames-same =
-        sym (tabulate-ext noFrame (storedIn (r bytes s) c - getD (r bytes s .bases) c 0) (λ k. sheetFrame limits16 m c (suc (getD (r bytes s .bases) c 0 + k))) (frames bytes s c) (sym count-same)
+        sym (tabulate-ext noFrame (pageStored p - p .header .base) (λ k. sheetFrame limits16 m c (suc (p .header .base + k))) (p .frames) (sym count-same)
         (λ i l. frame-same i (omega (arith, l, count-same))))
 
-    page-same : sheetOf limits16 m c ≡ s .page c
+    page-same : pageAt ps c ≡ sheetOf limits16 m c
     page-same =
         λ i. record {
           header =
               record {
-                session = session-same i;
-                card = sym (s .sheet c h .card) i;
-                cards = (count-of ∙ sym (s .sheet c h .cards)) i;
-                base = base-at bytes s c h i;
-                count = (count-same ∙ sym (s .sheet c h .count)) i;
+                session = sym session-same i;
+                card = w .sheet c h .card i;
+                cards = (w .sheet c h .cards ∙ sym count-of) i;
+                base = p .header .base;
+                count = (w .sheet c h .count ∙ sym count-same) i;
               };
-          frames = frames-same i;
+          frames = sym frames-same i;
         }
 
-  bytes-same : joinedSheets format limits16 m ≡ bytes
-  bytes-same =
-      ap (pagesBytes format) (sheets-are limits16 (s .n) m few present-is ∙ tabulate-same (s .n) (sheetOf limits16 m) (s .page) page-same)
-      ∙ s .bytes-are
+  pub sheets-same : sheets limits16 m ≡ ps
+  sheets-same = sheets-are limits16 (length ps) m few (λ c. refl) ∙ sym (tabulate-ext noPage (length ps) (sheetOf limits16 m) ps refl page-same)
 
 pub writes-the-same : WritesTheSame
-writes-the-same bytes e = bytes-same bytes (shown bytes e)
+writes-the-same bytes e = let t : AcceptedPages bytes (pagesRead bytes .pages) = accepted-pages bytes e in ap (pagesBytes formats) (sheets-same (pagesRead bytes .pages) (t .whole) (t .joint)) ∙ t .bytes

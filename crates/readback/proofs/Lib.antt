@@ -1,4 +1,3 @@
-pub mod Read
 pub mod Shown
-pub mod Again
 pub mod Whole
+pub mod Again

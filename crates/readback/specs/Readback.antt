@@ -3,10 +3,10 @@ use Prim.Native.Nat.{ℕ}
 use mathlib.Core.Path.{_≡_}
 use mathlib.Core.Bool.{true}
 use mathlib.Core.List.{List}
-use Rattle.frame.specs.Format.{format}
-use Rattle.frame.specs.declared.Verdict.the-variants.{Accepted}
+use Rattle.frame.specs.Format.{formats}
+use Rattle.refusal.specs.declared.Verdict.the-variants.{Accepted}
 use Rattle.protocol.specs.Sound.{sound}
-use Rattle.protocol.specs.Sheets.{joinedSheets, restartReply, restartedFrom}
+use Rattle.codec.specs.Sheets.{joinedSheets, restartReply, restartedFrom}
 use Rattle.verdicts.specs.Shape.{limits16}
 
 -- an accepted restart is never refused with 28
@@ -15,4 +15,4 @@ NeverRefused28 = (bytes : List ℕ) → restartReply bytes ≡ Accepted → soun
 
 -- an accepted read-out is the very bytes that the restarted cabinet writes
 abbrev pub WritesTheSame : Type 0
-WritesTheSame = (bytes : List ℕ) → restartReply bytes ≡ Accepted → joinedSheets format limits16 (restartedFrom limits16 bytes) ≡ bytes
+WritesTheSame = (bytes : List ℕ) → restartReply bytes ≡ Accepted → joinedSheets formats limits16 (restartedFrom limits16 bytes) ≡ bytes

@@ -1,2 +1,3 @@
 pub mod Jointly
-pub mod Tidy
+pub mod Laid
+pub mod Accepted

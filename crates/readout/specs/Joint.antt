@@ -1,38 +1,57 @@
--- What the reader of a joined read-out answers: refusals 11, 24 and 10 behind the last line.
-use Prim.Native.Nat.{ℕ, min}
-use mathlib.Core.Bool.{true, cond}
-use mathlib.Core.List.{List}
+-- What the reader of a joined read-out answers, over its sheets: refusals 11, 24 and 10 behind the last line.
+use Prim.Native.Nat.{ℕ, _-_}
+use mathlib.Core.Bool.{Bool, true, cond}
+use mathlib.Core.List.{List, []}
 use lib.Dec.{ltb, eqb}
 use lib.ListN.{length}
 use Rattle.refusal.specs.declared.Refusal.the-variants.{TwoVectors, SessionsApart, TooLong, LimitReached}
-use Rattle.frame.specs.declared.Verdict.{Verdict}
-use Rattle.frame.specs.declared.Verdict.the-variants.{Accepted, Refused}
-use Rattle.sheet.specs.declared.Readout.{Readout}
+use Rattle.refusal.specs.declared.Verdict.{Verdict}
+use Rattle.refusal.specs.declared.Verdict.the-variants.{Accepted, Refused}
+use Rattle.frame.specs.Format.{formats}
 use Rattle.sheet.specs.declared.Reading.{Reading}
-use Rattle.sheet.specs.Walk.{noReadout, readingOf}
-use Rattle.sessions.specs.Sessions.{lowestOf, apart}
+use Rattle.sheet.specs.Pages.{Page, readSheets}
+use Rattle.sheet.specs.Walk.{noReadout, layPages}
+use Rattle.sheet.specs.Ring.{pageAt}
+use Rattle.sessions.specs.Sessions.{lowestTo, apart}
 use Rattle.two_vectors.specs.Vectors.{twoVectors}
 
--- "then 11, 24, 10"; n is the number of cards
-unfoldable pub jointVerdict : Readout → ℕ → Verdict
-jointVerdict r n =
-    let low = lowestOf (r .sessions) n in
-    cond (apart (r .sessions) (r .counts) low n) (Refused SessionsApart) (cond (eqb low 4294967295) (Refused LimitReached) (cond (twoVectors r n) (Refused TwoVectors) Accepted))
+-- "the lowest session found"
+abbrev pub lowestSession : List Page → ℕ
+lowestSession ps = lowestTo (λ c. pageAt ps c .header .session) (length ps - 1)
 
--- the number of cards, of which there are no more than 16
-abbrev pub cardsOf : Readout → ℕ
-cardsOf r = min (r .cards) 16
+-- refusal 11: "sessions more than one apart, or a sheet one ahead has frames"
+unfoldable pub sessionsApart : List Page → Bool
+sessionsApart ps = apart (λ c. pageAt ps c .header .session) (λ c. length (pageAt ps c .frames)) (lowestSession ps) (length ps)
 
--- a read-out by its lines and jointly; a refused one is the read-out of zeros
-abbrev pub joined : Verdict → Readout → Reading
-joined Accepted r = record { readout = r; verdict = Accepted }
-joined (Refused x) r = record { readout = noReadout; verdict = Refused x }
+-- "then 11, 24, 10"
+unfoldable pub jointVerdict : List Page → Verdict
+jointVerdict ps =
+    cond (sessionsApart ps) (Refused SessionsApart) (cond (eqb (lowestSession ps) 4294967295) (Refused LimitReached) (cond (twoVectors ps) (Refused TwoVectors) Accepted))
 
-abbrev pub lined : Verdict → Readout → Reading
-lined Accepted r = joined (jointVerdict r (cardsOf r)) r
-lined (Refused x) r = record { readout = noReadout; verdict = Refused x }
+-- the sheets of a read-out, and the verdict on it
+pub record PagesRead : Type 0 where
+  pub pages : List Page
+  pub verdict : Verdict
 
--- what the reader of a read-out answers to any bytes: "12 comes before any line"
-unfoldable pub readoutOf : List ℕ → Reading
-readoutOf input =
-    cond (ltb 65536 (length input)) (record { readout = noReadout; verdict = Refused TooLong }) (lined (readingOf true 0 input .verdict) (readingOf true 0 input .readout))
+-- a refused read-out has no sheets: "nothing of the sheet is used"
+abbrev pub judged : Verdict → List Page → PagesRead
+judged Accepted ps = record { pages = ps; verdict = Accepted }
+judged (Refused x) ps = record { pages = []; verdict = Refused x }
+
+-- a read-out by the verdict on its lines, and then jointly
+abbrev pub lined : Verdict → List Page → PagesRead
+lined Accepted ps = judged (jointVerdict ps) ps
+lined (Refused x) ps = judged (Refused x) ps
+
+-- what any bytes are as the sheets of all cards: "12 comes before any line"
+unfoldable pub pagesRead : List ℕ → PagesRead
+pagesRead input =
+    cond (ltb 65536 (length input)) (judged (Refused TooLong) []) (lined (readSheets formats true 0 input .verdict) (readSheets formats true 0 input .pages))
+
+-- sheets with their verdict as the reader gives them, by value; of no sheets that is the read-out of zeros
+abbrev pub given : PagesRead → Reading
+given p = record { readout = layPages (p .pages) noReadout; verdict = p .verdict }
+
+-- what the reader of a read-out answers to any bytes
+abbrev pub readoutOf : List ℕ → Reading
+readoutOf input = given (pagesRead input)

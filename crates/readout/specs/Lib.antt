@@ -1,1 +1,2 @@
 pub mod Joint
+pub mod Laid

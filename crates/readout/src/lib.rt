@@ -1,20 +1,16 @@
 // The reader of a joined read-out: its lines, and then the sheets beside each other.
 ghost use mathlib.Core.Path.{_≡_};
-ghost use Prim.Native.Nat.{_-_, _≤_};
-ghost use Rattle.frame.specs.declared.Verdict.{Verdict};
-ghost use Rattle.sheet.specs.Walk.{noReadout};
+ghost use Prim.Native.Nat.{_≤_};
+ghost use mathlib.Core.List.{[]};
+ghost use Rattle.refusal.specs.declared.Verdict.{Verdict};
+ghost use Rattle.sheet.specs.Ring.{pagesOf};
 ghost use Rattle.two_vectors.specs.Heads.{Orderly, listsRead};
-ghost use Rattle.readout.specs.Joint.{jointVerdict, cardsOf, joined, readoutOf};
-use frame::Verdict;
+ghost use Rattle.readout.specs.Joint.{jointVerdict, judged, given, readoutOf};
+ghost use Rattle.readout.specs.Laid.{Laid};
 use refusal::Refusal;
+use refusal::Verdict;
 use sheet::Reading;
 use sheet::Readout;
-
-fn before(n: u32) -> u32
-    ensures { λ r. ⌜ r ≡ n - 1 ⌝ }
-{
-    if n == 0 { 0 } else { n - 1 }
-}
 
 // The verdict on the sheets beside each other.
 fn joint_verdict<'a>(
@@ -25,10 +21,10 @@ fn joint_verdict<'a>(
     counts: [u32; 16],
     n: u32,
 ) -> Verdict
-    requires { ⌜ (n ≤ 16) × Orderly (now changes) bases counts n ⌝ }
-    ensures { λ x. ⌜ x ≡ jointVerdict (listsRead (now (changes .entry)) (now (entries .entry)) sessions bases counts) n ⌝ }
+    requires { ⌜ (1 ≤ n) × (n ≤ 16) × Orderly (now changes) bases counts n ⌝ }
+    ensures { λ x. ⌜ x ≡ jointVerdict (pagesOf (listsRead (now (changes .entry)) (now (entries .entry)) sessions bases counts n)) ⌝ }
 {
-    let low = sessions::lowest(sessions, before(n));
+    let low = sessions::lowest(sessions, n - 1);
     if sessions::sessions_apart(sessions, counts, low, n) {
         return Verdict::Refused(Refusal::SessionsApart);
     }
@@ -41,8 +37,9 @@ fn joint_verdict<'a>(
     Verdict::Accepted
 }
 
+// A refused read-out: that of zeros.
 fn no_readout(x: Refusal) -> Reading
-    ensures { λ r. ⌜ r ≡ joined (Verdict.Refused x) noReadout ⌝ }
+    ensures { λ r. ⌜ r ≡ given (judged (Verdict.Refused x) []) ⌝ }
 {
     let readout = Readout {
         changes: [0u32; 768],
@@ -58,14 +55,15 @@ fn no_readout(x: Refusal) -> Reading
     }
 }
 
+// A read-out whose lines are accepted, by the joint verdict.
 fn judged_jointly(r: Readout) -> Reading
-    requires { ⌜ Orderly (r .changes) (r .bases) (r .counts) (cardsOf r) ⌝ }
-    ensures { λ x. ⌜ x ≡ joined (jointVerdict r (cardsOf r)) r ⌝ }
+    requires { ⌜ Laid r ⌝ }
+    ensures { λ x. ⌜ x ≡ given (judged (jointVerdict (pagesOf r)) (pagesOf r)) ⌝ }
 {
     let sessions = r.sessions;
     let bases = r.bases;
     let counts = r.counts;
-    let n = sessions::least(r.cards, 16);
+    let n = r.cards;
     let v = joint_verdict(&r.changes, &r.entries, sessions, bases, counts, n);
     match v {
         Verdict::Accepted => Reading {

@@ -1,14 +1,13 @@
 -- A line climbed so far, and the line of the frames in hand as the line of the ring's frames. Assumes nothing.
-use Prim.Native.Nat.{ℕ, zero, suc, _+_, _*_, _-_, _%_, _≤_, _<_, zero-le}
+use Prim.Native.Nat.{ℕ, zero, suc, _+_, _-_, _≤_, _<_, zero-le}
 use mathlib.Core.Path.{_≡_, refl, sym, _∙_, ap, ap₂}
-use mathlib.Core.Bool.{Bool, true, false, not, _&&_, _||_, cond}
+use mathlib.Core.Bool.{Bool, true, false, _&&_, cond}
 use mathlib.Core.List.{List, []}
 use mathlib.Core.Logic.{by-cases}
 use native.Mathlib.Decide.{decLt}
 use native.Mathlib.Numerals.{add-one}
 use native.Mathlib.Omega.{arith}
-use lib.ListN.{length, getD, List·getD-eq-default}
-use lib.Dec.{eqb, leb, ltb}
+use lib.Dec.{ltb}
 use borrow.Author.Tests.{lt-ltb, le-leb, le-ltb, lt-leb}
 use Rattle.laws.specs.Below.{anyBelow}
 use Rattle.laws.proofs.Logic.{cond-true, cond-false, and-intro}
@@ -18,8 +17,7 @@ use Rattle.history.specs.Vector.{entryOf, Vector}
 use Rattle.history.specs.Line.{atOrAbove, orphan, climb, lineFrom}
 use Rattle.protocol.specs.Calls.{lines}
 use Rattle.verdicts.specs.declared.Head.{Head}
-use Rattle.verdicts.specs.Shape.{limits16, at, listOf, ringFrame, cut, inHand, frameInHand, modelOf}
-use Rattle.verdicts.proofs.Limits.{width16}
+use Rattle.verdicts.specs.Shape.{limits16, at, listOf, ringFrame, cut, inHand, frameInHand, bare, withNumbers, modelOf}
 use Rattle.verdicts.proofs.Held.{list-same}
 
 -- an entry held as a dependency is at or above a number where the dependency is above it
@@ -89,8 +87,8 @@ ringLine entries base stored reached cards k =
     cond (ltb k (limits16 .width) && ltb k cards) (lineFrom (limits16 .width) (at stored) (ringFrame entries k) (at base k) (at reached k)) (at base k)
 
 pub lines-ring : (entries base stored reached : List ℕ) (h : Head)
-    → listOf (ringLine entries base stored reached (h .cards)) ≡ listOf (lines limits16 (modelOf entries [] [] [] [] base stored [] reached [] [] 0 h))
+    → listOf (ringLine entries base stored reached (h .cards)) ≡ listOf (lines limits16 (modelOf entries [] (withNumbers (bare h) base stored [] reached)))
 lines-ring entries base stored reached h = list-same _ _ each
   where
-    each : (k : ℕ) → k < 16 → ringLine entries base stored reached (h .cards) k ≡ lines limits16 (modelOf entries [] [] [] [] base stored [] reached [] [] 0 h) k
+    each : (k : ℕ) → k < 16 → ringLine entries base stored reached (h .cards) k ≡ lines limits16 (modelOf entries [] (withNumbers (bare h) base stored [] reached)) k
     each k l = ap (λ (x : ℕ). cond (ltb k (limits16 .width) && ltb k (h .cards)) x (at base k)) (line-in-hand (at stored) entries base reached k)

@@ -6,14 +6,14 @@ use lib.ListN.{length, take}
 use lib.Seq.{sets}
 use Rattle.laws.specs.Below.{selected, occurs, one-if}
 use Rattle.protocol.specs.Model.{Model}
-use Rattle.protocol.specs.Plan.{CardRow, Answer, done, opened, safe, unsafe, fixed, written, Check, Plan, accepted, refused}
+use Rattle.protocol.specs.Plan.{CardRow, done, opened, safe, unsafe, fixed, written, Check, Plan, accepted, refused}
 use Rattle.protocol.specs.Plan as plan
 use Rattle.protocol.specs.Calls.{lines, isLost}
 use Rattle.verdicts.specs.Shape.{limits16, at, listOf, presentOf}
 use Rattle.recovery.specs.declared.FixReply.{FixReply}
 use Rattle.recovery.specs.declared.FixReply.the-variants.{Fixed, NotFixed}
 
--- the card records, in card order, from the arrays answered
+-- the card records, in card order, from the lists of stored numbers and lines
 abbrev pub rowsOf : ℕ → (stored line : List ℕ) → List CardRow
 rowsOf n stored line = selected (limits16 .width) (presentOf n) (λ c. record { card = c; stored = at stored c; line = at line c })
 
@@ -32,7 +32,7 @@ listAfter (accepted unsafe) l = l
 listAfter (accepted (written b)) l = l
 listAfter (refused r) l = l
 
--- the lines answered: all 0 where the call is refused
+-- the lines worked out: all 0 where the call is refused
 abbrev pub linesAfter : plan.Reply → Model → List ℕ
 linesAfter (accepted a) m = listOf (lines limits16 m)
 linesAfter (refused r) m = listOf (λ c. 0)
@@ -55,4 +55,8 @@ pub record FixTold (m : Model) (p : List ℕ → Plan) (n : ℕ) (stored line be
   pub answer : fixReplyOf n stored line after reply ≡ p lost .reply
   pub inside : countTold reply ≤ length after
   pub list : after ≡ listAfter (p lost .reply) before
-  pub arrays : line ≡ linesAfter (p lost .reply) m
+
+-- the same, with the lines that are worked out
+pub record FixWorked (m : Model) (p : List ℕ → Plan) (n : ℕ) (stored line before after : List ℕ) (reply : FixReply) : Type 0 where
+  pub told : FixTold m p n stored line before after reply
+  pub lines-are : line ≡ linesAfter (p (told .lost) .reply) m

@@ -10,7 +10,7 @@ ghost use Rattle.bits.specs.Member.{member};
 ghost use Rattle.history.specs.Vector.{noEntries};
 ghost use Rattle.protocol.specs.Model.{isCard, withCard};
 ghost use Rattle.protocol.specs.Calls.{lines, trimChecks, rollChecks, allRolled};
-ghost use Rattle.verdicts.specs.Shape.{limits16, at, listOf, setOf, vectorFor, ringFrame, headModel, modelOf};
+ghost use Rattle.verdicts.specs.Shape.{limits16, at, listOf, setOf, vectorFor, ringFrame, headModel, bare, withNumbers, withLine, modelOf};
 ghost use Rattle.verdicts.specs.Answers.{firstFailing, after28};
 use refusal::Refusal;
 use replies::is_card;
@@ -105,7 +105,7 @@ pub fn lines(
     stored: [u32; 16],
     reached: [u32; 16],
 ) -> [u32; 16]
-    ensures { λ r. ⌜ r ≡ listOf (lines limits16 (modelOf (now (entries .entry)) [] [] [] [] base stored [] reached [] [] 0 head)) ⌝ }
+    ensures { λ r. ⌜ r ≡ listOf (lines limits16 (modelOf (now (entries .entry)) [] (withNumbers (bare head) base stored [] reached))) ⌝ }
 {
     let mut out = [0u32; 16];
     let mut c: usize = 0;
@@ -129,7 +129,7 @@ pub fn trim_reply(sound: bool, head: Head) -> Reply
 
 // 10. roll
 pub fn roll_reply(sound: bool, head: Head, rolled: u16, card: u32) -> Reply
-    ensures { λ r. ⌜ r ≡ firstFailing (after28 (not sound) (rollChecks limits16 (modelOf [] [] [] [] [] [] [] [] [] [] [] rolled head) card)) ⌝ }
+    ensures { λ r. ⌜ r ≡ firstFailing (after28 (not sound) (rollChecks limits16 (modelOf [] [] (withLine (bare head) [] rolled)) card)) ⌝ }
 {
     let there = is_card(head, card);
     let phase = head.phase;

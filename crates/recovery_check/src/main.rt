@@ -7,7 +7,6 @@ use cabinet::recover::FixAnswer;
 use libc::STDOUT_FILENO;
 use recovery::FixReply;
 use refusal::Refusal;
-use verdicts::Head;
 use verdicts::OpenReply;
 use verdicts::Phase;
 use verdicts::Reply;
@@ -186,9 +185,9 @@ fn say_fix(a: FixAnswer, list: [u32; 20]) {
     let r = a.reply;
     match r {
         FixReply::Fixed(n) => {
-            let stored = a.stored;
-            let line = a.line;
-            let h = a.cabinet.head;
+            let stored = a.cabinet.core.stored;
+            let line = a.cabinet.core.line;
+            let h = a.cabinet.core.head;
             io::write_all(STDOUT_FILENO, b"fixed\n");
             say_records(h.cards, stored, line);
             io::write_all(STDOUT_FILENO, b"lost");
@@ -250,16 +249,17 @@ fn say_numbers(
 
 // What the cabinet is.
 fn show(c: Cabinet) -> Cabinet {
-    let h = c.head;
+    let core = c.core;
+    let h = core.head;
     let phase = h.phase;
     io::write_all(STDOUT_FILENO, b"session");
     next_number(h.session);
     say_phase(phase);
     end_line();
-    let base = c.base;
-    let stored = c.stored;
-    let held = c.held;
-    let reached = c.reached;
+    let base = core.base;
+    let stored = core.stored;
+    let held = core.held;
+    let reached = core.reached;
     say_numbers(h.cards, base, stored, held, reached);
     c
 }
@@ -289,7 +289,8 @@ fn vector(c: Cabinet, card: u32, state: u32) -> Cabinet {
         v[j] = c.entries[from + j];
         j += 1;
     }
-    let h = c.head;
+    let core = c.core;
+    let h = core.head;
     io::write_all(STDOUT_FILENO, b"vector");
     say_vector(h.cards, v);
     c
@@ -673,13 +674,11 @@ fn refusals() {
 fn forged(session: u32, count: u32, phase: Phase) -> Cabinet {
     let a = Cabinet::fresh(2);
     let mut c = a.cabinet;
-    let h = Head {
-        session: session,
-        cards: 2,
-        count: count,
-        phase: phase,
-    };
-    c.head = h;
+    let h = verdicts::head_of(session, 2, phase);
+    let h = verdicts::counted(h, count);
+    let mut core = c.core;
+    core.head = h;
+    c.core = core;
     c
 }
 
@@ -704,7 +703,9 @@ fn at_limits() {
     run(forged(0, 0, Phase::Up), &[6_00000]);
     run(forged(0, 0, Phase::Down), &[9_02_20_0]);
     let mut c = forged(1, 0, Phase::Rolling);
-    c.line[1] = 1;
+    let mut core = c.core;
+    core.line[1] = 1;
+    c.core = core;
     run(c, &[10_00_00_0, 10_05_00_0]);
 }
 

@@ -31,6 +31,12 @@ pub enum Refusal {
     AlreadyRolled,
 }
 
+// What is said of a line, a sheet or a read-out.
+pub enum Verdict {
+    Accepted,
+    Refused(Refusal),
+}
+
 // Document 01's number of a refusal.
 pub fn number(r: Refusal) -> u32
     ensures { λ n. ⌜ n ≡ numberOf r ⌝ }

@@ -1,28 +1,30 @@
 -- The text of what a restart answers and hands back. Assumes nothing.
 use Prim.Native.Nat.{ℕ, zero, suc, _+_, _≤_, _<_}
 use mathlib.Core.Path.{_≡_, refl, sym, _∙_, ap, ap₂}
-use mathlib.Core.List.{List, [], _∷_, _++_}
+use mathlib.Core.List.{List, _++_}
 use native.Mathlib.Nat.{le-step, lt-suc-self}
 use native.Mathlib.Omega.{arith}
 use lib.ListN.{length}
 use Rattle.refusal.specs.declared.Refusal.{Refusal}
 use Rattle.refusal.specs.Number.{numberOf}
-use Rattle.frame.specs.declared.Verdict.{Verdict}
-use Rattle.frame.specs.declared.Verdict.the-variants.{Accepted, Refused}
-use Rattle.readout.specs.Joint.{readoutOf}
+use Rattle.refusal.specs.declared.Verdict.{Verdict}
+use Rattle.refusal.specs.declared.Verdict.the-variants.{Accepted, Refused}
+use Rattle.readout.specs.Joint.{pagesRead, readoutOf}
+use Rattle.readout.proofs.Accepted.{accepted-pages, joint-passed, readout-pages}
 use Rattle.history.specs.Change.{Numbers}
 use Rattle.protocol.specs.Plan.{done, accepted, refused}
 use Rattle.protocol.specs.Model.{Model}
 use Rattle.protocol.specs.Run.{verdictReply}
-use Rattle.protocol.specs.Sheets.{restartReply, restartedFrom}
+use Rattle.codec.specs.Sheets.{restarted, restartReply, restartedFrom}
 use Rattle.verdicts.specs.declared.Reply.{Reply}
 use Rattle.verdicts.specs.declared.Reply.the-variants.{Done, Refused as not-done}
 use Rattle.verdicts.specs.Answers.{replyOf}
 use Rattle.verdicts.specs.Shape.{limits16, at, listOf}
 use Rattle.verdicts.proofs.Held.{at-list}
 use Rattle.cabinet.specs.declared.Cabinet.{Cabinet}
-use Rattle.readback.proofs.Shown.{Shown, shown, low-top}
-use Rattle.restart.specs.Restart.{restartedCabinet, cabinetFor, Restarted}
+use Rattle.sheet.specs.Pages.{Page}
+use Rattle.restart.specs.Restart.{cabinetOf, cabinetFor, Restarted}
+use Rattle.restart.proofs.Shows.{restarted-cards}
 use Rattle.report.specs.declared.Text.{Text}
 use Rattle.report.specs.Report.{rowText, rowsText, sessionText, refusedText, textFor, lineText, textOf}
 
@@ -48,32 +50,35 @@ module _ (bytes : List ℕ) (reply : Reply) (next : Cabinet) (h : Restarted byte
     was-accepted : restartReply bytes ≡ Accepted
     was-accepted = is-accepted (restartReply bytes) (sym (ap replyOf d) ∙ h .answer)
 
-    is-cabinet : next ≡ restartedCabinet (readoutOf bytes .readout)
-    is-cabinet = h .cabinet ∙ ap (λ (v : Verdict). cabinetFor v (readoutOf bytes .readout)) was-accepted
+    -- the number of cards, that of the sheets
+    abbrev n : ℕ
+    n = length (pagesRead bytes .pages)
 
-    pub few : next .head .cards ≤ 16
-    few =
-        let s : Shown bytes = shown bytes was-accepted in
-        let f = s .few in
-        omega (arith, ap (λ (x : Cabinet). x .head .cards) is-cabinet, s .cards)
+    is-cabinet : next ≡ cabinetOf (readoutOf bytes .readout .entries) (readoutOf bytes .readout .changes) n m
+    is-cabinet =
+        h .cabinet ∙ ap (λ (v : Verdict). cabinetFor v (readoutOf bytes .readout)) was-accepted
+        ∙ ap₂ (λ (k : ℕ) (ps : List Page). cabinetOf (readoutOf bytes .readout .entries) (readoutOf bytes .readout .changes) k (restarted limits16 ps)) (restarted-cards bytes was-accepted) (readout-pages bytes)
 
-    pub left : next .head .session ≡ 4294967295 → ⊥
-    left z = low-top bytes (shown bytes was-accepted) (sym (ap (λ (x : Cabinet). x .head .session) is-cabinet) ∙ z)
+    sixteen : n ≤ 16
+    sixteen = accepted-pages bytes was-accepted .whole .few
 
-    pub accepted-same : {t : Text} → t ≡ textOf (rowsText (next .head .cards) (at (next .stored)) (at (next .line)) ++ sessionText (next .head .session + 1)) → t ≡ textOf (lineText bytes)
+    pub few : next .core .head .cards ≤ 16
+    few = omega (arith, ap (λ (x : Cabinet). x .core .head .cards) is-cabinet, sixteen)
+
+    pub left : next .core .head .session ≡ 4294967295 → ⊥
+    left z = joint-passed (pagesRead bytes .pages) (accepted-pages bytes was-accepted .joint) .below (sym (ap (λ (x : Cabinet). x .core .head .session) is-cabinet) ∙ z)
+
+    pub accepted-same : {t : Text} → t ≡ textOf (rowsText (next .core .head .cards) (at (next .core .stored)) (at (next .core .line)) ++ sessionText (next .core .head .session + 1)) → t ≡ textOf (lineText bytes)
     accepted-same e =
         e
-        ∙ ap (λ (x : Cabinet). textOf (rowsText (x .head .cards) (at (x .stored)) (at (x .line)) ++ sessionText (x .head .session + 1))) is-cabinet
-        ∙ ap (λ (l : List ℕ). textOf (l ++ sessionText (m .session + 1))) (rows-same (readoutOf bytes .readout .cards) (at (listOf (m .numbers .stored))) (at (listOf (m .line))) (m .numbers .stored) (m .line) (λ c l. at-list (m .numbers .stored) c (below c l)) (λ c l. at-list (m .line) c (below c l)))
-        ∙ sym (ap (λ (v : Verdict). textOf (textFor v (readoutOf bytes .readout .cards) m)) was-accepted)
+        ∙ ap (λ (x : Cabinet). textOf (rowsText (x .core .head .cards) (at (x .core .stored)) (at (x .core .line)) ++ sessionText (x .core .head .session + 1))) is-cabinet
+        ∙ ap (λ (l : List ℕ). textOf (l ++ sessionText (m .session + 1))) (rows-same n (at (listOf (m .numbers .stored))) (at (listOf (m .line))) (m .numbers .stored) (m .line) (λ c l. at-list (m .numbers .stored) c (below c l)) (λ c l. at-list (m .line) c (below c l)))
+        ∙ sym (ap (λ (v : Verdict). textOf (textFor v n m)) was-accepted)
       where
-        below : (c : ℕ) → c < readoutOf bytes .readout .cards → c < 16
-        below c l =
-            let s : Shown bytes = shown bytes was-accepted in
-            let f = s .few in
-            omega (arith, s .cards, l)
+        below : (c : ℕ) → c < length (pagesRead bytes .pages) → c < 16
+        below c l = omega (arith, sixteen, l)
 
   pub refused-same : (q : Refusal) (n : ℕ) {t : Text} → reply ≡ not-done q → n ≡ numberOf q → t ≡ textOf (refusedText n) → t ≡ textOf (lineText bytes)
   refused-same q n d k e =
       let v : restartReply bytes ≡ Refused q = is-refused (restartReply bytes) q (sym (ap replyOf d) ∙ h .answer) in
-      e ∙ ap (λ (x : ℕ). textOf (refusedText x)) k ∙ sym (ap (λ (y : Verdict). textOf (textFor y (readoutOf bytes .readout .cards) (restartedFrom limits16 bytes))) v)
+      e ∙ ap (λ (x : ℕ). textOf (refusedText x)) k ∙ sym (ap (λ (y : Verdict). textOf (textFor y (length (pagesRead bytes .pages)) (restartedFrom limits16 bytes))) v)

@@ -5,12 +5,12 @@ use lib.ListN.{length, replicate}
 use lib.Seq.{sets}
 use Rattle.refusal.specs.Number.{numberOf}
 use Rattle.decimal.specs.Digits.{decimal}
-use Rattle.frame.specs.declared.Verdict.{Verdict}
-use Rattle.frame.specs.declared.Verdict.the-variants.{Accepted, Refused}
-use Rattle.readout.specs.Joint.{readoutOf}
+use Rattle.refusal.specs.declared.Verdict.{Verdict}
+use Rattle.refusal.specs.declared.Verdict.the-variants.{Accepted, Refused}
+use Rattle.readout.specs.Joint.{pagesRead}
 use Rattle.history.specs.Change.{Numbers}
 use Rattle.protocol.specs.Model.{Model}
-use Rattle.protocol.specs.Sheets.{restartReply, restartedFrom}
+use Rattle.codec.specs.Sheets.{restartReply, restartedFrom}
 use Rattle.verdicts.specs.Shape.{limits16}
 use Rattle.report.specs.declared.Text.{Text}
 
@@ -41,9 +41,9 @@ abbrev pub textFor : Verdict → ℕ → Model → List ℕ
 textFor Accepted n m = rowsText n (m .numbers .stored) (m .line) ++ sessionText (m .session + 1)
 textFor (Refused r) n m = refusedText (numberOf r)
 
--- the text for any bytes on standard input
+-- the text for any bytes on standard input; there are as many cards as sheets
 abbrev pub lineText : List ℕ → List ℕ
-lineText bytes = textFor (restartReply bytes) (readoutOf bytes .readout .cards) (restartedFrom limits16 bytes)
+lineText bytes = textFor (restartReply bytes) (length (pagesRead bytes .pages)) (restartedFrom limits16 bytes)
 
 -- ---- a text by value: at the front of 560 bytes, zeros behind it
 abbrev pub pushed : Text → List ℕ → Text

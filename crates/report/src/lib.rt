@@ -131,9 +131,10 @@ pub fn line_text(bytes: &[u8]) -> Text
     match r {
         Reply::Done => {
             let c = a.cabinet;
-            let head = c.head;
-            let stored = c.stored;
-            let line = c.line;
+            let core = c.core;
+            let head = core.head;
+            let stored = core.stored;
+            let line = core.line;
             accepted_text(head.cards, head.session, stored, line)
         }
         Reply::Refused(q) => {

@@ -1,2 +1,3 @@
-pub mod Shows
 pub mod Rolled
+pub mod Ring
+pub mod Shows

@@ -1,49 +1,59 @@
 -- The restarted cabinet, list by list, shows the model that restarts from the read-out. Assumes nothing.
-use Prim.Native.Nat.{ℕ, zero, suc, _+_, _*_, _-_, _%_, _≤_, _<_}
+use Prim.Native.Nat.{ℕ, suc, _+_, _*_, _-_, _≤_, _<_}
 use mathlib.Core.Path.{_≡_, refl, sym, _∙_, ap, ap₂, subst}
-use mathlib.Core.Bool.{Bool, true, false, not, _&&_, _||_, cond}
+use mathlib.Core.Bool.{Bool, true, false, _&&_, cond}
 use mathlib.Core.Logic.{by-cases}
-use mathlib.Core.List.{List, [], _∷_}
+use mathlib.Core.List.{List, []}
 use native.Mathlib.Nat.{le-refl}
 use native.Mathlib.Decide.{decLt}
 use native.Mathlib.Omega.{arith}
 use lib.Dec.{leb, ltb}
 use lib.ListN.{length, getD, replicate, List·getD-eq-default}
-use borrow.Author.Tests.{lt-ltb, le-leb, le-ltb, ltb-true, ltb-false, leb-true}
+use borrow.Author.Tests.{lt-ltb, le-leb, le-ltb, ltb-true, leb-true}
 use Rattle.laws.specs.Below.{tabulate}
-use Rattle.laws.proofs.Logic.{test, clash, fails, and-left, and-right, and-intro, cond-true, cond-false}
+use Rattle.laws.proofs.Logic.{clash, fails, and-left, and-right, and-intro, cond-true, cond-false}
 use Rattle.laws.proofs.Fill.{length-tabulate, getD-tabulate, tabulate-same}
 use Rattle.sheet.specs.declared.Readout.{Readout}
-use Rattle.sessions.specs.Sessions.{lowestTo, lowestOf}
-use Rattle.readout.specs.Joint.{readoutOf}
+use Rattle.sessions.specs.Sessions.{lowestTo}
+use Rattle.readout.specs.Joint.{pagesRead, readoutOf}
 use Rattle.history.specs.Change.{Numbers}
 use Rattle.history.specs.Vector.{noEntries}
 use Rattle.history.specs.Vector as history
 use Rattle.history.specs.Line.{orphan, climb, lineFrom}
-use Rattle.protocol.specs.Model.{Model, freePlace, isCard}
+use Rattle.protocol.specs.Model.{Model, freePlace}
 use Rattle.protocol.specs.Model as model
-use Rattle.protocol.specs.Calls.{lines}
-use Rattle.frame.specs.Format.{format}
+use Rattle.protocol.specs.Edit as edit
+use Rattle.protocol.specs.Calls.{freshModel, lines}
+use Rattle.frame.specs.Format.{formats}
 use Rattle.protocol.specs.Sound.{sound}
-use Rattle.protocol.specs.Sheets.{joinedSheets, storedIn, isIn, makerIn, vectorIn, restarted, restartReply, restartedFrom}
-use Rattle.sheet.proofs.Lay.{Sized}
+use Rattle.codec.specs.Sheets.{joinedSheets, restarted, restartReply, restartedFrom}
+use Rattle.restart.proofs.Ring.{lowestIn, storedIn, isIn, vectorIn, ringModel, ring-law}
+use Rattle.frame.specs.Lines.{noFrame}
+use Rattle.frame.proofs.Judged.{padded-at}
+use Rattle.sheet.specs.Pages.{Page}
+use Rattle.sheet.specs.Walk.{placeOf, noReadout, layPages}
+use Rattle.sheet.specs.Ring.{pageAt}
+use Rattle.sheet.specs.Whole.{Whole}
+use Rattle.sheet.proofs.Lay.{Sized, Holds}
+use Rattle.sheet.proofs.Whole.{whole-holds, whole-cards, formed-at}
 use Rattle.verdicts.specs.declared.Phase.the-variants.{Rolling}
 use Rattle.verdicts.specs.declared.Head.{Head}
 use Rattle.verdicts.specs.declared.Vector.{Vector}
-use Rattle.verdicts.specs.declared.Place.{Place}
-use Rattle.verdicts.specs.Shape.{limits16, at, vectorAt, listOf, setOf, openOf, vectorFor, placeFor, ringMaker, ringFrame, frameInHand, cut, modelOf}
+use Rattle.verdicts.specs.declared.Core.{Core}
+use Rattle.verdicts.specs.Shape.{limits16, at, vectorAt, listOf, setOf, openOf, vectorFor, placeFor, ringMaker, ringFrame, cut, bare, withVectors, withPlaces, withNumbers, withLine, headOf, blankCore, modelOf, emptyPlace}
 use Rattle.verdicts.proofs.Limits.{width16}
-use Rattle.verdicts.proofs.Held.{list-known, list-same, at-list, at-list-all, member-set}
+use Rattle.verdicts.proofs.Held.{list-known, list-same, at-list, at-list-all, member-set, open-back, free-fits, no-place}
 use Rattle.cabinet.specs.declared.Cabinet.{Cabinet}
 use Rattle.cabinet.specs.View.{view}
-use Rattle.cabinet.proofs.Laws.{beyond, places-by, no-place, open-back, free-fits}
-use Rattle.readback.proofs.Shown.{Shown, shown}
+use Rattle.cabinet.proofs.Laws.{beyond, places-by}
+use Rattle.cabinet.proofs.Told.{none-ended}
+use Rattle.readout.proofs.Accepted.{accepted-pages, readout-pages}
 use Rattle.readback.proofs.Again.{writes-the-same}
 use Rattle.readback.proofs.Whole.{never-refused-28}
 use Rattle.cabinet.specs.Fresh.{zeroCabinet, voidHead}
 use Rattle.refusal.specs.declared.Refusal.{Refusal}
-use Rattle.frame.specs.declared.Verdict.{Verdict}
-use Rattle.frame.specs.declared.Verdict.the-variants.{Accepted, Refused}
+use Rattle.refusal.specs.declared.Verdict.{Verdict}
+use Rattle.refusal.specs.declared.Verdict.the-variants.{Accepted, Refused}
 use Rattle.sheet.specs.declared.Reading.{Reading}
 use Rattle.protocol.specs.Plan.{done, accepted, refused}
 use Rattle.protocol.specs.Run.{verdictReply}
@@ -99,14 +109,14 @@ module _ (r : Readout) (z : Sized r) where
   abbrev makersBy : Numbers → Numbers → ℕ → ℕ → ℕ
   makersBy low top c x = cond (ltb (low c) x && leb x (top c)) (ringMaker (r .changes) c x) 0
 
-  frames-fn : framesBy b (storedIn r) ≡ vectorIn limits16 r
+  frames-fn : framesBy b (storedIn r) ≡ vectorIn r
   frames-fn = λ i c x j. cut-entry (isIn r c x) (ringFrame (r .entries) c x) j i
 
-  frames-read : framesBy (at (listOf b)) (at (listOf (storedIn r))) ≡ vectorIn limits16 r
+  frames-read : framesBy (at (listOf b)) (at (listOf (storedIn r))) ≡ vectorIn r
   frames-read = ap₂ framesBy base-fn stored-fn ∙ frames-fn
 
   abbrev last : ℕ → history.Vector
-  last c = vectorIn limits16 r c (storedIn r c)
+  last c = vectorIn r c (storedIn r c)
 
   last-fn : vectorAt (tabulate (limits16 .width) (λ c. vectorFor (last c))) ≡ last
   last-fn = vectors-by last wide (λ c h k. ap (λ (a : Bool). cond (a && ltb k (limits16 .width)) (ringFrame (r .entries) c (storedIn r c) k) 0) (none-in c (storedIn r c) h))
@@ -120,37 +130,31 @@ module _ (r : Readout) (z : Sized r) where
   lineBy top frames c = lineFrom (limits16 .width) top (frames c) (b c) (top c)
 
   -- a card without frames has its base for its line
-  line-level : (c : ℕ) → storedIn r c ≡ b c → lineBy (storedIn r) (vectorIn limits16 r) c ≡ b c
+  line-level : (c : ℕ) → storedIn r c ≡ b c → lineBy (storedIn r) (vectorIn r) c ≡ b c
   line-level c e =
       let q : storedIn r c - b c ≡ 0 = omega (arith, e) in
-      ap (climb (λ x. orphan (limits16 .width) (storedIn r) (vectorIn limits16 r c x)) (b c)) q
+      ap (climb (λ x. orphan (limits16 .width) (storedIn r) (vectorIn r c x)) (b c)) q
 
-  line-fn : at (listOf (lineBy (storedIn r) (vectorIn limits16 r))) ≡ lineBy (storedIn r) (vectorIn limits16 r)
-  line-fn = at-list-all (lineBy (storedIn r) (vectorIn limits16 r)) (λ k h. line-level k (stored-beyond k h ∙ sym (base-beyond k h)) ∙ base-beyond k h)
+  line-fn : at (listOf (lineBy (storedIn r) (vectorIn r))) ≡ lineBy (storedIn r) (vectorIn r)
+  line-fn = at-list-all (lineBy (storedIn r) (vectorIn r)) (λ k h. line-level k (stored-beyond k h ∙ sym (base-beyond k h)) ∙ base-beyond k h)
 
   abbrev low : ℕ
-  low = lowestOf (r .sessions) (r .cards)
+  low = lowestIn r
 
-  pub view-law : view (restartedCabinet r) ≡ restarted limits16 r
-  view-law =
-      λ i. record {
-        session = low;
-        phase = model.rolling;
-        count = 0;
-        present = λ c. ltb c (r .cards);
-        numbers = record { base = base-fn i; stored = stored-fn i; held = stored-fn i; reached = stored-fn i };
-        memory =
-            record {
-              last = last-fn i;
-              pending = last-fn i;
-              maker = makersBy (base-fn i) (stored-fn i);
-              frame = frames-read i;
-            };
-        place = places-by (record { vector = []; number = 0; reads = 0; writes = 0; yes = 0; taken = 0 }) openOf (λ p. placeFor freePlace) (λ p. freePlace) (λ p l. open-back freePlace free-fits) (λ p l. no-place) i;
-        ended = places-by 0 (λ (x : ℕ). x) (λ p. 0) (λ p. 0) (λ p l. refl) (λ p l. refl) i;
-        line = line-fn i;
-        rolled = member-set (λ c. ltb low (getD (r .sessions) c 0)) (λ k h. le-ltb low (getD (r .sessions) k 0) (let x : getD (r .sessions) k 0 ≡ 0 = beyond (r .sessions) k (z .sessions) h in omega (arith, x))) i;
-      }
+  abbrev ringCabinet : Cabinet
+  ringCabinet = cabinetOf (r .entries) (r .changes) (r .cards) (ringModel r)
+
+  ring-view : view ringCabinet ≡ ringModel r
+  ring-view =
+      λ i. edit.withLine
+      (edit.withPlaces
+      (edit.withNumbers (edit.withHead (freshModel (λ c. ltb c (r .cards))) low model.rolling 0)
+      (record { base = base-fn i; stored = stored-fn i; held = stored-fn i; reached = stored-fn i })
+      (record { last = last-fn i; pending = last-fn i; maker = makersBy (base-fn i) (stored-fn i); frame = frames-read i }))
+      (places-by emptyPlace openOf (λ p. placeFor freePlace) (λ p. freePlace) (λ p l. open-back freePlace free-fits) (λ p l. no-place) i)
+      (places-by 0 (λ (x : ℕ). x) (λ p. 0) (λ p. 0) (λ p l. refl) (λ p l. refl) i))
+      (line-fn i)
+      (member-set (λ c. ltb low (getD (r .sessions) c 0)) (λ k h. le-ltb low (getD (r .sessions) k 0) (let x : getD (r .sessions) k 0 ≡ 0 = beyond (r .sessions) k (z .sessions) h in omega (arith, x))) i)
 
   -- ---- the lists that the code makes
   last-list : (s : List ℕ) (vs : List Vector) → s ≡ listOf (storedIn r)
@@ -169,96 +173,135 @@ module _ (r : Readout) (z : Sized r) where
           ∙ ap (λ (l : List ℕ). record { entries = l }) (list-same _ (last c) (λ k l. entry (ltb (b c) (storedIn r c)) (ringFrame (r .entries) c (storedIn r c)) (storedIn r c) k l))
 
   line-list : (s line : List ℕ) (h : Head) → ((c : ℕ) → h .cards ≤ c → at (r .counts) c ≡ 0) → s ≡ listOf (storedIn r)
-      → line ≡ listOf (lines limits16 (modelOf (r .entries) [] [] [] [] (r .bases) s [] s [] [] 0 h))
-      → line ≡ listOf (lineBy (storedIn r) (vectorIn limits16 r))
-  line-list s line h absent es e = e ∙ list-same _ (lineBy (storedIn r) (vectorIn limits16 r)) each
+      → line ≡ listOf (lines limits16 (modelOf (r .entries) [] (withNumbers (bare h) (r .bases) s [] s)))
+      → line ≡ listOf (lineBy (storedIn r) (vectorIn r))
+  line-list s line h absent es e = e ∙ list-same _ (lineBy (storedIn r) (vectorIn r)) each
     where
       tops : at s ≡ storedIn r
       tops = ap (λ (l : List ℕ). at l) es ∙ stored-fn
 
-      frames : framesBy b (at s) ≡ vectorIn limits16 r
+      frames : framesBy b (at s) ≡ vectorIn r
       frames = ap (framesBy b) tops ∙ frames-fn
 
-      each : (c : ℕ) → c < 16 → cond (ltb c (limits16 .width) && ltb c (h .cards)) (lineBy (at s) (framesBy b (at s)) c) (b c) ≡ lineBy (storedIn r) (vectorIn limits16 r) c
+      each : (c : ℕ) → c < 16 → cond (ltb c (limits16 .width) && ltb c (h .cards)) (lineBy (at s) (framesBy b (at s)) c) (b c) ≡ lineBy (storedIn r) (vectorIn r) c
       each c l =
           ap (λ (x : ℕ). cond (ltb c (limits16 .width) && ltb c (h .cards)) x (b c)) (ap₂ (λ (t : Numbers) (f : ℕ → ℕ → history.Vector). lineBy t f c) tops frames)
           ∙ by-cases (decLt c (h .cards))
-          (λ k. cond-true (lineBy (storedIn r) (vectorIn limits16 r) c) (b c) (and-intro (lt-ltb c (limits16 .width) (omega (arith, l, width16))) (lt-ltb c (h .cards) k)))
-          (λ k. cond-false (lineBy (storedIn r) (vectorIn limits16 r) c) (b c) (fails (ltb c (limits16 .width) && ltb c (h .cards)) (λ t. absurd (k (ltb-true c (h .cards) (and-right (ltb c (limits16 .width)) (ltb c (h .cards)) t)))))
+          (λ k. cond-true (lineBy (storedIn r) (vectorIn r) c) (b c) (and-intro (lt-ltb c (limits16 .width) (omega (arith, l, width16))) (lt-ltb c (h .cards) k)))
+          (λ k. cond-false (lineBy (storedIn r) (vectorIn r) c) (b c) (fails (ltb c (limits16 .width) && ltb c (h .cards)) (λ t. absurd (k (ltb-true c (h .cards) (and-right (ltb c (limits16 .width)) (ltb c (h .cards)) t)))))
           ∙ sym (line-level c (let x : at (r .counts) c ≡ 0 = absent c (omega (arith, k)) in omega (arith, x))))
 
+free-listed : replicate 8 (placeFor freePlace) ≡ tabulate (limits16 .places) (λ p. placeFor freePlace)
+unfolding limits16
+free-listed = refl
+
 -- the cabinet that the code makes
-pub restarted-is : (r : Readout) → Sized r → Within r → (s line ended : List ℕ) (vs : List Vector) (ps : List Place) (low rolled : ℕ)
+pub restarted-is : (r : Readout) → Sized r → Within r → (s line : List ℕ) (vs : List Vector) (head : Head) (core : Core) (low rolled : ℕ)
     → s ≡ listOf (λ c. at (r .bases) c + at (r .counts) c)
     → low ≡ lowestTo (λ i. getD (r .sessions) i 0) (r .cards - 1)
     → rolled ≡ setOf (λ c. ltb low (at (r .sessions) c))
     → vs ≡ tabulate (limits16 .width) (λ c. vectorFor (cond (ltb (at (r .bases) c) (at s c)) (ringFrame (r .entries) c (at s c)) noEntries))
-    → line ≡ listOf (lines limits16 (modelOf (r .entries) [] [] [] [] (r .bases) s [] s [] [] 0 (record { session = low; cards = r .cards; count = 0; phase = Rolling })))
-    → ps ≡ tabulate (limits16 .places) (λ p. placeFor freePlace)
-    → ended ≡ tabulate (limits16 .places) (λ p. 0)
-    → _≡_ {A = Cabinet}
-    (record {
+    → head ≡ headOf low (r .cards) Rolling
+    → line ≡ listOf (lines limits16 (modelOf (r .entries) [] (withNumbers (bare head) (r .bases) s [] s)))
+    → core ≡ blankCore head
+    → _≡_ {A = Cabinet} (record { entries = r .entries; makers = r .changes; core = withVectors (withNumbers (withLine core line rolled) (r .bases) s s s) vs vs }) (restartedCabinet r)
+restarted-is r z w s line vs head core low rolled es el er ev eh en ec =
+    let here : Head = headOf low (r .cards) Rolling in
+    let line-is : line ≡ listOf (lines limits16 (modelOf (r .entries) [] (withNumbers (bare here) (r .bases) s [] s))) = en ∙ ap (λ (h : Head). listOf (lines limits16 (modelOf (r .entries) [] (withNumbers (bare h) (r .bases) s [] s)))) eh in
+    let head-is : core .head ≡ headOf (lowestTo (λ i. getD (r .sessions) i 0) (r .cards - 1)) (r .cards) Rolling = ap (λ (x : Core). x .head) ec ∙ eh ∙ ap (λ (n : ℕ). headOf n (r .cards) Rolling) el in
+    let places-are : core .places ≡ tabulate (limits16 .places) (λ p. placeFor freePlace) = ap (λ (x : Core). x .places) ec ∙ free-listed in
+    let ended-is : core .ended ≡ tabulate (limits16 .places) (λ p. 0) = ap (λ (x : Core). x .ended) ec ∙ none-ended in
+    (λ i. record {
       entries = r .entries;
       makers = r .changes;
-      last = vs;
-      pending = vs;
-      places = ps;
-      base = r .bases;
-      stored = s;
-      held = s;
-      reached = s;
-      line = line;
-      ended = ended;
-      rolled = rolled;
-      head = record { session = low; cards = r .cards; count = 0; phase = Rolling };
+      core = withVectors
+          (withPlaces
+          (withNumbers
+          (withLine (bare (head-is i)) (line-list r z s line here (w .no-count) es line-is i) ((er ∙ ap (λ (x : ℕ). setOf (λ c. ltb x (at (r .sessions) c))) el) i))
+          (list-known (r .bases) (z .bases) i) (es i) (es i) (es i))
+          (places-are i) (ended-is i))
+          (last-list r z s vs es ev i) (last-list r z s vs es ev i);
     })
-    (restartedCabinet r)
-restarted-is r z w s line ended vs ps low rolled es el er ev eh ep en =
-    λ i. record {
-      entries = r .entries;
-      makers = r .changes;
-      last = last-list r z s vs es ev i;
-      pending = last-list r z s vs es ev i;
-      places = ep i;
-      base = list-known (r .bases) (z .bases) i;
-      stored = es i;
-      held = es i;
-      reached = es i;
-      line = line-list r z s line (record { session = low; cards = r .cards; count = 0; phase = Rolling }) (w .absent) es eh i;
-      ended = en i;
-      rolled = (er ∙ ap (λ (x : ℕ). setOf (λ c. ltb x (at (r .sessions) c))) el) i;
-      head = record { session = el i; cards = r .cards; count = 0; phase = Rolling };
-    }
+    ∙ ap (cabinetOf (r .entries) (r .changes) (r .cards)) (ring-law r w)
 
 -- ---- the cabinet behind a restart
+-- what an accepted read-out shows of its numbers
+pub within : (bytes : List ℕ) → restartReply bytes ≡ Accepted → Within (readoutOf bytes .readout)
+within bytes e = whole-within (pagesRead bytes .pages) (accepted-pages bytes e .whole)
+  where
+    whole-within : (ps : List Page) → Whole formats ps → Within (layPages ps noReadout)
+    whole-within ps w =
+        record {
+          some = let x = w .some in omega (arith, whole-cards ps w);
+          few = let x : length ps ≤ 16 = w .few in omega (arith, whole-cards ps w);
+          states = λ c h. by-cases (decLt c (length ps)) (λ l. let x : pageAt ps c .header .base + length (pageAt ps c .frames) ≤ 60000 = w .sheet c l .states in omega (arith, holds .base c l, holds .count c l))
+              (λ l. let g : length ps ≤ c = omega (arith, l) in omega (arith, holds .no-base c g, holds .no-count c g));
+          no-session = λ c l. holds .no-session c (beyond-all c l);
+          no-base = λ c l. holds .no-base c (beyond-all c l);
+          no-count = λ c l. holds .no-count c (beyond-all c l);
+          no-entry = entry-none;
+        }
+      where
+        holds : Holds (length ps) (pageAt ps) (layPages ps noReadout)
+        holds = whole-holds ps w
+
+        beyond-all : (c : ℕ) → layPages ps noReadout .cards ≤ c → length ps ≤ c
+        beyond-all c l = omega (arith, whole-cards ps w)
+
+        entry-none : (c x j : ℕ) → c < layPages ps noReadout .cards → at (layPages ps noReadout .bases) c < x → x ≤ at (layPages ps noReadout .bases) c + at (layPages ps noReadout .counts) c → layPages ps noReadout .cards ≤ j → j < 16 → at (layPages ps noReadout .entries) (placeOf c x * 16 + j) ≡ 0
+        entry-none c x j h a b g k =
+            ap (λ (y : ℕ). at (layPages ps noReadout .entries) (placeOf c y * 16 + j)) (sym x-is) ∙ holds .entry c i j noFrame here inside k
+            ∙ padded-at (getD (pageAt ps c .frames) i noFrame .entries) (let few : length ps ≤ 16 = w .few in omega (arith, long, few)) j
+            ∙ List·getD-eq-default (getD (pageAt ps c .frames) i noFrame .entries) 0 (omega (arith, long, whole-cards ps w, g))
+          where
+            here : c < length ps
+            here = omega (arith, whole-cards ps w)
+
+            i : ℕ
+            i = x - suc (pageAt ps c .header .base)
+
+            inside : x - suc (pageAt ps c .header .base) < length (pageAt ps c .frames)
+            inside = omega (arith, holds .base c here, holds .count c here, a, b)
+
+            x-is : pageAt ps c .header .base + 1 + (x - suc (pageAt ps c .header .base)) ≡ x
+            x-is = omega (arith, holds .base c here, a)
+
+            long : length (getD (pageAt ps c .frames) (x - suc (pageAt ps c .header .base)) noFrame .entries) ≡ length ps
+            long = formed-at (length ps) (pageAt ps c .frames) (w .sheet c here .formed) (x - suc (pageAt ps c .header .base)) inside
+
+module _ (bytes : List ℕ) (e : restartReply bytes ≡ Accepted) where
+  abbrev read : Readout
+  read = readoutOf bytes .readout
+
+  pub readout-sized : Sized (readoutOf bytes .readout)
+  readout-sized = whole-holds (pagesRead bytes .pages) (accepted-pages bytes e .whole) .sized
+
+  pub ring-shows : ringModel (readoutOf bytes .readout) ≡ restartedFrom limits16 bytes
+  ring-shows = ring-law read (within bytes e) ∙ ap (restarted limits16) (readout-pages bytes)
+
+  -- the number of cards is that of the sheets
+  pub restarted-cards : readoutOf bytes .readout .cards ≡ length (pagesRead bytes .pages)
+  restarted-cards = whole-cards (pagesRead bytes .pages) (accepted-pages bytes e .whole)
+
+  pub restarted-shows : view (restartedCabinet (readoutOf bytes .readout)) ≡ restartedFrom limits16 bytes
+  restarted-shows = sym (ap (λ (m : Model). view (cabinetOf (read .entries) (read .changes) (read .cards) m)) (ring-law read (within bytes e))) ∙ ring-view read readout-sized ∙ ring-shows
+
 pub restart-goes-on : RestartGoesOn
 restart-goes-on bytes reply next h e =
-    let v : view next ≡ restartedFrom limits16 bytes =
-    ap view (h .cabinet ∙ ap (λ (x : Verdict). cabinetFor x (readoutOf bytes .readout)) e) ∙ view-law (readoutOf bytes .readout) (shown bytes e .holds .sized) in
+    let v : view next ≡ restartedFrom limits16 bytes = ap view (h .cabinet ∙ ap (λ (x : Verdict). cabinetFor x (readoutOf bytes .readout)) e) ∙ restarted-shows bytes e in
     record {
       shows = v;
       passes28 = ap (sound limits16) v ∙ never-refused-28 bytes e;
-      writes = ap (joinedSheets format limits16) v ∙ writes-the-same bytes e;
+      writes = ap (joinedSheets formats limits16) v ∙ writes-the-same bytes e;
     }
 
 pub void-refused : VoidRefused
 void-refused = refl
 
--- what an accepted read-out shows of its numbers
-pub within : (bytes : List ℕ) → Shown bytes → Within (readoutOf bytes .readout)
-within bytes s =
-    record {
-      some = let x = s .some in omega (arith, s .cards);
-      few = let x = s .few in omega (arith, s .cards);
-      states = λ c h. by-cases (decLt c (s .n)) (λ l. omega (arith, s .holds .base c l, s .holds .count c l, s .sheet c l .states))
-          (λ l. let g : s .n ≤ c = omega (arith, l) in omega (arith, s .holds .no-base c g, s .holds .no-count c g));
-      absent = λ c l. s .holds .no-count c (let x : s .n ≤ c = omega (arith, s .cards, l) in x);
-    }
-
 -- ---- what a restart answers and hands back
 module _ (bytes : List ℕ) (x : Reading) (e : x ≡ readoutOf bytes) where
   pub read-within : x .verdict ≡ Accepted → Within (x .readout)
-  read-within a = subst (λ (y : Reading). Within (y .readout)) (sym e) (within bytes (shown bytes (sym (ap (λ (y : Reading). y .verdict) e) ∙ a)))
+  read-within a = subst (λ (y : Reading). Within (y .readout)) (sym e) (within bytes (sym (ap (λ (y : Reading). y .verdict) e) ∙ a))
 
   pub restart-done : (next : Cabinet) → x .verdict ≡ Accepted → next ≡ restartedCabinet (x .readout) → Restarted bytes (accepted done) next
   restart-done next a n =

@@ -1,23 +1,28 @@
 -- The cabinet that a restart hands back, list by list.
-use Prim.Native.Nat.{ℕ, _+_, _≤_, _<_}
+use Prim.Native.Nat.{ℕ, _+_, _*_, _≤_, _<_}
 use mathlib.Core.Path.{_≡_}
 use mathlib.Core.Bool.{true, false}
 use mathlib.Core.List.{List}
 use Rattle.laws.specs.Below.{tabulate}
-use Rattle.frame.specs.Format.{format}
-use Rattle.frame.specs.declared.Verdict.{Verdict}
-use Rattle.frame.specs.declared.Verdict.the-variants.{Accepted, Refused}
+use Rattle.frame.specs.Format.{formats}
+use Rattle.refusal.specs.declared.Verdict.{Verdict}
+use Rattle.refusal.specs.declared.Verdict.the-variants.{Accepted, Refused}
 use Rattle.sheet.specs.declared.Readout.{Readout}
+use Rattle.sheet.specs.Walk.{placeOf}
+use Rattle.sheet.specs.Ring.{pagesOf}
 use Rattle.readout.specs.Joint.{readoutOf}
+use Rattle.history.specs.Vector as history
 use Rattle.protocol.specs.Model.{Model}
 use Rattle.protocol.specs.Model as model
 use Rattle.protocol.specs.Plan.{Reply}
 use Rattle.protocol.specs.Run.{verdictReply}
 use Rattle.protocol.specs.Sound.{sound}
-use Rattle.protocol.specs.Sheets.{joinedSheets, restarted, restartReply, restartedFrom}
+use Rattle.codec.specs.Sheets.{joinedSheets, restarted, restartReply, restartedFrom}
 use Rattle.verdicts.specs.declared.Phase.{Phase}
 use Rattle.verdicts.specs.declared.Phase.the-variants.{Up, Down, Rolling}
-use Rattle.verdicts.specs.Shape.{limits16, at, listOf, setOf, vectorFor, placeFor}
+use Rattle.verdicts.specs.Shape.{limits16, at, listOf, setOf, vectorFor, placeFor, headOf, counted, bare, withVectors, withNumbers, withPlaces, withLine}
+use Rattle.verdicts.specs.declared.Vector.{Vector}
+use Rattle.verdicts.specs.declared.Core.{Core}
 use Rattle.cabinet.specs.declared.Cabinet.{Cabinet}
 use Rattle.cabinet.specs.View.{view}
 use Rattle.cabinet.specs.Fresh.{zeroCabinet, voidHead}
@@ -28,27 +33,20 @@ phaseFor model.down = Down
 phaseFor model.rolling = Rolling
 
 -- the cabinet of n cards whose lists show a model; `entries` and `makers` are its ring of frames
-abbrev pub cabinetOf : (entries makers : List ℕ) (n : ℕ) → Model → Cabinet
-cabinetOf entries makers n m =
-    record {
-      entries = entries;
-      makers = makers;
-      last = tabulate (limits16 .width) (λ c. vectorFor (m .memory .last c));
-      pending = tabulate (limits16 .width) (λ c. vectorFor (m .memory .pending c));
-      places = tabulate (limits16 .places) (λ p. placeFor (m .place p));
-      base = listOf (m .numbers .base);
-      stored = listOf (m .numbers .stored);
-      held = listOf (m .numbers .held);
-      reached = listOf (m .numbers .reached);
-      line = listOf (m .line);
-      ended = tabulate (limits16 .places) (m .ended);
-      rolled = setOf (m .rolled);
-      head = record { session = m .session; cards = n; count = m .count; phase = phaseFor (m .phase) };
-    }
+abbrev pub coreOf : (n : ℕ) → Model → Core
+coreOf n m =
+    let vectors : (ℕ → history.Vector) → List Vector = λ f. tabulate (limits16 .width) (λ c. vectorFor (f c)) in
+    let headed : Core = bare (counted (headOf (m .session) n (phaseFor (m .phase))) (m .count)) in
+    let numbered : Core = withNumbers headed (listOf (m .numbers .base)) (listOf (m .numbers .stored)) (listOf (m .numbers .held)) (listOf (m .numbers .reached)) in
+    let placed : Core = withPlaces numbered (tabulate (limits16 .places) (λ p. placeFor (m .place p))) (tabulate (limits16 .places) (m .ended)) in
+    withLine (withVectors placed (vectors (m .memory .last)) (vectors (m .memory .pending))) (listOf (m .line)) (setOf (m .rolled))
 
--- the cabinet that restarts from a read-out, whose frames stand as they were read
+abbrev pub cabinetOf : (entries makers : List ℕ) (n : ℕ) → Model → Cabinet
+cabinetOf entries makers n m = record { entries = entries; makers = makers; core = coreOf n m }
+
+-- the cabinet that restarts from the sheets of a read-out, whose frames stand as they were read
 abbrev pub restartedCabinet : Readout → Cabinet
-restartedCabinet r = cabinetOf (r .entries) (r .changes) (r .cards) (restarted limits16 r)
+restartedCabinet r = cabinetOf (r .entries) (r .changes) (r .cards) (restarted limits16 (pagesOf r))
 
 -- the void cabinet where the read-out is refused
 abbrev pub cabinetFor : Verdict → Readout → Cabinet
@@ -60,18 +58,21 @@ pub record Restarted (bytes : List ℕ) (reply : Reply) (next : Cabinet) : Type 
   pub answer : reply ≡ verdictReply (restartReply bytes)
   pub cabinet : next ≡ cabinetFor (restartReply bytes) (readoutOf bytes .readout)
 
--- what an accepted read-out shows of its numbers
+-- what an accepted read-out shows of its numbers: within the limits, and 0 of cards that are not there
 pub record Within (r : Readout) : Type 0 where
   pub some : 1 ≤ r .cards
   pub few : r .cards ≤ 16
   pub states : (c : ℕ) → c < 16 → at (r .bases) c + at (r .counts) c ≤ 60000
-  pub absent : (c : ℕ) → r .cards ≤ c → at (r .counts) c ≡ 0
+  pub no-session : (c : ℕ) → r .cards ≤ c → at (r .sessions) c ≡ 0
+  pub no-base : (c : ℕ) → r .cards ≤ c → at (r .bases) c ≡ 0
+  pub no-count : (c : ℕ) → r .cards ≤ c → at (r .counts) c ≡ 0
+  pub no-entry : (c x j : ℕ) → c < r .cards → at (r .bases) c < x → x ≤ at (r .bases) c + at (r .counts) c → r .cards ≤ j → j < 16 → at (r .entries) (placeOf c x * 16 + j) ≡ 0
 
 -- The cabinet behind an accepted restart shows the model that the demands speak of, is never refused with 28, and writes the very bytes that it restarted from.
 pub record GoesOn (bytes : List ℕ) (next : Cabinet) : Type 0 where
   pub shows : view next ≡ restartedFrom limits16 bytes
   pub passes28 : sound limits16 (view next) ≡ true
-  pub writes : joinedSheets format limits16 (view next) ≡ bytes
+  pub writes : joinedSheets formats limits16 (view next) ≡ bytes
 
 abbrev pub RestartGoesOn : Type 0
 RestartGoesOn = (bytes : List ℕ) (reply : Reply) (next : Cabinet) → Restarted bytes reply next → restartReply bytes ≡ Accepted → GoesOn bytes next

@@ -12,9 +12,8 @@ ghost use Rattle.verdicts.specs.Answers.{replyOf};
 ghost use Rattle.restart.specs.Restart.{Within, restartedCabinet, Restarted};
 use cabinet::Answer;
 use cabinet::Cabinet;
-use frame::Verdict;
+use refusal::Verdict;
 use sheet::Readout;
-use verdicts::Head;
 use verdicts::Phase;
 use verdicts::Reply;
 use verdicts::Vector;
@@ -113,31 +112,24 @@ fn restarted(r: Readout) -> Cabinet
     let stored = stored_numbers(bases, counts);
     let low = sessions::lowest(sessions, r.cards - 1);
     let rolled = rolled_cards(sessions, low);
-    let head = Head {
-        session: low,
-        cards: r.cards,
-        count: 0,
-        phase: Phase::Rolling,
-    };
+    let head = verdicts::head_of(low, r.cards, Phase::Rolling);
     let last = last_vectors(&r.entries, bases, stored);
     let line = recovery::lines(&r.entries, head, bases, stored, stored);
-    let places = parts::writes::no_places();
     let entries = r.entries;
     let makers = r.changes;
+    let mut core = verdicts::blank(head);
+    core.last = last;
+    core.pending = last;
+    core.base = bases;
+    core.stored = stored;
+    core.held = stored;
+    core.reached = stored;
+    core.line = line;
+    core.rolled = rolled;
     Cabinet {
         entries: entries,
         makers: makers,
-        head: head,
-        last: last,
-        pending: last,
-        places: places,
-        base: bases,
-        stored: stored,
-        held: stored,
-        reached: stored,
-        line: line,
-        ended: [0u32; 8],
-        rolled: rolled,
+        core: core,
     }
 }
 
@@ -157,12 +149,8 @@ pub fn restart(bytes: &[u8]) -> Answer
             }
         }
         Verdict::Refused(x) => {
-            let c = cabinet::zeros(Head {
-                session: 0,
-                cards: 0,
-                count: 0,
-                phase: Phase::Up,
-            });
+            let head = verdicts::head_of(0, 0, Phase::Up);
+            let c = cabinet::zeros(head);
             Answer {
                 cabinet: c,
                 reply: Reply::Refused(x),

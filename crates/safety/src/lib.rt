@@ -7,7 +7,7 @@ ghost use lib.Dec.{eqb, ltb};
 ghost use Rattle.laws.specs.Below.{anyBelow};
 ghost use Rattle.protocol.specs.Calls.{safeChecks, isSafe};
 ghost use Rattle.protocol.specs.Plan.{checked, accepted, safe, unsafe};
-ghost use Rattle.verdicts.specs.Shape.{limits16, at, ringMaker, modelOf};
+ghost use Rattle.verdicts.specs.Shape.{limits16, at, ringMaker, bare, withPlaces, withNumbers, modelOf};
 ghost use Rattle.verdicts.specs.Answers.{safeReplyOf, after28};
 ghost use Rattle.safety.specs.Known.{InOrder, gradedOf};
 use refusal::Refusal;
@@ -105,7 +105,7 @@ pub fn safe_reply(
     k: u32,
 ) -> SafeReply
     requires { ⌜ (sound ≡ true → InOrder base stored reached (head .cards)) ⌝ }
-    ensures { λ r. ⌜ safeReplyOf r ≡ checked (after28 (not sound) (safeChecks limits16 (modelOf [] (now (makers .entry)) [] [] all base stored [] reached [] [] 0 head) k)) (cond (isSafe limits16 (modelOf [] (now (makers .entry)) [] [] all base stored [] reached [] [] 0 head) k) safe unsafe) [] .reply ⌝ }
+    ensures { λ r. ⌜ safeReplyOf r ≡ checked (after28 (not sound) (safeChecks limits16 (modelOf [] (now (makers .entry)) (withPlaces (withNumbers (bare head) base stored [] reached) all [])) k)) (cond (isSafe limits16 (modelOf [] (now (makers .entry)) (withPlaces (withNumbers (bare head) base stored [] reached) all [])) k) safe unsafe) [] .reply ⌝ }
 {
     if !sound {
         return SafeReply::Unknown(Refusal::BadCabinet);

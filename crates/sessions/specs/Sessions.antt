@@ -1,9 +1,7 @@
--- The lowest session of a read-out's sheets, and refusal 11.
-use Prim.Native.Nat.{ℕ, zero, suc, _+_, _-_, min}
+-- The lowest session of a read-out's sheets, and refusal 11; numbers by card.
+use Prim.Native.Nat.{ℕ, zero, suc, _+_, min}
 use mathlib.Core.Bool.{Bool, _&&_, _||_}
-use mathlib.Core.List.{List}
 use lib.Dec.{ltb}
-use lib.ListN.{getD}
 use Rattle.laws.specs.Below.{anyBelow}
 
 -- the lowest of f at the numbers up to n
@@ -11,10 +9,6 @@ abbrev pub lowestTo : (ℕ → ℕ) → ℕ → ℕ
 lowestTo f zero = f 0
 lowestTo f (suc n) = min (lowestTo f n) (f (suc n))
 
--- "the lowest session found"
-abbrev pub lowestOf : List ℕ → ℕ → ℕ
-lowestOf sessions n = lowestTo (λ i. getD sessions i 0) (n - 1)
-
--- refusal 11: "sessions more than one apart, or a sheet one ahead has frames"
-unfoldable pub apart : List ℕ → List ℕ → ℕ → ℕ → Bool
-apart sessions counts low n = anyBelow n (λ j. ltb (low + 1) (getD sessions j 0) || (ltb low (getD sessions j 0) && ltb 0 (getD counts j 0)))
+-- refusal 11 of n sheets, of which `low` is the lowest session: "sessions more than one apart, or a sheet one ahead has frames"
+unfoldable pub apart : (session count : ℕ → ℕ) → (low n : ℕ) → Bool
+apart session count low n = anyBelow n (λ j. ltb (low + 1) (session j) || (ltb low (session j) && ltb 0 (count j)))

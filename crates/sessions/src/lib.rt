@@ -7,7 +7,7 @@ ghost use lib.Dec.{ltb};
 ghost use Rattle.sessions.specs.Sessions.{lowestTo, apart};
 
 // The lesser of two numbers.
-pub fn least(a: u32, b: u32) -> u32
+fn least(a: u32, b: u32) -> u32
     ensures { λ r. ⌜ r ≡ min a b ⌝ }
 {
     if a <= b { a } else { b }
@@ -43,7 +43,7 @@ fn ahead(session: u32, count: u32, low: u32) -> bool
 // 11: "sessions more than one apart, or a sheet one ahead has frames".
 pub fn sessions_apart(sessions: [u32; 16], counts: [u32; 16], low: u32, n: u32) -> bool
     requires { ⌜ n ≤ 16 ⌝ }
-    ensures { λ r. ⌜ r ≡ apart sessions counts low n ⌝ }
+    ensures { λ r. ⌜ r ≡ apart (λ c. getD sessions c 0) (λ c. getD counts c 0) low n ⌝ }
 {
     let mut j: u32 = 0;
     while j < n {

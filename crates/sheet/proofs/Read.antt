@@ -1,19 +1,19 @@
--- What was read of an accepted sheet is within the limits, for any format. Assumes nothing.
-use Prim.Native.Nat.{ℕ, zero, suc, _+_}
-use mathlib.Core.Path.{_≡_, refl, sym, ap}
+-- What was read of an accepted sheet, and of an accepted read-out, is within the limits, for any format. Assumes nothing.
+use Prim.Native.Nat.{ℕ, zero, suc, _+_, _-_}
+use mathlib.Core.Path.{_≡_, refl, sym, _∙_, ap, subst}
 use mathlib.Core.Bool.{true, false}
 use mathlib.Core.List.{List, [], _∷_}
 use lib.ListN.{length, drop}
 use Rattle.laws.proofs.Logic.{and-intro}
 use Rattle.digits.specs.declared.Sums.{Sums}
-use Rattle.frame.specs.declared.Verdict.the-variants.{Accepted}
+use Rattle.refusal.specs.declared.Verdict.the-variants.{Accepted}
 use Rattle.frame.specs.declared.Frame.{Frame}
-use Rattle.frame.specs.Format.{Format}
-use Rattle.frame.specs.Lines.{startOf, headerDigits, headerIn, headerVerdict, frameDigits, frameIn, frameVerdict, noFrame}
+use Rattle.frame.specs.Format.{Format, Formats}
+use Rattle.frame.specs.Lines.{cardsOf, formatIn, formatFor, startOf, headerDigits, headerIn, headerVerdict, frameDigits, frameIn, frameVerdict, noFrame}
 use Rattle.frame.proofs.Passed.{header-passed}
-use Rattle.line_round.proofs.Round.{entries-all, change-fits, session-fits, state-is}
-use Rattle.sheet.specs.Pages.{Page, readFrames, framesOf, ended, readSheets}
-use Rattle.sheet.specs.Allowed.{framesAllowed, Formed, Allowed}
+use Rattle.line_round.proofs.Round.{told-again, entries-all, change-fits, session-fits, state-is}
+use Rattle.sheet.specs.Pages.{Page, readFrames, framesOf, ended, moreSheets, readSheets}
+use Rattle.sheet.specs.Allowed.{framesAllowed, Formed, Allowed, AllAllowed}
 use Rattle.sheet.proofs.Round.{with-accepted, with-both}
 
 -- k frames that were read
@@ -32,28 +32,82 @@ frames-read f start card n (suc k) state last input e =
     let g = frames-read f start card n k (state + 1) fr more (a .1) in
     rw (a .0) (record { allowed = and-intro (state-is f start card n state last input (a .0)) (g .allowed); formed = (entries-all f n input, change-fits f start card n state last input (a .0), g .formed); count = ap suc (g .count) })
 
--- One sheet that was accepted: the page read, and that it is within the limits.
-pub record Sheet-read (f : Format) (card : ℕ) (input : List ℕ) : Type 0 where
-  pub page : Page
-  pub allowed : Allowed f card 0 page
-  pub pages : readSheets f false card input .pages ≡ page ∷ []
+-- a page whose header and frames were accepted
+page-read :
+    (f : Format) (due first : ℕ) (input : List ℕ) →
+    headerVerdict f due first input ≡ Accepted →
+    framesOf f (headerIn f input) input .verdict ≡ Accepted →
+    Allowed f due first (record { header = headerIn f input; frames = framesOf f (headerIn f input) input .frames })
+page-read f due first input e v =
+    let h = headerIn f input in
+    let g = frames-read f (startOf f h) (h .card) (cardsOf f h) (h .count) (h .base + 1) noFrame (drop (headerDigits f + 5) input) v in
+    record {
+      header = header-passed f due first input e .allowed-is;
+      session = session-fits f due first input e;
+      count = sym (g .count);
+      formed = g .formed;
+      frames = g .allowed;
+    }
 
-pub sheet-read : (f : Format) (card : ℕ) (input : List ℕ) → readSheets f false card input .verdict ≡ Accepted → Sheet-read f card input
+-- One sheet that was accepted: the page read, and that it is within the limits.
+pub record Sheet-read (F : Formats) (card : ℕ) (input : List ℕ) : Type 0 where
+  pub page : Page
+  pub picks : formatIn F input ≡ formatFor F (page .header)
+  pub allowed : Allowed (formatIn F input) card 0 page
+  pub pages : readSheets F false card input .pages ≡ page ∷ []
+
+pub sheet-read : (F : Formats) (card : ℕ) (input : List ℕ) → readSheets F false card input .verdict ≡ Accepted → Sheet-read F card input
 unfolding readSheets
-sheet-read f card input e =
+sheet-read F card input e =
+    let f = formatIn F input in
     let h = headerIn f input in
     let fs = framesOf f h input in
     let a = with-both (headerVerdict f card 0 input) (fs .verdict) h fs input (ended (fs .rest)) e in
-    let g = frames-read f (startOf f h) (h .card) (h .cards) (h .count) (h .base + 1) noFrame (drop (headerDigits f + 5) input) (a .1) in
+    record { page = record { header = h; frames = fs .frames }; picks = told-again F f input refl; allowed = page-read f card 0 input (a .0) (a .1); pages = rw (a .0, a .1) }
+
+-- k further sheets that were accepted
+record More-read (F : Formats) (k due first : ℕ) (ps : List Page) : Type 0 where
+  pub allowed : AllAllowed F due first ps
+  pub long : length ps ≡ k
+
+more-read : (F : Formats) (k due first : ℕ) (input : List ℕ) → moreSheets F k due first input .verdict ≡ Accepted → More-read F k due first (moreSheets F k due first input .pages)
+more-read F zero due first input e = record { allowed = tt; long = refl }
+more-read F (suc k) due first input e =
+    let f = formatIn F input in
+    let h = headerIn f input in
+    let fs = framesOf f h input in
+    let a = with-both (headerVerdict f due first input) (fs .verdict) h fs input (moreSheets F k (due + 1) first (fs .rest)) e in
+    let g = more-read F k (due + 1) first (fs .rest) (a .2) in
+    let p : Page = record { header = h; frames = fs .frames } in
+    let w : Allowed (formatFor F h) due first p = subst (λ (x : Format). Allowed x due first p) (told-again F f input refl) (page-read f due first input (a .0) (a .1)) in
+    rw (a .0, a .1) (record { allowed = (w, g .allowed); long = ap suc (g .long) })
+
+-- A read-out whose lines were accepted: the first sheet, and one more for each other card.
+pub record Lines-read (F : Formats) (ps : List Page) : Type 0 where
+  pub head : Page
+  pub tail : List Page
+  pub all : ps ≡ head ∷ tail
+  pub first : Allowed (formatFor F (head .header)) 0 0 head
+  pub more : AllAllowed F 1 (cardsOf (formatFor F (head .header)) (head .header)) tail
+  pub long : length tail ≡ cardsOf (formatFor F (head .header)) (head .header) - 1
+
+pub lines-read : (F : Formats) (input : List ℕ) → readSheets F true 0 input .verdict ≡ Accepted → Lines-read F (readSheets F true 0 input .pages)
+unfolding readSheets
+lines-read F input e =
+    let f = formatIn F input in
+    let h = headerIn f input in
+    let fs = framesOf f h input in
+    let n = cardsOf f h in
+    let a = with-both (headerVerdict f 0 0 input) (fs .verdict) h fs input (moreSheets F (n - 1) 1 n (fs .rest)) e in
+    let g = more-read F (n - 1) 1 n (fs .rest) (a .2) in
+    let p : Page = record { header = h; frames = fs .frames } in
+    let k : f ≡ formatFor F h = told-again F f input refl in
+    let m : n ≡ cardsOf (formatFor F h) h = ap (λ (x : Format). cardsOf x h) k in
     record {
-      page = record { header = h; frames = fs .frames };
-      allowed =
-          record {
-            header = header-passed f card 0 input (a .0) .allowed-is;
-            session = session-fits f card 0 input (a .0);
-            count = sym (g .count);
-            formed = g .formed;
-            frames = g .allowed;
-          };
-      pages = rw (a .0, a .1);
+      head = p;
+      tail = moreSheets F (n - 1) 1 n (fs .rest) .pages;
+      all = rw (a .0, a .1);
+      first = subst (λ (x : Format). Allowed x 0 0 p) k (page-read f 0 0 input (a .0) (a .1));
+      more = subst (λ (x : ℕ). AllAllowed F 1 x (moreSheets F (n - 1) 1 n (fs .rest) .pages)) m (g .allowed);
+      long = g .long ∙ ap (λ (x : ℕ). x - 1) m;
     }

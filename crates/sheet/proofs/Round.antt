@@ -18,15 +18,15 @@ use Rattle.laws.proofs.Logic.{test, and-left, and-right}
 use Rattle.digits.specs.declared.Sums.{Sums}
 use Rattle.digits.specs.declared.Line.the-variants.{Whole, Fault}
 use Rattle.digits.specs.Line.{shaped, checked, shapeOf}
-use Rattle.frame.specs.declared.Verdict.{Verdict}
-use Rattle.frame.specs.declared.Verdict.the-variants.{Accepted, Refused}
+use Rattle.refusal.specs.declared.Verdict.{Verdict}
+use Rattle.refusal.specs.declared.Verdict.the-variants.{Accepted, Refused}
 use Rattle.frame.specs.declared.Header.{Header}
 use Rattle.frame.specs.declared.Frame.{Frame}
-use Rattle.frame.specs.Format.{Format}
-use Rattle.frame.specs.Lines.{startOf, headerDigits, headerLine, headerIn, headerAllowed, headerVerdict, frameDigits, frameLine, frameIn, stateIn, judged, frameAllowed, frameVerdict, noFrame}
+use Rattle.frame.specs.Format.{Format, Formats, formats}
+use Rattle.frame.specs.Lines.{cardsOf, formatIn, formatFor, startOf, headerDigits, headerLine, headerIn, headerAllowed, headerVerdict, frameDigits, frameLine, frameIn, stateIn, judged, frameAllowed, frameVerdict, noFrame}
 use Rattle.frame.proofs.Passed.{header-passed, header-within, frame-passed, header-limits}
-use Rattle.line_round.proofs.Round.{Sound, header-back, header-rest, header-accepted, header-again, frame-back, frame-rest, frame-accepted, frame-again, Steady, header-altered, frame-altered, header-untouched, frame-untouched, header-room, frame-room}
-use Rattle.sheet.specs.Pages.{Page, framesBytes, pageBytes, pagesBytes, Frames, withFrame, readFrames, framesOf, Sheets, withSheet, readSheet, ended, moreSheets, readSheets}
+use Rattle.line_round.proofs.Round.{Sound, format-sound, header-back, header-rest, header-accepted, header-again, frame-back, frame-rest, frame-accepted, frame-again, told-again, told-untouched, Alike, header-altered, frame-altered, header-untouched, frame-untouched, header-room, frame-room}
+use Rattle.sheet.specs.Pages.{Page, framesBytes, bytesIn, pageBytes, pagesBytes, Frames, withFrame, readFrames, framesOf, Sheets, withSheet, sheetIn, readSheet, ended, moreSheets, readSheets}
 use Rattle.sheet.proofs.Walk.{accepts-or}
 use Rattle.sheet.specs.Allowed.{framesAllowed, Formed, Allowed, AllAllowed, lastOf}
 
@@ -58,45 +58,63 @@ module _ (f : Format) (s : Sound f) (start : Sums) (p : start .first < 256) (q :
       rw (suc-add (length frs) k, i, v, g, d, c, frames-back frs k (state + 1) fr rest a₁ (m .2) (omega arith))
 
 -- the frames of a sheet within the limits
-page-frames : (f : Format) → Sound f → (due first : ℕ) (p : Page) (rest : List ℕ) → Allowed f due first p → framesOf f (p .header) (pageBytes f p ++ rest) ≡ record { frames = p .frames; verdict = Accepted; rest = rest }
+page-frames : (f : Format) → Sound f → (due first : ℕ) (p : Page) (rest : List ℕ) → Allowed f due first p → framesOf f (p .header) (bytesIn f p ++ rest) ≡ record { frames = p .frames; verdict = Accepted; rest = rest }
 page-frames f s due first p rest a =
     let h = p .header in
     let l = header-limits f due first h (a .header) in
-    let body = framesBytes f (startOf f h) (h .cards) (h .base + 1) (p .frames) in
-    let i : pageBytes f p ++ rest ≡ headerLine f h ++ (body ++ rest) = append-assoc (headerLine f h) body rest in
+    let body = framesBytes f (startOf f h) (cardsOf f h) (h .base + 1) (p .frames) in
+    let i : bytesIn f p ++ rest ≡ headerLine f h ++ (body ++ rest) = append-assoc (headerLine f h) body rest in
     let c : h .count ≡ length (p .frames) + 0 = a .count ∙ sym (add-zero (length (p .frames))) in
     let b = a .count in
     rw (i, header-rest f s due first h (body ++ rest) (a .header) (a .session), c)
-    (frames-back f s (startOf f h) (s .first (h .card) (h .session)) (s .second (h .card) (h .session)) (h .card) (h .cards) (p .frames) 0 (h .base + 1) noFrame rest (a .frames) (a .formed) (omega (arith, l .states))
+    (frames-back f s (startOf f h) (s .first (h .card) (h .session)) (s .second (h .card) (h .session)) (h .card) (cardsOf f h) (p .frames) 0 (h .base + 1) noFrame rest (a .frames) (a .formed) (omega (arith, l .states))
     ∙ (λ i. record { frames = append-nil (p .frames) i; verdict = Accepted; rest = rest }))
+
+-- the header of a sheet within the limits, written and read
+page-header : (f : Format) → Sound f → (due first : ℕ) (p : Page) (rest : List ℕ) → Allowed f due first p → (headerVerdict f due first (bytesIn f p ++ rest) ≡ Accepted) × (headerIn f (bytesIn f p ++ rest) ≡ p .header)
+page-header f s due first p rest a =
+    let h = p .header in
+    let body = framesBytes f (startOf f h) (cardsOf f h) (h .base + 1) (p .frames) in
+    let i : bytesIn f p ++ rest ≡ headerLine f h ++ (body ++ rest) = append-assoc (headerLine f h) body rest in
+    (rw i (header-accepted f s due first h (body ++ rest) (a .header) (a .session)), rw i (header-back f s due first h (body ++ rest) (a .header) (a .session)))
+
+sheet-in-back :
+    (f : Format) → Sound f → (due first : ℕ) (p : Page) (rest : List ℕ) (next : ℕ → List ℕ → Sheets) → Allowed f due first p → sheetIn f due first next (bytesIn f p ++ rest) ≡ withSheet Accepted Accepted (p .header) (record { frames = p .frames; verdict = Accepted; rest = rest }) (bytesIn f p ++ rest) (next (cardsOf f (p .header)) rest)
+sheet-in-back f s due first p rest next a =
+    let e = page-header f s due first p rest a in
+    rw (e .0, e .1, page-frames f s due first p rest a)
+
+-- all formats are sound
+abbrev pub AllSound : Formats → Type 0
+AllSound F = (told : ℕ) → Sound (F told)
+
+pub formats-sound : AllSound formats
+formats-sound told = format-sound
 
 -- a sheet within the limits reads back, and the reading goes on behind it
 pub sheet-back :
-    (f : Format) → Sound f → (due first : ℕ) (p : Page) (rest : List ℕ) (next : ℕ → List ℕ → Sheets) → Allowed f due first p → readSheet f due first next (pageBytes f p ++ rest) ≡ withSheet Accepted Accepted (p .header) (record { frames = p .frames; verdict = Accepted; rest = rest }) (pageBytes f p ++ rest) (next (p .header .cards) rest)
-sheet-back f s due first p rest next a =
-    let h = p .header in
-    let body = framesBytes f (startOf f h) (h .cards) (h .base + 1) (p .frames) in
-    let i : pageBytes f p ++ rest ≡ headerLine f h ++ (body ++ rest) = append-assoc (headerLine f h) body rest in
-    let v : headerVerdict f due first (pageBytes f p ++ rest) ≡ Accepted = rw i (header-accepted f s due first h (body ++ rest) (a .header) (a .session)) in
-    let g : headerIn f (pageBytes f p ++ rest) ≡ h = rw i (header-back f s due first h (body ++ rest) (a .header) (a .session)) in
-    rw (v, g, page-frames f s due first p rest a)
+    (F : Formats) → AllSound F → (due first : ℕ) (p : Page) (rest : List ℕ) (next : ℕ → List ℕ → Sheets) → Allowed (formatFor F (p .header)) due first p → readSheet F due first next (pageBytes F p ++ rest) ≡ withSheet Accepted Accepted (p .header) (record { frames = p .frames; verdict = Accepted; rest = rest }) (pageBytes F p ++ rest) (next (cardsOf (formatFor F (p .header)) (p .header)) rest)
+sheet-back F s due first p rest next a =
+    let f = formatFor F (p .header) in
+    let k = s (p .header .cards) in
+    ap (λ (g : Format). sheetIn g due first next (pageBytes F p ++ rest)) (told-again F f (bytesIn f p ++ rest) (page-header f k due first p rest a .1)) ∙ sheet-in-back f k due first p rest next a
 
-more-back : (f : Format) → Sound f → (due first : ℕ) (ps : List Page) → AllAllowed f due first ps → moreSheets f (length ps) due first (pagesBytes f ps) ≡ record { pages = ps; verdict = Accepted; rest = [] }
-more-back f s due first [] a = refl
-more-back f s due first (p ∷ ps) a =
-    sheet-back f s due first p (pagesBytes f ps) (λ cards rest. moreSheets f (length ps) (due + 1) first rest) (a .0) ∙ ap (withSheet Accepted Accepted (p .header) (record { frames = p .frames; verdict = Accepted; rest = pagesBytes f ps }) (pageBytes f p ++ pagesBytes f ps)) (more-back f s (due + 1) first ps (a .1))
+more-back : (F : Formats) → AllSound F → (due first : ℕ) (ps : List Page) → AllAllowed F due first ps → moreSheets F (length ps) due first (pagesBytes F ps) ≡ record { pages = ps; verdict = Accepted; rest = [] }
+more-back F s due first [] a = refl
+more-back F s due first (p ∷ ps) a =
+    sheet-back F s due first p (pagesBytes F ps) (λ cards rest. moreSheets F (length ps) (due + 1) first rest) (a .0) ∙ ap (withSheet Accepted Accepted (p .header) (record { frames = p .frames; verdict = Accepted; rest = pagesBytes F ps }) (pageBytes F p ++ pagesBytes F ps)) (more-back F s (due + 1) first ps (a .1))
 
 -- What is written reads back the same: a sheet (`all` false), and a read-out of as many sheets as its number of cards (`all` true).
 pub written-reads-back :
-    (f : Format) → Sound f → (all : Bool) (due : ℕ) (p : Page) (ps : List Page) →
-    Allowed f due 0 p →
-    AllAllowed f (due + 1) (p .header .cards) ps →
-    cond all (p .header .cards - 1) 0 ≡ length ps →
-    readSheets f all due (pagesBytes f (p ∷ ps)) ≡ record { pages = p ∷ ps; verdict = Accepted; rest = [] }
+    (F : Formats) → AllSound F → (all : Bool) (due : ℕ) (p : Page) (ps : List Page) →
+    Allowed (formatFor F (p .header)) due 0 p →
+    AllAllowed F (due + 1) (cardsOf (formatFor F (p .header)) (p .header)) ps →
+    cond all (cardsOf (formatFor F (p .header)) (p .header) - 1) 0 ≡ length ps →
+    readSheets F all due (pagesBytes F (p ∷ ps)) ≡ record { pages = p ∷ ps; verdict = Accepted; rest = [] }
 unfolding readSheets
-written-reads-back f s all due p ps a more e =
-    sheet-back f s due 0 p (pagesBytes f ps) (λ cards rest. moreSheets f (cond all (cards - 1) 0) (due + 1) cards rest) a
-    ∙ rw e (ap (withSheet Accepted Accepted (p .header) (record { frames = p .frames; verdict = Accepted; rest = pagesBytes f ps }) (pageBytes f p ++ pagesBytes f ps)) (more-back f s (due + 1) (p .header .cards) ps more))
+written-reads-back F s all due p ps a more e =
+    sheet-back F s due 0 p (pagesBytes F ps) (λ cards rest. moreSheets F (cond all (cards - 1) 0) (due + 1) cards rest) a
+    ∙ rw e (ap (withSheet Accepted Accepted (p .header) (record { frames = p .frames; verdict = Accepted; rest = pagesBytes F ps }) (pageBytes F p ++ pagesBytes F ps)) (more-back F s (due + 1) (cardsOf (formatFor F (p .header)) (p .header)) ps more))
 
 -- ---- read, then written
 
@@ -126,34 +144,38 @@ frames-again f start card n (suc k) state last input e =
     ∙ frame-again f start card n state last input (a .0))
 
 sheet-again :
-    (f : Format) (due first : ℕ) (next : ℕ → List ℕ → Sheets) (input : List ℕ) →
-    ((cards : ℕ) (rest : List ℕ) → next cards rest .verdict ≡ Accepted → pagesBytes f (next cards rest .pages) ≡ rest) →
-    readSheet f due first next input .verdict ≡ Accepted →
-    pagesBytes f (readSheet f due first next input .pages) ≡ input
-sheet-again f due first next input g e =
+    (F : Formats) (due first : ℕ) (next : ℕ → List ℕ → Sheets) (input : List ℕ) →
+    ((cards : ℕ) (rest : List ℕ) → next cards rest .verdict ≡ Accepted → pagesBytes F (next cards rest .pages) ≡ rest) →
+    readSheet F due first next input .verdict ≡ Accepted →
+    pagesBytes F (readSheet F due first next input .pages) ≡ input
+sheet-again F due first next input g e =
+    let f = formatIn F input in
     let h = headerIn f input in
     let fs = framesOf f h input in
-    let a = with-both (headerVerdict f due first input) (fs .verdict) h fs input (next (h .cards) (fs .rest)) e in
-    let body = framesBytes f (startOf f h) (h .cards) (h .base + 1) (fs .frames) in
+    let a = with-both (headerVerdict f due first input) (fs .verdict) h fs input (next (cardsOf f h) (fs .rest)) e in
+    let body = framesBytes f (startOf f h) (cardsOf f h) (h .base + 1) (fs .frames) in
+    let k : formatFor F h ≡ f = sym (told-again F f input refl) in
+    let rest = pagesBytes F (next (cardsOf f h) (fs .rest) .pages) in
     rw (a .0, a .1)
-    (append-assoc (headerLine f h) body (pagesBytes f (next (h .cards) (fs .rest) .pages))
-    ∙ ap (λ (x : List ℕ). headerLine f h ++ (body ++ x)) (g (h .cards) (fs .rest) (a .2))
-    ∙ ap (λ (x : List ℕ). headerLine f h ++ x) (frames-again f (startOf f h) (h .card) (h .cards) (h .count) (h .base + 1) noFrame (drop (headerDigits f + 5) input) (a .1))
+    (ap (λ (x : Format). bytesIn x (record { header = h; frames = fs .frames }) ++ rest) k
+    ∙ append-assoc (headerLine f h) body rest
+    ∙ ap (λ (x : List ℕ). headerLine f h ++ (body ++ x)) (g (cardsOf f h) (fs .rest) (a .2))
+    ∙ ap (λ (x : List ℕ). headerLine f h ++ x) (frames-again f (startOf f h) (h .card) (cardsOf f h) (h .count) (h .base + 1) noFrame (drop (headerDigits f + 5) input) (a .1))
     ∙ header-again f due first input (a .0))
 
 empty-end : (input : List ℕ) → ended input .verdict ≡ Accepted → [] ≡ input
 empty-end [] e = refl
 empty-end (b ∷ bs) e = let q : eqb (suc (length bs)) 0 ≡ false = eqb·suc-zero (length bs) in let z : _≡_ {A = ℕ} 0 1 = cc (rw q at e) in absurd (omega arith)
 
-more-again : (f : Format) (k due first : ℕ) (input : List ℕ) → moreSheets f k due first input .verdict ≡ Accepted → pagesBytes f (moreSheets f k due first input .pages) ≡ input
-more-again f zero due first input e = empty-end input e
-more-again f (suc k) due first input e = sheet-again f due first (λ cards rest. moreSheets f k (due + 1) first rest) input (λ cards rest. more-again f k (due + 1) first rest) e
+more-again : (F : Formats) (k due first : ℕ) (input : List ℕ) → moreSheets F k due first input .verdict ≡ Accepted → pagesBytes F (moreSheets F k due first input .pages) ≡ input
+more-again F zero due first input e = empty-end input e
+more-again F (suc k) due first input e = sheet-again F due first (λ cards rest. moreSheets F k (due + 1) first rest) input (λ cards rest. more-again F k (due + 1) first rest) e
 
 -- Bytes that a reader accepts are the very bytes that are written of what was read: a sheet (`all` false), and a read-out (`all` true).
-pub read-writes-again : (f : Format) (all : Bool) (due : ℕ) (input : List ℕ) → readSheets f all due input .verdict ≡ Accepted → pagesBytes f (readSheets f all due input .pages) ≡ input
+pub read-writes-again : (F : Formats) (all : Bool) (due : ℕ) (input : List ℕ) → readSheets F all due input .verdict ≡ Accepted → pagesBytes F (readSheets F all due input .pages) ≡ input
 unfolding readSheets
-read-writes-again f all due input e =
-    sheet-again f due 0 (λ cards rest. moreSheets f (cond all (cards - 1) 0) (due + 1) cards rest) input (λ cards rest. more-again f (cond all (cards - 1) 0) (due + 1) cards rest) e
+read-writes-again F all due input e =
+    sheet-again F due 0 (λ cards rest. moreSheets F (cond all (cards - 1) 0) (due + 1) cards rest) input (λ cards rest. more-again F (cond all (cards - 1) 0) (due + 1) cards rest) e
 
 -- ---- one altered byte
 
@@ -201,51 +223,54 @@ frames-altered f start card n (suc k) state last input p b a e g =
     rw (x .0, y .0, u, d) (frames-altered f start card n k (state + 1) fr (drop l input) (p - l) b (later input p b l a z) (x .1) (rw (u, d) at (y .1))))
 
 sheet-altered :
-    (f : Format) → Steady f → (due first : ℕ) (next : ℕ → List ℕ → Sheets) (input : List ℕ) (p b : ℕ) →
+    (F : Formats) → Alike F → (due first : ℕ) (next : ℕ → List ℕ → Sheets) (input : List ℕ) (p b : ℕ) →
     ((cards : ℕ) (rest : List ℕ) (q : ℕ) → Alters rest q b → next cards rest .verdict ≡ Accepted → next cards (set rest q b) .verdict ≡ Accepted → ⊥) →
     Alters input p b →
-    readSheet f due first next input .verdict ≡ Accepted →
-    readSheet f due first next (set input p b) .verdict ≡ Accepted →
+    readSheet F due first next input .verdict ≡ Accepted →
+    readSheet F due first next (set input p b) .verdict ≡ Accepted →
     ⊥
-sheet-altered f t due first next input p b n a e g =
+sheet-altered F t due first next input p b n a e g =
+    let f = formatIn F input in
+    let f′ = formatIn F (set input p b) in
     let l = headerDigits f + 5 in
     let h = headerIn f input in
-    let h′ = headerIn f (set input p b) in
+    let h′ = headerIn f′ (set input p b) in
     let fs = framesOf f h input in
-    let fs′ = framesOf f h′ (set input p b) in
-    let x = with-both (headerVerdict f due first input) (fs .verdict) h fs input (next (h .cards) (fs .rest)) e in
-    let y = with-both (headerVerdict f due first (set input p b)) (fs′ .verdict) h′ fs′ (set input p b) (next (h′ .cards) (fs′ .rest)) g in
-    by-cases (decLt p l) (λ q. a .other (header-altered f t due first input p b q (x .0) (y .0)))
+    let fs′ = framesOf f′ h′ (set input p b) in
+    let x = with-both (headerVerdict f due first input) (fs .verdict) h fs input (next (cardsOf f h) (fs .rest)) e in
+    let y = with-both (headerVerdict f′ due first (set input p b)) (fs′ .verdict) h′ fs′ (set input p b) (next (cardsOf f′ h′) (fs′ .rest)) g in
+    by-cases (decLt p l) (λ q. a .other (header-altered F t due first input p b (x .0) (y .0) q))
     (λ q.
     let z : l ≤ p = omega arith in
+    let k : f′ ≡ f = told-untouched F input p b z in
     let u = header-untouched f input p b z (header-room f due first input (x .0)) in
     let d = drop-later input p b l z in
-    let w = frames-altered f (startOf f h) (h .card) (h .cards) (h .count) (h .base + 1) noFrame (drop l input) (p - l) b (later input p b l a z) (x .1) (rw (u, d) at (y .1)) in
-    n (h .cards) (fs .rest) (w .0) (w .1) (x .2) (rw (w .2) at (rw (u, d) at (y .2))))
+    let w = frames-altered f (startOf f h) (h .card) (cardsOf f h) (h .count) (h .base + 1) noFrame (drop l input) (p - l) b (later input p b l a z) (x .1) (rw (u, d) at (rw k at (y .1))) in
+    n (cardsOf f h) (fs .rest) (w .0) (w .1) (x .2) (rw (w .2) at (rw (u, d) at (rw k at (y .2)))))
 
 more-altered :
-    (f : Format) → Steady f → (k due first : ℕ) (input : List ℕ) (p b : ℕ) →
+    (F : Formats) → Alike F → (k due first : ℕ) (input : List ℕ) (p b : ℕ) →
     Alters input p b →
-    moreSheets f k due first input .verdict ≡ Accepted →
-    moreSheets f k due first (set input p b) .verdict ≡ Accepted →
+    moreSheets F k due first input .verdict ≡ Accepted →
+    moreSheets F k due first (set input p b) .verdict ≡ Accepted →
     ⊥
-more-altered f t zero due first input p b a e g = let q : length input ≡ 0 = ap length (sym (empty-end input e)) in omega (arith, a .inside)
-more-altered f t (suc k) due first input p b a e g =
-    sheet-altered f t due first (λ cards rest. moreSheets f k (due + 1) first rest) input p b (λ cards rest q. more-altered f t k (due + 1) first rest q b) a e g
+more-altered F t zero due first input p b a e g = let q : length input ≡ 0 = ap length (sym (empty-end input e)) in omega (arith, a .inside)
+more-altered F t (suc k) due first input p b a e g =
+    sheet-altered F t due first (λ cards rest. moreSheets F k (due + 1) first rest) input p b (λ cards rest q. more-altered F t k (due + 1) first rest q b) a e g
 
 -- One altered byte in an accepted sheet (`all` false), or in an accepted read-out (`all` true), is refused, whichever byte, whatever it becomes.
 pub altered-refused :
-    (f : Format) → Steady f → (all : Bool) (due : ℕ) (input : List ℕ) (p b : ℕ) →
+    (F : Formats) → Alike F → (all : Bool) (due : ℕ) (input : List ℕ) (p b : ℕ) →
     p < length input →
     (b ≡ getD input p 0 → ⊥) →
-    readSheets f all due input .verdict ≡ Accepted →
-    (r : Refusal) × (readSheets f all due (set input p b) .verdict ≡ Refused r)
+    readSheets F all due input .verdict ≡ Accepted →
+    (r : Refusal) × (readSheets F all due (set input p b) .verdict ≡ Refused r)
 unfolding readSheets
-altered-refused f t all due input p b h o e =
+altered-refused F t all due input p b h o e =
     ⊎-elim
-    (λ (g : readSheets f all due (set input p b) .verdict ≡ Accepted).
-    absurd (sheet-altered f t due 0 (λ cards rest. moreSheets f (cond all (cards - 1) 0) (due + 1) cards rest) input p b (λ cards rest q. more-altered f t (cond all (cards - 1) 0) (due + 1) cards rest q b) (record { inside = h; other = o }) e g))
-    (λ (x : (r : Refusal) × (readSheets f all due (set input p b) .verdict ≡ Refused r)). x) (accepts-or (readSheets f all due (set input p b) .verdict))
+    (λ (g : readSheets F all due (set input p b) .verdict ≡ Accepted).
+    absurd (sheet-altered F t due 0 (λ cards rest. moreSheets F (cond all (cards - 1) 0) (due + 1) cards rest) input p b (λ cards rest q. more-altered F t (cond all (cards - 1) 0) (due + 1) cards rest q b) (record { inside = h; other = o }) e g))
+    (λ (x : (r : Refusal) × (readSheets F all due (set input p b) .verdict ≡ Refused r)). x) (accepts-or (readSheets F all due (set input p b) .verdict))
 
 -- ---- one frame too few
 

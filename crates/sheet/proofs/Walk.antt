@@ -13,22 +13,22 @@ use Rattle.refusal.specs.declared.Refusal.{Refusal}
 use Rattle.laws.proofs.Logic.{test, or-elim, cond-case}
 use Rattle.digits.specs.declared.Sums.{Sums}
 use Rattle.digits.proofs.Lines.{whole-room}
-use Rattle.frame.specs.declared.Verdict.{Verdict}
-use Rattle.frame.specs.declared.Verdict.the-variants.{Accepted, Refused}
+use Rattle.refusal.specs.declared.Verdict.{Verdict}
+use Rattle.refusal.specs.declared.Verdict.the-variants.{Accepted, Refused}
 use Rattle.frame.specs.declared.Header.{Header}
 use Rattle.frame.specs.declared.HeaderLine.the-variants.{Read as header-read, Fault as header-fault}
 use Rattle.frame.specs.declared.Frame.{Frame}
 use Rattle.frame.specs.declared.FrameRead.{FrameRead}
 use Rattle.frame.specs.declared.FrameLine.{FrameLine}
 use Rattle.frame.specs.declared.FrameLine.the-variants.{Read as frame-read, Fault as frame-fault}
-use Rattle.frame.specs.Format.{Format, format}
-use Rattle.frame.specs.Lines.{startOf, headerIn, headerVerdict, headerOr, headerTold, frameIn, frameAllowed, frameVerdict, frameReadOf, frameTold, padded, noFrame, entriesIn}
+use Rattle.frame.specs.Format.{Format, Formats, formatOf}
+use Rattle.frame.specs.Lines.{cardsOf, formatIn, startOf, headerDigits, headerIn, headerVerdict, headerOr, headerTold, frameDigits, frameIn, frameAllowed, frameVerdict, frameReadOf, frameTold, padded, noFrame, entriesIn}
 use Rattle.frame.proofs.Passed.{header-passed, header-within, frame-passed, Header-in-limits}
 use Rattle.frame.proofs.Judged.{entries-same, padded-at, entries-count}
 use Rattle.sheet.specs.declared.Readout.{Readout}
 use Rattle.sheet.specs.declared.Reading.{Reading}
-use Rattle.sheet.specs.Pages.{Page, Frames, withFrame, readFrames, framesOf, Sheets, withSheet, readSheet, ended, moreSheets, readSheets}
-use Rattle.sheet.specs.Walk.{placeOf, noReadout, layHeader, layFrame, layFrames, layPage, layPages, laid, readingOf}
+use Rattle.sheet.specs.Pages.{Page, Frames, withFrame, readFrames, framesOf, Sheets, withSheet, sheetIn, readSheet, ended, moreSheets, readSheets}
+use Rattle.sheet.specs.Walk.{placeOf, noReadout, layHeader, layFrame, layFrames, layPage, layPages, laid, readingIn}
 
 -- ---- answers told apart
 
@@ -56,8 +56,8 @@ frame-fault-is (Refused q) fr r e = let i : q ≡ r = cc in ap Refused i
 -- ---- what is left of the walk
 
 -- the sheets left where `first` is the first sheet's number of cards, or 0 before it
-abbrev pub going : Bool → ℕ → ℕ → ℕ → List ℕ → Sheets
-going all first left due input = cond (eqb first 0) (readSheets format all due input) (moreSheets format left due first input)
+abbrev pub going : Formats → Bool → ℕ → ℕ → ℕ → List ℕ → Sheets
+going F all first left due input = cond (eqb first 0) (readSheets F all due input) (moreSheets F left due first input)
 
 -- frames laid from a state on, and what follows where they are accepted
 abbrev pub laidOn : Verdict → Readout → List ℕ → (List ℕ → Sheets) → Reading
@@ -89,34 +89,34 @@ abbrev pub paddedFrame : Frame → Frame
 paddedFrame fr = record { change = fr .change; entries = padded (fr .entries) }
 
 verdict-padded :
-    (start : Sums) (card n state : ℕ) (last : Frame) (input : List ℕ) → length (last .entries) ≤ 16 → frameVerdict format start card n state (paddedFrame last) input ≡ frameVerdict format start card n state last input
+    (f : Format) (start : Sums) (card n state : ℕ) (last : Frame) (input : List ℕ) → length (last .entries) ≤ 16 → frameVerdict f start card n state (paddedFrame last) input ≡ frameVerdict f start card n state last input
 unfolding frameVerdict frameAllowed
-verdict-padded start card n state last input h = rw (entries-same card state n (padded (last .entries)) (last .entries) (frameIn format n input .entries) (frameIn format n input .entries) (padded-at (last .entries) h) (λ j. refl))
+verdict-padded f start card n state last input h = rw (entries-same f card state n (padded (last .entries)) (last .entries) (frameIn f n input .entries) (frameIn f n input .entries) (padded-at (last .entries) h) (λ j. refl))
 
 pub frames-padded :
-    (start : Sums) (card n k state : ℕ) (last : Frame) (input : List ℕ) → length (last .entries) ≤ 16 → readFrames format start card n k state (paddedFrame last) input ≡ readFrames format start card n k state last input
-frames-padded start card n zero state last input h = refl
-frames-padded start card n (suc k) state last input h = rw (verdict-padded start card n state last input h)
+    (f : Format) (start : Sums) (card n k state : ℕ) (last : Frame) (input : List ℕ) → length (last .entries) ≤ 16 → readFrames f start card n k state (paddedFrame last) input ≡ readFrames f start card n k state last input
+frames-padded f start card n zero state last input h = refl
+frames-padded f start card n (suc k) state last input h = rw (verdict-padded f start card n state last input h)
 
 -- ---- the records of the two loops
 
 -- at the head of the loop over sheets
-pub record Outer (s : List ℕ) (card : ℕ) (all : Bool) (r : Readout) (at due first left : ℕ) : Type 0 where
+pub record Outer (F : Formats) (s : List ℕ) (card : ℕ) (all : Bool) (r : Readout) (at due first left : ℕ) : Type 0 where
   pub begun : first ≡ 0 → left ≡ 1
-  pub goes-on : laid r (going all first left due (drop at s)) ≡ readingOf all card s
+  pub goes-on : laid r (going F all first left due (drop at s)) ≡ readingIn F all card s
 
 -- at the head of the loop over frames
-pub record Inner (s : List ℕ) (card : ℕ) (all : Bool) (due left n base count session i : ℕ) (r : Readout) (at : ℕ) (last : Frame) (k : ℕ) : Type 0 where
+pub record Inner (F : Formats) (f : Format) (s : List ℕ) (card : ℕ) (all : Bool) (due left n base count session i : ℕ) (r : Readout) (at : ℕ) (last : Frame) (k : ℕ) : Type 0 where
   pub index : i ≡ due
   pub below : due < n
   pub cards : n ≤ 16
   pub some : 0 < left
-  pub frames : count ≤ 48
-  pub states : base + count ≤ 60000
+  pub frames : count ≤ f .frames
+  pub states : base + count ≤ f .states
   pub passed : k ≤ count
   pub goes-on :
-      laidFrames due (base + 1 + k) k r (readFrames format (format .start due session) due n (count - k) (base + 1 + k) last (drop at s)) (moreSheets format (left - 1) (due + 1) n)
-      ≡ readingOf all card s
+      laidFrames due (base + 1 + k) k r (readFrames f (f .start due session) due n (count - k) (base + 1 + k) last (drop at s)) (moreSheets F (left - 1) (due + 1) n)
+      ≡ readingIn F all card s
 
 -- a number is 0 or not
 pub zero-or : (n : ℕ) → (n ≡ 0) ⊎ (n ≡ 0 → ⊥)
@@ -132,35 +132,38 @@ lift-pos n h = omega arith
 
 -- ---- from place to place
 
-pub outer-start : (s : List ℕ) (card : ℕ) (all : Bool) → Outer s card all noReadout 0 card 0 1
-unfolding readingOf
-outer-start s card all =
+pub outer-start : (F : Formats) (s : List ℕ) (card : ℕ) (all : Bool) → Outer F s card all noReadout 0 card 0 1
+unfolding readingIn
+outer-start F s card all =
     record { begun = λ e. refl; goes-on = refl }
 
-module _ {s : List ℕ} {card : ℕ} {all : Bool} {r : Readout} {at due first left : ℕ} (o : Outer s card all r at due first left) where
+module _ {F : Formats} {s : List ℕ} {card : ℕ} {all : Bool} {r : Readout} {at due first left : ℕ} (o : Outer F s card all r at due first left) where
   -- what is left at the head of the loop, where this is the first sheet and where it is not
-  first-on : first ≡ 0 → laid r (readSheets format all due (drop at s)) ≡ readingOf all card s
+  first-on : first ≡ 0 → laid r (readSheets F all due (drop at s)) ≡ readingIn F all card s
   first-on e = rw (eq-eqb first 0 e) at (o .goes-on)
 
-  more-on : (first ≡ 0 → ⊥) → laid r (moreSheets format left due first (drop at s)) ≡ readingOf all card s
+  more-on : (first ≡ 0 → ⊥) → laid r (moreSheets F left due first (drop at s)) ≡ readingIn F all card s
   more-on e = rw (ne-eqb first 0 e) at (o .goes-on)
 
-  pub outer-end : left ≡ 0 → {v : Verdict} → v ≡ ended (drop at s) .verdict → _≡_ {A = Reading} (record { readout = r; verdict = v }) (readingOf all card s)
+  pub outer-end : left ≡ 0 → {v : Verdict} → v ≡ ended (drop at s) .verdict → _≡_ {A = Reading} (record { readout = r; verdict = v }) (readingIn F all card s)
   outer-end e {v} q =
-      let g : laid r (moreSheets format 0 due first (drop at s)) ≡ readingOf all card s = rw e at (more-on (λ z. omega (arith, o .begun z))) in
+      let g : laid r (moreSheets F 0 due first (drop at s)) ≡ readingIn F all card s = rw e at (more-on (λ z. omega (arith, o .begun z))) in
       rw q g
 
-  fault-on : {x : Refusal} → 0 < left → headerVerdict format due first (drop at s) ≡ Refused x → (first ≡ 0) ⊎ (first ≡ 0 → ⊥) → _≡_ {A = Reading} (record { readout = r; verdict = Refused x }) (readingOf all card s)
+  abbrev picked : Format
+  picked = formatIn F (drop at s)
+
+  fault-on : {x : Refusal} → 0 < left → headerVerdict picked due first (drop at s) ≡ Refused x → (first ≡ 0) ⊎ (first ≡ 0 → ⊥) → _≡_ {A = Reading} (record { readout = r; verdict = Refused x }) (readingIn F all card s)
   unfolding readSheets
   fault-on {x} l e (inl z) =
-      let e′ : headerVerdict format due 0 (drop at s) ≡ Refused x = rw z at e in
+      let e′ : headerVerdict picked due 0 (drop at s) ≡ Refused x = rw z at e in
       rw e′ at (first-on z)
   fault-on {x} l e (inr z) =
       let q : left ≡ suc (left - 1) = omega arith in
       rw e at (rw q at (more-on z))
 
-  pub outer-fault : {x : Refusal} → 0 < left → headerVerdict format due first (drop at s) ≡ Refused x → _≡_ {A = Reading} (record { readout = r; verdict = Refused x }) (readingOf all card s)
-  outer-fault l e = fault-on l e (zero-or first)
+  pub outer-fault : {f : Format} {x : Refusal} → 0 < left → f ≡ picked → headerVerdict f due first (drop at s) ≡ Refused x → _≡_ {A = Reading} (record { readout = r; verdict = Refused x }) (readingIn F all card s)
+  outer-fault l p e = fault-on l (rw p at e) (zero-or first)
 
   -- the sheets left with this one, as the code counts them
   abbrev now-left : ℕ → ℕ
@@ -179,92 +182,104 @@ module _ {s : List ℕ} {card : ℕ} {all : Bool} {r : Readout} {at due first le
 
   inner-on :
       (h : Header) →
-      h ≡ headerIn format (drop at s) →
-      headerVerdict format due first (drop at s) ≡ Accepted →
+      h ≡ headerIn picked (drop at s) →
+      headerVerdict picked due first (drop at s) ≡ Accepted →
       0 < left →
       (first ≡ 0) ⊎ (first ≡ 0 → ⊥) →
-      laidFrames (h .card) (h .base + 1) 0 (layHeader h r) (framesOf format h (drop at s)) (moreSheets format (now-left (h .cards) - 1) (due + 1) (h .cards)) ≡ readingOf all card s
+      laidFrames (h .card) (h .base + 1) 0 (layHeader h r) (framesOf picked h (drop at s)) (moreSheets F (now-left (cardsOf picked h) - 1) (due + 1) (cardsOf picked h)) ≡ readingIn F all card s
   unfolding readSheets
   inner-on h q e l (inl z) =
-      let e′ : headerVerdict format due 0 (drop at s) ≡ Accepted = rw z at e in
-      rw (q, ← sheet-first z (o .begun z) (headerIn format (drop at s) .cards))
-      (sym (sheet-on (headerVerdict format due 0 (drop at s)) (headerIn format (drop at s)) (framesOf format (headerIn format (drop at s)) (drop at s)) (drop at s) r (moreSheets format (cond all (headerIn format (drop at s) .cards - 1) 0) (due + 1) (headerIn format (drop at s) .cards)) e′)
+      let e′ : headerVerdict picked due 0 (drop at s) ≡ Accepted = rw z at e in
+      let g = headerIn picked (drop at s) in
+      rw (q, ← sheet-first z (o .begun z) (cardsOf picked g))
+      (sym (sheet-on (headerVerdict picked due 0 (drop at s)) g (framesOf picked g (drop at s)) (drop at s) r (moreSheets F (cond all (cardsOf picked g - 1) 0) (due + 1) (cardsOf picked g)) e′)
       ∙ first-on z)
   inner-on h q e l (inr z) =
-      let g = headerIn format (drop at s) in
+      let g = headerIn picked (drop at s) in
       let m : left ≡ suc (left - 1) = omega arith in
-      let n : now-left (g .cards) ≡ left = rw (ne-eqb first 0 z) refl in
-      let c : g .cards ≡ first = same-cards (g .cards) first z (header-within format due first (drop at s) e .agrees) in
+      let n : now-left (cardsOf picked g) ≡ left = rw (ne-eqb first 0 z) refl in
+      let c : cardsOf picked g ≡ first = same-cards (cardsOf picked g) first z (header-within picked due first (drop at s) e .agrees) in
       rw (q, n)
-      (ap (λ (x : ℕ). laidFrames (g .card) (g .base + 1) 0 (layHeader g r) (framesOf format g (drop at s)) (moreSheets format (left - 1) (due + 1) x)) c
-      ∙ sym (sheet-on (headerVerdict format due first (drop at s)) g (framesOf format g (drop at s)) (drop at s) r (moreSheets format (left - 1) (due + 1) first) e)
+      (ap (λ (x : ℕ). laidFrames (g .card) (g .base + 1) 0 (layHeader g r) (framesOf picked g (drop at s)) (moreSheets F (left - 1) (due + 1) x)) c
+      ∙ sym (sheet-on (headerVerdict picked due first (drop at s)) g (framesOf picked g (drop at s)) (drop at s) r (moreSheets F (left - 1) (due + 1) first) e)
       ∙ rw m at (more-on z))
 
   -- a header that is accepted leads to the loop over its frames
   pub outer-inner :
-      (h : Header) {left′ i : ℕ} →
+      {f : Format} (h : Header) {left′ i n : ℕ} →
       0 < left →
-      h ≡ headerIn format (drop at s) →
-      headerVerdict format due first (drop at s) ≡ Accepted →
-      left′ ≡ now-left (h .cards) →
+      f .cards ≤ 16 →
+      f ≡ picked →
+      h ≡ headerIn f (drop at s) →
+      headerVerdict f due first (drop at s) ≡ Accepted →
+      n ≡ cardsOf f h →
+      left′ ≡ now-left n →
       i ≡ due →
-      Inner s card all due left′ (h .cards) (h .base) (h .count) (h .session) i (layHeader (record { session = h .session; card = due; cards = h .cards; base = h .base; count = h .count }) r) (at + 25) noFrame 0
-  outer-inner h {left′} l q e m i =
-      let w : Header-in-limits format due first h = rw q (header-within format due first (drop at s) e) in
+      Inner F f s card all due left′ n (h .base) (h .count) (h .session) i (layHeader (record { session = h .session; card = due; cards = h .cards; base = h .base; count = h .count }) r) (at + (headerDigits f + 5)) noFrame 0
+  outer-inner {f} h {left′} l few p q e y m i =
+      let w : Header-in-limits f due first h = rw q (header-within f due first (drop at s) e) in
       let c : h .card ≡ due = w .card in
       let b : h .base + 1 + 0 ≡ h .base + 1 = omega arith in
       let k : h .count - 0 ≡ h .count = omega arith in
       record {
         index = i;
-        below = rw (← c) (w .below);
-        cards = w .cards;
-        some = rw m (left-some (h .cards) (omega (arith, w .below)) l);
+        below = rw (y, ← c) (w .below);
+        cards = rw y (omega (arith, w .cards));
+        some = rw (m, y) (left-some (cardsOf f h) (omega (arith, w .below)) l);
         frames = w .count;
         states = w .states;
         passed = zero-le;
         goes-on =
-            rw (b, k, m, ← drop-drop 25 at s)
-            (ap (λ (x : ℕ). laidFrames x (h .base + 1) 0 (layHeader (record { session = h .session; card = x; cards = h .cards; base = h .base; count = h .count }) r) (readFrames format (format .start due (h .session)) x (h .cards) (h .count) (h .base + 1) noFrame (drop 25 (drop at s))) (moreSheets format (now-left (h .cards) - 1) (due + 1) (h .cards))) (sym c)
-            ∙ inner-on h q e l (zero-or first));
+            rw (b, k, m, y, ← drop-drop (headerDigits f + 5) at s)
+            (ap (λ (x : ℕ). laidFrames x (h .base + 1) 0 (layHeader (record { session = h .session; card = x; cards = h .cards; base = h .base; count = h .count }) r) (readFrames f (f .start x (h .session)) x (cardsOf f h) (h .count) (h .base + 1) noFrame (drop (headerDigits f + 5) (drop at s))) (moreSheets F (now-left (cardsOf f h) - 1) (due + 1) (cardsOf f h))) (sym c)
+            ∙ on-picked f p h q e);
       }
+    where
+      on-picked :
+          (f : Format) →
+          f ≡ picked →
+          (h : Header) →
+          h ≡ headerIn f (drop at s) →
+          headerVerdict f due first (drop at s) ≡ Accepted →
+          laidFrames (h .card) (h .base + 1) 0 (layHeader h r) (framesOf f h (drop at s)) (moreSheets F (now-left (cardsOf f h) - 1) (due + 1) (cardsOf f h)) ≡ readingIn F all card s
+      on-picked f p h q e = rw p (inner-on h (rw p at q) (rw p at e) l (zero-or first))
 
-module _ {s : List ℕ} {card : ℕ} {all : Bool} {due left n base count session i : ℕ} {r : Readout} {at : ℕ} {last : Frame} {k : ℕ} (o : Inner s card all due left n base count session i r at last k) where
+module _ {F : Formats} {f : Format} {s : List ℕ} {card : ℕ} {all : Bool} {due left n base count session i : ℕ} {r : Readout} {at : ℕ} {last : Frame} {k : ℕ} (o : Inner F f s card all due left n base count session i r at last k) where
   abbrev frames-left : ℕ → ℕ → Frame → List ℕ → Frames
-  frames-left m state before input = readFrames format (format .start due session) due n m state before input
+  frames-left m state before input = readFrames f (f .start due session) due n m state before input
 
   abbrev then-sheets : List ℕ → Sheets
-  then-sheets = moreSheets format (left - 1) (due + 1) n
+  then-sheets = moreSheets F (left - 1) (due + 1) n
 
   -- one frame is due: its verdict decides
-  frame-due : k < count → laidFrames due (base + 1 + k) k r (frames-left (suc (count - (k + 1))) (base + 1 + k) last (drop at s)) then-sheets ≡ readingOf all card s
+  frame-due : k < count → laidFrames due (base + 1 + k) k r (frames-left (suc (count - (k + 1))) (base + 1 + k) last (drop at s)) then-sheets ≡ readingIn F all card s
   frame-due h = let m : count - k ≡ suc (count - (k + 1)) = omega arith in rw m at (o .goes-on)
 
-  pub inner-fault : {x : Refusal} → k < count → frameVerdict format (format .start due session) due n (base + 1 + k) last (drop at s) ≡ Refused x → _≡_ {A = Reading} (record { readout = r; verdict = Refused x }) (readingOf all card s)
+  pub inner-fault : {x : Refusal} → k < count → frameVerdict f (f .start due session) due n (base + 1 + k) last (drop at s) ≡ Refused x → _≡_ {A = Reading} (record { readout = r; verdict = Refused x }) (readingIn F all card s)
   inner-fault h e = rw e at (frame-due h)
 
   -- behind the last frame the next sheet is due
-  pub inner-end : count ≤ k → Outer s card all r at (due + 1) n (left - 1)
+  pub inner-end : count ≤ k → Outer F s card all r at (due + 1) n (left - 1)
   inner-end h =
       let m : count - k ≡ 0 = omega arith in
       let z : n ≡ 0 → ⊥ = λ (e : n ≡ 0). omega (arith, o .below) in
       record { begun = λ e. absurd (z e); goes-on = rw (ne-eqb n 0 z) (rw m at (o .goes-on)) }
 
-  entries-within : length (frameIn format n (drop at s) .entries) ≤ 16
+  entries-within : length (frameIn f n (drop at s) .entries) ≤ 16
   unfolding frameIn
-  entries-within = rw (entries-count n (drop 12 (drop at s))) (o .cards)
+  entries-within = rw (entries-count f n (drop (f .width + 8) (drop at s))) (o .cards)
 
   -- a frame that is accepted is taken in
   pub inner-step :
       (fr : Frame) →
       k < count →
-      fr ≡ frameIn format n (drop at s) →
-      frameVerdict format (format .start due session) due n (base + 1 + k) last (drop at s) ≡ Accepted →
-      Inner s card all due left n base count session i (layFrame due (base + 1 + k) k fr r) (at + (17 + n * 4)) (paddedFrame fr) (k + 1)
+      fr ≡ frameIn f n (drop at s) →
+      frameVerdict f (f .start due session) due n (base + 1 + k) last (drop at s) ≡ Accepted →
+      Inner F f s card all due left n base count session i (layFrame due (base + 1 + k) k fr r) (at + (frameDigits f n + 5)) (paddedFrame fr) (k + 1)
   inner-step fr h q e =
       let b : base + 1 + (k + 1) ≡ base + 1 + k + 1 = omega arith in
-      let d : at + (17 + n * 4) ≡ at + (12 + n * 4 + 5) = omega arith in
       let input = drop at s in
-      let l : length (frameIn format n input .entries) ≤ 16 = entries-within in
+      let l : length (frameIn f n input .entries) ≤ 16 = entries-within in
       record {
         index = o .index;
         below = o .below;
@@ -274,7 +289,7 @@ module _ {s : List ℕ} {card : ℕ} {all : Bool} {due left n base count session
         states = o .states;
         passed = omega arith;
         goes-on =
-            rw (q, b, d, ← drop-drop (12 + n * 4 + 5) at s, frames-padded (format .start due session) due n (count - (k + 1)) (base + 1 + k + 1) (frameIn format n input) (drop (12 + n * 4 + 5) input) l)
+            rw (q, b, ← drop-drop (frameDigits f n + 5) at s, frames-padded f (f .start due session) due n (count - (k + 1)) (base + 1 + k + 1) (frameIn f n input) (drop (frameDigits f n + 5) input) l)
             (rw e at (frame-due h));
       }
 
@@ -282,16 +297,16 @@ module _ {s : List ℕ} {card : ℕ} {all : Bool} {due left n base count session
   pub inner-again :
       {change : ℕ} {es stored : List ℕ} →
       k < count →
-      frameVerdict format (format .start due session) due n (base + 1 + k) last (drop at s) ≡ Accepted →
-      frameIn format n (drop at s) .change ≡ change →
-      es ≡ padded (frameIn format n (drop at s) .entries) →
+      frameVerdict f (f .start due session) due n (base + 1 + k) last (drop at s) ≡ Accepted →
+      frameIn f n (drop at s) .change ≡ change →
+      es ≡ padded (frameIn f n (drop at s) .entries) →
       stored ≡ sets (r .entries) (placeOf due (base + 1 + k) * 16) es →
-      Inner s card all due left n base count session i
+      Inner F f s card all due left n base count session i
       (record { changes = set (r .changes) (placeOf due (base + 1 + k)) change; entries = stored; sessions = r .sessions; bases = r .bases; counts = set (r .counts) i (k + 1); cards = r .cards })
-      (at + (17 + n * 4))
+      (at + (frameDigits f n + 5))
       (record { change = change; entries = es })
       (k + 1)
-  inner-again h e p q t = rw (t, q, ← p, o .index) (rw (o .index) at (inner-step (frameIn format n (drop at s)) h refl e))
+  inner-again h e p q t = rw (t, q, ← p, o .index) (rw (o .index) at (inner-step (frameIn f n (drop at s)) h refl e))
 
 -- the measure of the loop over sheets falls
 pub sheets-fewer :

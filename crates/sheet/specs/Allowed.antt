@@ -5,11 +5,11 @@ use mathlib.Core.Bool.{Bool, true, _&&_}
 use mathlib.Core.List.{List, [], _∷_, _++_}
 use lib.ListN.{length}
 use Rattle.refusal.specs.declared.Refusal.{Refusal}
-use Rattle.frame.specs.declared.Verdict.the-variants.{Refused}
+use Rattle.refusal.specs.declared.Verdict.the-variants.{Refused}
 use Rattle.frame.specs.declared.Header.{Header}
 use Rattle.frame.specs.declared.Frame.{Frame}
-use Rattle.frame.specs.Format.{Format}
-use Rattle.frame.specs.Lines.{startOf, headerLine, headerAllowed, frameAllowed, frameVerdict, noFrame}
+use Rattle.frame.specs.Format.{Format, Formats}
+use Rattle.frame.specs.Lines.{cardsOf, formatFor, startOf, headerLine, headerAllowed, frameAllowed, frameVerdict, noFrame}
 use Rattle.sheet.specs.Pages.{Page, framesBytes}
 
 -- frames that refusal 9 lets pass, from a state on; `last` is the frame before
@@ -27,13 +27,13 @@ pub record Allowed (f : Format) (due first : ℕ) (p : Page) : Type 0 where
   pub header : headerAllowed f due first (p .header) ≡ true
   pub session : p .header .session < 16 ^ 8
   pub count : p .header .count ≡ length (p .frames)
-  pub formed : Formed (p .header .cards) (p .frames)
-  pub frames : framesAllowed f (p .header .card) (p .header .cards) (p .header .base + 1) noFrame (p .frames) ≡ true
+  pub formed : Formed (cardsOf f (p .header)) (p .frames)
+  pub frames : framesAllowed f (p .header .card) (cardsOf f (p .header)) (p .header .base + 1) noFrame (p .frames) ≡ true
 
 -- the sheets of a read-out from a card on
-abbrev pub AllAllowed : Format → ℕ → ℕ → List Page → Type 0
-AllAllowed f due first [] = Unit {0}
-AllAllowed f due first (p ∷ ps) = Allowed f due first p × AllAllowed f (due + 1) first ps
+abbrev pub AllAllowed : Formats → ℕ → ℕ → List Page → Type 0
+AllAllowed F due first [] = Unit {0}
+AllAllowed F due first (p ∷ ps) = Allowed (formatFor F (p .header)) due first p × AllAllowed F (due + 1) first ps
 
 -- ---- "header count 3 over two frames"
 
@@ -47,10 +47,10 @@ pub record Short (f : Format) (due first : ℕ) (h : Header) (frs : List Frame) 
   pub header : headerAllowed f due first h ≡ true
   pub session : h .session < 16 ^ 8
   pub count : h .count ≡ length frs + 1
-  pub formed : Formed (h .cards) frs
-  pub frames : framesAllowed f (h .card) (h .cards) (h .base + 1) noFrame frs ≡ true
-  pub next : frameVerdict f (startOf f h) (h .card) (h .cards) (h .base + 1 + length frs) (lastOf noFrame frs) rest ≡ Refused r
+  pub formed : Formed (cardsOf f h) frs
+  pub frames : framesAllowed f (h .card) (cardsOf f h) (h .base + 1) noFrame frs ≡ true
+  pub next : frameVerdict f (startOf f h) (h .card) (cardsOf f h) (h .base + 1 + length frs) (lastOf noFrame frs) rest ≡ Refused r
 
 -- their bytes
 abbrev pub shortBytes : Format → Header → List Frame → List ℕ → List ℕ
-shortBytes f h frs rest = headerLine f h ++ (framesBytes f (startOf f h) (h .cards) (h .base + 1) frs ++ rest)
+shortBytes f h frs rest = headerLine f h ++ (framesBytes f (startOf f h) (cardsOf f h) (h .base + 1) frs ++ rest)

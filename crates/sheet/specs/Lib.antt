@@ -1,4 +1,5 @@
 pub mod Pages
 pub mod Walk
 pub mod Allowed
-pub mod Flat
+pub mod Ring
+pub mod Whole

@@ -7,12 +7,12 @@ use lib.ListN.{length, drop}
 use Rattle.refusal.specs.declared.Refusal.{Refusal}
 use Rattle.refusal.specs.declared.Refusal.the-variants.{EndOrMore}
 use Rattle.digits.specs.declared.Sums.{Sums}
-use Rattle.frame.specs.declared.Verdict.{Verdict}
-use Rattle.frame.specs.declared.Verdict.the-variants.{Accepted, Refused}
+use Rattle.refusal.specs.declared.Verdict.{Verdict}
+use Rattle.refusal.specs.declared.Verdict.the-variants.{Accepted, Refused}
 use Rattle.frame.specs.declared.Header.{Header}
 use Rattle.frame.specs.declared.Frame.{Frame}
-use Rattle.frame.specs.Format.{Format}
-use Rattle.frame.specs.Lines.{startOf, headerDigits, headerLine, headerIn, headerVerdict, frameDigits, frameLine, frameIn, frameVerdict, noFrame}
+use Rattle.frame.specs.Format.{Format, Formats}
+use Rattle.frame.specs.Lines.{cardsOf, formatIn, formatFor, startOf, headerDigits, headerLine, headerIn, headerVerdict, frameDigits, frameLine, frameIn, frameVerdict, noFrame}
 
 -- a sheet: its header, and its frames from base + 1 on
 pub record Page : Type 0 where
@@ -27,13 +27,16 @@ framesBytes f start n state [] = []
 framesBytes f start n state (fr ∷ frs) = frameLine f start n state fr ++ framesBytes f start n (state + 1) frs
 
 -- a card's sheet
-abbrev pub pageBytes : Format → Page → List ℕ
-pageBytes f p = headerLine f (p .header) ++ framesBytes f (startOf f (p .header)) (p .header .cards) (p .header .base + 1) (p .frames)
+abbrev pub bytesIn : Format → Page → List ℕ
+bytesIn f p = headerLine f (p .header) ++ framesBytes f (startOf f (p .header)) (cardsOf f (p .header)) (p .header .base + 1) (p .frames)
+
+abbrev pub pageBytes : Formats → Page → List ℕ
+pageBytes F p = bytesIn (formatFor F (p .header)) p
 
 -- a read-out: "the sheets of all cards in card order, joined"
-abbrev pub pagesBytes : Format → List Page → List ℕ
-pagesBytes f [] = []
-pagesBytes f (p ∷ ps) = pageBytes f p ++ pagesBytes f ps
+abbrev pub pagesBytes : Formats → List Page → List ℕ
+pagesBytes F [] = []
+pagesBytes F (p ∷ ps) = pageBytes F p ++ pagesBytes F ps
 
 -- ---- reading: "the reading stops at the first line at fault"
 
@@ -57,7 +60,7 @@ readFrames f start card n (suc k) state last input =
 
 -- the frames that a header declares, behind its line
 abbrev pub framesOf : Format → Header → List ℕ → Frames
-framesOf f h input = readFrames f (startOf f h) (h .card) (h .cards) (h .count) (h .base + 1) noFrame (drop (headerDigits f + 5) input)
+framesOf f h input = readFrames f (startOf f h) (h .card) (cardsOf f h) (h .count) (h .base + 1) noFrame (drop (headerDigits f + 5) input)
 
 -- sheets read: those before the first line at fault, the last of them as far as it was read; the verdict; what is left of the input
 pub record Sheets : Type 0 where
@@ -73,20 +76,24 @@ withSheet Accepted Accepted h fs input next =
     record { pages = record { header = h; frames = fs .frames } ∷ next .pages; verdict = next .verdict; rest = next .rest }
 
 -- one sheet, where a card is due, and what follows it by its number of cards
-abbrev pub readSheet : Format → ℕ → ℕ → (ℕ → List ℕ → Sheets) → List ℕ → Sheets
-readSheet f due first next input =
+abbrev pub sheetIn : Format → ℕ → ℕ → (ℕ → List ℕ → Sheets) → List ℕ → Sheets
+sheetIn f due first next input =
     withSheet (headerVerdict f due first input) (framesOf f (headerIn f input) input .verdict) (headerIn f input) (framesOf f (headerIn f input) input) input
-    (next (headerIn f input .cards) (framesOf f (headerIn f input) input .rest))
+    (next (cardsOf f (headerIn f input)) (framesOf f (headerIn f input) input .rest))
+
+-- in the format that its header picks
+abbrev pub readSheet : Formats → ℕ → ℕ → (ℕ → List ℕ → Sheets) → List ℕ → Sheets
+readSheet F due first next input = sheetIn (formatIn F input) due first next input
 
 -- after the last sheet: 8 where the input goes on
 abbrev pub ended : List ℕ → Sheets
 ended input = record { pages = []; verdict = cond (eqb (length input) 0) Accepted (Refused EndOrMore); rest = input }
 
 -- k further sheets of a read-out, in card order, each with the first sheet's number of cards
-abbrev pub moreSheets : Format → ℕ → ℕ → ℕ → List ℕ → Sheets
-moreSheets f zero due first input = ended input
-moreSheets f (suc k) due first input = readSheet f due first (λ cards rest. moreSheets f k (due + 1) first rest) input
+abbrev pub moreSheets : Formats → ℕ → ℕ → ℕ → List ℕ → Sheets
+moreSheets F zero due first input = ended input
+moreSheets F (suc k) due first input = readSheet F due first (λ cards rest. moreSheets F k (due + 1) first rest) input
 
 -- the first sheet, where a card is due, and then of a read-out (`all`) the sheets of the other cards
-unfoldable pub readSheets : Format → Bool → ℕ → List ℕ → Sheets
-readSheets f all due input = readSheet f due 0 (λ cards rest. moreSheets f (cond all (cards - 1) 0) (due + 1) cards rest) input
+unfoldable pub readSheets : Formats → Bool → ℕ → List ℕ → Sheets
+readSheets F all due input = readSheet F due 0 (λ cards rest. moreSheets F (cond all (cards - 1) 0) (due + 1) cards rest) input

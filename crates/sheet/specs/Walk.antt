@@ -4,10 +4,10 @@ use mathlib.Core.Bool.{Bool}
 use mathlib.Core.List.{List, [], _∷_}
 use lib.ListN.{set, replicate}
 use lib.Seq.{sets}
-use Rattle.frame.specs.declared.Verdict.{Verdict}
+use Rattle.refusal.specs.declared.Verdict.{Verdict}
 use Rattle.frame.specs.declared.Header.{Header}
 use Rattle.frame.specs.declared.Frame.{Frame}
-use Rattle.frame.specs.Format.{format}
+use Rattle.frame.specs.Format.{Formats, formats}
 use Rattle.frame.specs.Lines.{padded}
 use Rattle.sheet.specs.declared.Readout.{Readout}
 use Rattle.sheet.specs.declared.Reading.{Reading}
@@ -73,5 +73,8 @@ abbrev pub laid : Readout → Sheets → Reading
 laid r w = record { readout = layPages (w .pages) r; verdict = w .verdict }
 
 -- all that was read up to the first line at fault, with the verdict
-unfoldable pub readingOf : Bool → ℕ → List ℕ → Reading
-readingOf all card input = laid noReadout (readSheets format all card input)
+unfoldable pub readingIn : Formats → Bool → ℕ → List ℕ → Reading
+readingIn F all card input = laid noReadout (readSheets F all card input)
+
+abbrev pub readingOf : Bool → ℕ → List ℕ → Reading
+readingOf all card input = readingIn formats all card input

@@ -1,18 +1,17 @@
-// Card sheets and joined read-outs: read and written, by value.
+// Card sheets and joined read-outs, read into a read-out by value.
 ghost use mathlib.Core.Path.{_≡_};
 ghost use Prim.Native.Nat.{_+_, _*_, _-_, _≤_, _<_};
 ghost use mathlib.Core.Bool.{cond};
-ghost use lib.ListN.{length, take, drop};
+ghost use lib.ListN.{drop};
 ghost use lib.Seq.{sets};
 ghost use lib.Dec.{eqb};
 ghost use Rattle.sheet.specs.Pages.{ended};
 ghost use Rattle.sheet.specs.Walk.{readingOf};
 use frame::Frame;
 use frame::FrameLine;
-use frame::Header;
 use frame::HeaderLine;
-use frame::Verdict;
 use refusal::Refusal;
+use refusal::Verdict;
 
 // A read-out: for each card its session, base and number of frames, and the frames of all cards. The frame of a
 // card's state stands at card * 48 + state % 48, with 16 entries for each.
@@ -23,18 +22,6 @@ pub struct Readout {
     pub bases: [u32; 16],
     pub counts: [u32; 16],
     pub cards: u32,
-}
-
-// A card's sheet by value: 16 entries for each frame. The writer does not look at places beyond the count and the
-// number of cards; from the reader they are 0.
-pub struct Sheet {
-    pub entries: [u32; 768],
-    pub changes: [u32; 48],
-    pub session: u32,
-    pub card: u32,
-    pub cards: u32,
-    pub base: u32,
-    pub count: u32,
 }
 
 // What was read up to the first line at fault, and the verdict. The counts say how far it came.
@@ -98,20 +85,22 @@ pub fn read_sheets(s: &[u8], card: u32, all: bool) -> Reading
         if left == 0 {
             break 'sheets end_at(s, at);
         }
-        let line = header_reader::header_at(s, at, due, first);
+        let f = frame::layout_of(header_reader::told_at(s, at));
+        let width = f.width;
+        let line = header_reader::header_at(f, s, at, due, first);
         let HeaderLine::Read(h) = line else {
             break 'sheets frame::header_told(line);
         };
-        let n = h.cards;
+        let n = header_reader::unraised(h.cards, f.raise);
         let base = h.base;
         let count = h.count;
         let session = h.session;
         let i = due as usize;
-        r.cards = n;
+        r.cards = h.cards;
         r.sessions[i] = session;
         r.bases[i] = base;
         left = sheets_left(all, first, left, n);
-        at += 25;
+        at += width + 16 + 5;
         let mut last = Frame {
             change: 0,
             entries: [0u32; 16],
@@ -120,7 +109,7 @@ pub fn read_sheets(s: &[u8], card: u32, all: bool) -> Reading
         while k < count {
             let state = base + 1 + k;
             let start = frame::start_of(due, session);
-            let read = frame_reader::frame_at(s, at, start, due, n, state, last);
+            let read = frame_reader::frame_at(f, s, at, start, due, n, state, last);
             let told = read.line;
             let FrameLine::Read(change) = told else {
                 break 'sheets frame::frame_told(told);
@@ -131,7 +120,7 @@ pub fn read_sheets(s: &[u8], card: u32, all: bool) -> Reading
             r.changes[place] = change;
             store_entries(&mut r.entries, place * 16, entries);
             last = Frame { change, entries };
-            at += 17 + n as usize * 4;
+            at += width + 8 + n as usize * width + 5;
             k += 1;
         }
         first = n;

@@ -1,6 +1,7 @@
 // What bench/sheet measures, exported to Rust: the readers, and the largest sheet, made and written.
-use frame::Verdict;
-use sheet::Sheet;
+ghost use Prim.Native.Nat.{_<_};
+use refusal::Verdict;
+use sheet::Readout;
 use write::Written;
 
 // 0 where the bytes are accepted, else the number of the refusal.
@@ -18,10 +19,18 @@ pub extern "C" fn yerwaqis_read_readout(s: &[u8]) -> u32 {
     number_of(v)
 }
 
-// Of a sheet that is accepted the sum of an entry and a change number at a place, so that the whole sheet is made.
-fn sum_at(s: Sheet, place: usize) -> u32 {
-    let e = s.entries[place % 768];
-    let c = s.changes[place % 48];
+// The place of a card's frame k.
+fn place_of(card: u32, base: u32, k: usize) -> usize
+    ensures { λ r. ⌜ r < 768 ⌝ }
+{
+    (card % 16) as usize * 48 + ((base % 48) as usize + 1 + k % 48) % 48
+}
+
+// Of a sheet that is accepted the sum of an entry and a change number, by their places among its rows.
+fn sum_at(r: Readout, card: u32, place: usize) -> u32 {
+    let base = r.bases[(card % 16) as usize];
+    let e = r.entries[place_of(card, base, place / 16) * 16 + place % 16];
+    let c = r.changes[place_of(card, base, place)];
     std::num::wrapping_add_u32(e, c)
 }
 
@@ -30,41 +39,40 @@ fn sum_at(s: Sheet, place: usize) -> u32 {
 pub extern "C" fn yerwaqis_read_sheet(s: &[u8], card: u32, place: usize) -> u32 {
     let read = sheet_reader::read_sheet(s, card);
     let v = read.verdict;
-    let sheet = read.sheet;
+    let r = read.readout;
     match v {
-        Verdict::Accepted => sum_at(sheet, place),
-        Verdict::Refused(r) => refusal::number(r),
+        Verdict::Accepted => sum_at(r, card, place),
+        Verdict::Refused(x) => refusal::number(x),
     }
 }
 
-// A sheet of 16 cards and 48 frames.
-fn largest(card: u32) -> Sheet {
-    let mut entries = [5u32; 768];
-    let mut changes = [0u32; 48];
+// A read-out with a card's sheet of 16 cards and 48 frames.
+fn largest(card: u32) -> Readout {
+    let mut entries = [5u32; 12288];
+    let mut changes = [0u32; 768];
     let own = (card % 16) as usize;
     let mut k: u32 = 0;
     while k < 48 {
-        let i = k as usize;
-        changes[i] = (k + 1) * 16 + card % 16;
-        entries[i * 16 + own] = k + 1;
+        let place = place_of(card, 0, k as usize);
+        changes[place] = (k + 1) * 16 + card % 16;
+        entries[place * 16 + own] = k + 1;
         k += 1;
     }
-    Sheet {
-        entries,
+    Readout {
         changes,
-        session: 1,
-        card: card % 16,
+        entries,
+        sessions: [1u32; 16],
+        bases: [0u32; 16],
+        counts: [48u32; 16],
         cards: 16,
-        base: 0,
-        count: 48,
     }
 }
 
 // The length written, or 0 where the sheet or the buffer is refused.
 #[no_mangle]
 pub extern "C" fn yerwaqis_write_largest(card: u32, b: &mut [u8]) -> usize {
-    let s = largest(card);
-    let w = write::write_sheet(s, b);
+    let r = largest(card);
+    let w = sheet_writer::write_sheet(r, card % 16, b);
     match w {
         Written::Length(n) => n,
         Written::Refused(_) => 0,

@@ -2,15 +2,15 @@
 // A record of standard input: a kind, a card, a length of two bytes, a total of four bytes, then as many bytes as the length.
 // R reads these bytes, filled up to the total by digits 0, as the sheet of the card, and J as a read-out.
 // W takes of them the five numbers of a sheet and rows of a change number and 16 entries, each of four bytes, all other
-// places 77; it writes that sheet to a buffer as long as the total, and reads back what was written.
+// places of the read-out 77; it writes that sheet to a buffer as long as the total, and reads back what was written.
 // Records and what is to be printed were made by bench/sheet/calls.py, from document 01 alone:
 // `python3 bench/sheet/calls.py crates/sheet_calls`.
 ghost use Prim.Native.Nat.{_<_};
-use frame::Verdict;
 use libc::STDIN_FILENO;
 use libc::STDOUT_FILENO;
 use refusal::Refusal;
-use sheet::Sheet;
+use refusal::Verdict;
+use sheet::Readout;
 use write::Written;
 
 fn wide(b: u8) -> u32
@@ -46,21 +46,39 @@ fn in_row(body: &[u8], rows: usize, k: usize, j: usize) -> u32 {
     }
 }
 
-fn changes_in(body: &[u8], rows: usize) -> [u32; 48] {
-    let mut to = [0u32; 48];
-    let mut k = 0;
-    while k < 48 {
-        to[k] = in_row(body, rows, k, 0);
-        k += 1;
+// Which frame of a card stands at a place of the ring, the first being 0; 48 where the place is another card's.
+fn frame_at(place: usize, card: u32, base: u32) -> usize
+    ensures { λ r. ⌜ r < 49 ⌝ }
+{
+    if place / 48 == card as usize {
+        (place % 48 + 47 - (base % 48) as usize) % 48
+    } else {
+        48
+    }
+}
+
+// The place of a card's frame k.
+fn place_of(card: u32, base: u32, k: usize) -> usize
+    ensures { λ r. ⌜ r < 768 ⌝ }
+{
+    (card % 16) as usize * 48 + ((base % 48) as usize + 1 + k % 48) % 48
+}
+
+fn changes_in(body: &[u8], rows: usize, card: u32, base: u32) -> [u32; 768] {
+    let mut to = [0u32; 768];
+    let mut i: usize = 0;
+    while i < 768 {
+        to[i] = in_row(body, rows, frame_at(i, card, base), 0);
+        i += 1;
     }
     to
 }
 
-fn entries_in(body: &[u8], rows: usize) -> [u32; 768] {
-    let mut to = [0u32; 768];
-    let mut i = 0;
-    while i < 768 {
-        to[i] = in_row(body, rows, i / 16, 1 + i % 16);
+fn entries_in(body: &[u8], rows: usize, card: u32, base: u32) -> [u32; 12288] {
+    let mut to = [0u32; 12288];
+    let mut i: usize = 0;
+    while i < 12288 {
+        to[i] = in_row(body, rows, frame_at(i / 16, card, base), 1 + i % 16);
         i += 1;
     }
     to
@@ -74,16 +92,26 @@ fn rows_in(body: &[u8]) -> usize {
     }
 }
 
-fn sheet_in(body: &[u8]) -> Sheet {
+// A card's number among those of 16 cards.
+fn among(card: u32, n: u32) -> [u32; 16] {
+    let mut to = [77u32; 16];
+    if card < 16 {
+        to[card as usize] = n;
+    }
+    to
+}
+
+// A read-out that holds the sheet of a record.
+fn sheet_in(body: &[u8], card: u32) -> Readout {
     let rows = rows_in(body);
-    Sheet {
-        entries: entries_in(body, rows),
-        changes: changes_in(body, rows),
-        session: number(body, 0),
-        card: number(body, 4),
+    let base = number(body, 12);
+    Readout {
+        changes: changes_in(body, rows, card, base),
+        entries: entries_in(body, rows, card, base),
+        sessions: among(card, number(body, 0)),
+        bases: among(card, base),
+        counts: among(card, number(body, 16)),
         cards: number(body, 8),
-        base: number(body, 12),
-        count: number(body, 16),
     }
 }
 
@@ -108,11 +136,11 @@ fn one_if(b: bool) -> u32
     if b { 1 } else { 0 }
 }
 
-// Whether a place is in a row from row `from` on, or in its row from place `beside` on.
-fn outside(i: usize, row: usize, from: usize, beside: usize) -> bool
+// Whether a place, with so many numbers at each place of the ring, is outside a card's frames or in one from `beside` on.
+fn outside(i: usize, row: usize, card: u32, base: u32, count: usize, beside: usize) -> bool
     requires { ⌜ 0 < row ⌝ }
 {
-    if from <= i / row {
+    if count <= frame_at(i / row, card, base) {
         true
     } else {
         beside <= i % row
@@ -120,71 +148,96 @@ fn outside(i: usize, row: usize, from: usize, beside: usize) -> bool
 }
 
 // How many numbers so placed are not 0.
-fn others(s: &[u32], row: usize, from: usize, beside: usize) -> u32
+fn others(s: &[u32], row: usize, card: u32, base: u32, count: usize, beside: usize) -> u32
     requires { ⌜ 0 < row ⌝ }
+    ensures { λ r. ⌜ r < 12289 ⌝ }
 {
     let mut n: u32 = 0;
-    let mut i = 0;
-    while i < 768 {
-        n += one_if(entry(s, i) != 0 && outside(i, row, from, beside));
+    let mut i: usize = 0;
+    while i < 12288 {
+        n += one_if(entry(s, i) != 0 && outside(i, row, card, base, count, beside));
         i += 1;
     }
     n
 }
 
-fn say_row(entries: &[u32], row: usize, n: usize) {
+// How many of all numbers are not 0.
+fn filled(s: &[u32]) -> u32
+    ensures { λ r. ⌜ r < 12289 ⌝ }
+{
+    others(s, 1, 0, 0, 0, 0)
+}
+
+fn say_row(entries: &[u32], place: usize, n: usize) {
     let mut j = 0;
     while j < n {
-        say_number(entry(entries, row % 48 * 16 + j % 16));
+        say_number(entry(entries, place % 768 * 16 + j % 16));
         j += 1;
     }
     say(b"\n");
 }
 
-fn say_sheet(s: Sheet) {
-    let cards = s.cards as usize;
-    let count = s.count as usize;
-    say(b"read");
-    say_number(s.session);
-    say_number(s.card);
-    say_number(s.cards);
-    say_number(s.base);
-    say_number(s.count);
-    say(b"\n");
+fn say_frames<'a>(
+    changes: &'a [u32],
+    entries: &'a [u32],
+    card: u32,
+    cards: usize,
+    base: u32,
+    count: usize,
+) {
     let mut k = 0;
     while k < count {
-        say_number(entry(&s.changes, k));
-        say_row(&s.entries, k, cards);
+        let place = place_of(card, base, k);
+        say_number(entry(changes, place));
+        say_row(entries, place, cards);
         k += 1;
     }
+}
+
+fn say_sheet(r: Readout, card: u32) {
+    let i = card as usize;
+    let cards = r.cards as usize;
+    let base = entry(&r.bases, i);
+    let told = entry(&r.counts, i);
+    let count = told as usize;
+    say(b"read");
+    say_number(entry(&r.sessions, i));
+    say_number(card);
+    say_number(r.cards);
+    say_number(base);
+    say_number(told);
+    say(b"\n");
+    say_frames(&r.changes, &r.entries, card, cards, base, count);
     say(b"beyond");
-    say_number(others(&s.changes, 1, count, 1));
-    say_number(others(&s.entries, 16, count, cards));
+    say_number(others(&r.changes, 1, card, base, count, 1));
+    say_number(others(&r.entries, 16, card, base, count, cards));
     say(b"\n");
 }
 
-// A sheet that was refused: its numbers, and how many others are not 0.
-fn say_none(s: Sheet) {
+// What a refused sheet hands back: the card's numbers and the number of cards, with how many sessions, bases and counts
+// are not 0 in second place, and how many numbers of frames are not.
+fn say_none(r: Readout, card: u32) {
+    let i = card as usize;
     say(b"handed back");
-    say_number(s.session);
-    say_number(s.card);
-    say_number(s.cards);
-    say_number(s.base);
-    say_number(s.count);
-    say_number(others(&s.changes, 1, 0, 0));
-    say_number(others(&s.entries, 16, 0, 0));
+    say_number(entry(&r.sessions, i));
+    say_number(filled(&r.sessions) + filled(&r.bases) + filled(&r.counts));
+    say_number(r.cards);
+    say_number(entry(&r.bases, i));
+    say_number(entry(&r.counts, i));
+    say_number(filled(&r.changes));
+    say_number(filled(&r.entries));
     say(b"\n");
 }
 
 fn read_sheet(s: &[u8], card: u32) {
     let read = sheet_reader::read_sheet(s, card);
     let v = read.verdict;
-    let sheet = read.sheet;
+    let r = read.readout;
     match v {
-        Verdict::Accepted => say_sheet(sheet),
-        Verdict::Refused(r) => {
-            say_refusal(r);
-            say_none(sheet);
+        Verdict::Accepted => say_sheet(r, card),
+        Verdict::Refused(x) => {
+            say_refusal(x);
+            say_none(r, card);
         }
     }
 }
@@ -230,9 +283,9 @@ fn say_written(b: &[u8], n: usize, card: u32) {
 }
 
 // Writes to the first bytes of a buffer.
-fn write_within(s: Sheet, b: &mut [u8], room: usize) -> Written {
+fn write_within(r: Readout, card: u32, b: &mut [u8], room: usize) -> Written {
     if room <= b.len() {
-        write::write_sheet(s, &mut b[0..room])
+        sheet_writer::write_sheet(r, card, &mut b[0..room])
     } else {
         Written::Length(0)
     }
@@ -245,9 +298,9 @@ fn paper() -> [u8; 4096] {
 
 fn write_sheet(body: &[u8], room: usize) {
     let mut b = paper();
-    let s = sheet_in(body);
-    let card = s.card;
-    let w = write_within(s, &mut b, room);
+    let card = number(body, 4);
+    let r = sheet_in(body, card);
+    let w = write_within(r, card, &mut b, room);
     match w {
         Written::Length(n) => say_written(&b, n, card),
         Written::Refused(r) => {

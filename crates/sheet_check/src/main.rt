@@ -3,9 +3,9 @@
 // The records and what is to be printed were made by bench/sheet/cases.py, which reads them by document 01 alone:
 // `python3 bench/sheet/cases.py crates/sheet_check`.
 ghost use Prim.Native.Nat.{_<_};
-use frame::Verdict;
 use libc::STDIN_FILENO;
 use libc::STDOUT_FILENO;
+use refusal::Verdict;
 
 fn wide(b: u8) -> usize
     ensures { λ r. ⌜ r < 256 ⌝ }

@@ -2,38 +2,35 @@
 use Prim.Native.Nat.{ℕ}
 use mathlib.Core.Path.{_≡_, refl, _∙_, ap}
 use mathlib.Core.Bool.{Bool, true, false, cond}
-use mathlib.Core.List.{List, _∷_, _++_}
+use mathlib.Core.List.{List, [], _∷_, _++_}
 use native.Mathlib.Omega.{arith}
 use lib.Dec.{ltb}
 use lib.ListN.{length, set, length-set}
 use borrow.Author.Tests.{le-ltb}
 use Rattle.refusal.specs.declared.Refusal.{Refusal}
 use Rattle.refusal.specs.declared.Refusal.the-variants.{TooLong}
-use Rattle.frame.specs.declared.Verdict.{Verdict}
-use Rattle.frame.specs.declared.Verdict.the-variants.{Accepted, Refused}
-use Rattle.frame.specs.Format.{format}
-use Rattle.line_round.proofs.Round.{format-sound, format-steady}
-use Rattle.sheet.specs.declared.Readout.{Readout}
-use Rattle.sheet.specs.declared.Reading.{Reading}
-use Rattle.sheet.specs.Pages.{pagesBytes, readSheets}
+use Rattle.refusal.specs.declared.Verdict.{Verdict}
+use Rattle.refusal.specs.declared.Verdict.the-variants.{Accepted, Refused}
+use Rattle.frame.specs.Format.{format, formats}
+use Rattle.line_round.proofs.Round.{formats-alike}
+use Rattle.sheet.specs.Pages.{Page, pagesBytes, readSheets}
 use Rattle.sheet.specs.Allowed.{shortBytes}
-use Rattle.sheet.specs.Walk.{noReadout, readingOf}
-use Rattle.sheet.specs.Flat.{noSheet}
-use Rattle.sheet.proofs.Round.{altered-refused}
+use Rattle.sheet.specs.Walk.{noReadout}
+use Rattle.sheet.proofs.Round.{formats-sound, altered-refused}
 use Rattle.sheet.proofs.Short.{first-short, later-short}
-use Rattle.readout.specs.Joint.{lined, readoutOf}
+use Rattle.readout.specs.Joint.{judged, lined, pagesRead, readoutOf}
 use Rattle.sheet_reader.specs.Single.{sheetReadOf}
 use Rattle.sheet_round.specs.Claims.{AlteredSheetRefused, AlteredReadoutRefused, ShortSheetRefused, ShortReadoutRefused, ShortFirstRefused}
-use Rattle.sheet_round.proofs.Sheets.{answer-accepted}
+use Rattle.sheet_round.proofs.Sheets.{verdict-accepted}
 
 -- ---- lines that are refused
 
-lines-refused : (card : ℕ) (input : List ℕ) (r : Refusal) → ltb 65536 (length input) ≡ false → readSheets format false card input .verdict ≡ Refused r → sheetReadOf card input ≡ record { sheet = noSheet; verdict = Refused r }
+lines-refused : (card : ℕ) (input : List ℕ) (r : Refusal) → ltb 65536 (length input) ≡ false → readSheets formats false card input .verdict ≡ Refused r → sheetReadOf card input ≡ record { readout = noReadout; verdict = Refused r }
 unfolding sheetReadOf
 lines-refused card input r l e = rw (l, e)
 
-all-refused : (input : List ℕ) (r : Refusal) → ltb 65536 (length input) ≡ false → readSheets format true 0 input .verdict ≡ Refused r → readoutOf input ≡ record { readout = noReadout; verdict = Refused r }
-unfolding readoutOf readingOf
+all-refused : (input : List ℕ) (r : Refusal) → ltb 65536 (length input) ≡ false → readSheets formats true 0 input .verdict ≡ Refused r → readoutOf input ≡ record { readout = noReadout; verdict = Refused r }
+unfolding pagesRead
 all-refused input r l e = rw (l, e)
 
 -- ---- one altered byte
@@ -41,35 +38,32 @@ all-refused input r l e = rw (l, e)
 pub altered-sheet-refused : AlteredSheetRefused
 unfolding sheetReadOf
 altered-sheet-refused card input p b h o e =
-    let a = answer-accepted (ltb 65536 (length input)) (readSheets format false card input .verdict) (readSheets format false card input .pages) e in
-    let w = altered-refused format format-steady false card input p b h o (a .1) in
+    let a = verdict-accepted (ltb 65536 (length input)) (readSheets formats false card input .verdict) e in
+    let w = altered-refused formats formats-alike false card input p b h o (a .1) in
     (w .0, lines-refused card (set input p b) (w .0) (ap (ltb 65536) (length-set input p b) ∙ a .0) (w .1))
 
 -- an accepted read-out is not too long, and its lines are accepted
-abbrev told : Bool → Verdict → Readout → Reading
-told long v r = cond long (record { readout = noReadout; verdict = Refused TooLong }) (lined v r)
-
-told-accepted : (long : Bool) (v : Verdict) (r : Readout) → told long v r .verdict ≡ Accepted → (long ≡ false) × (v ≡ Accepted)
-told-accepted true v r e = let z : _≡_ {A = ℕ} 0 1 = cc in absurd (omega arith)
-told-accepted false (Refused x) r e = let z : _≡_ {A = ℕ} 0 1 = cc in absurd (omega arith)
-told-accepted false Accepted r e = (refl, refl)
+lined-accepted : (long : Bool) (v : Verdict) (ps : List Page) → cond long (judged (Refused TooLong) []) (lined v ps) .verdict ≡ Accepted → (long ≡ false) × (v ≡ Accepted)
+lined-accepted true v ps e = let z : _≡_ {A = ℕ} 0 1 = cc in absurd (omega arith)
+lined-accepted false (Refused x) ps e = let z : _≡_ {A = ℕ} 0 1 = cc in absurd (omega arith)
+lined-accepted false Accepted ps e = (refl, refl)
 
 pub altered-readout-refused : AlteredReadoutRefused
-unfolding readoutOf readingOf
+unfolding pagesRead
 altered-readout-refused input p b h o e =
-    let a = told-accepted (ltb 65536 (length input)) (readingOf true 0 input .verdict) (readingOf true 0 input .readout) e in
-    let w = altered-refused format format-steady true 0 input p b h o (a .1) in
+    let a = lined-accepted (ltb 65536 (length input)) (readSheets formats true 0 input .verdict) (readSheets formats true 0 input .pages) e in
+    let w = altered-refused formats formats-alike true 0 input p b h o (a .1) in
     (w .0, all-refused (set input p b) (w .0) (ap (ltb 65536) (length-set input p b) ∙ a .0) (w .1))
 
 -- ---- one frame too few
 
 pub short-sheet-refused : ShortSheetRefused
-short-sheet-refused card h frs rest r x l = lines-refused card (shortBytes format h frs rest) r (le-ltb 65536 (length (shortBytes format h frs rest)) l) (first-short format format-sound false card h frs rest r x)
+short-sheet-refused card h frs rest r x l = lines-refused card (shortBytes format h frs rest) r (le-ltb 65536 (length (shortBytes format h frs rest)) l) (first-short formats formats-sound false card h frs rest r x)
 
 pub short-first-refused : ShortFirstRefused
-short-first-refused h frs rest r x l = all-refused (shortBytes format h frs rest) r (le-ltb 65536 (length (shortBytes format h frs rest)) l) (first-short format format-sound true 0 h frs rest r x)
+short-first-refused h frs rest r x l = all-refused (shortBytes format h frs rest) r (le-ltb 65536 (length (shortBytes format h frs rest)) l) (first-short formats formats-sound true 0 h frs rest r x)
 
 pub short-readout-refused : ShortReadoutRefused
 short-readout-refused p ps h frs rest r a more k x l =
-    let input = pagesBytes format (p ∷ ps) ++ shortBytes format h frs rest in
-    all-refused input r (le-ltb 65536 (length input) l) (later-short format format-sound 0 p ps h frs rest r a more k x)
+    let input = pagesBytes formats (p ∷ ps) ++ shortBytes format h frs rest in
+    all-refused input r (le-ltb 65536 (length input) l) (later-short formats formats-sound 0 p ps h frs rest r a more k x)

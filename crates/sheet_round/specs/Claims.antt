@@ -1,72 +1,63 @@
--- What is written of a sheet by value reads back the same, what is read is written again, and what the readers refuse. Statements alone: the proofs are in proofs/Sheets.antt and proofs/Refusals.antt.
-use Prim.Native.Nat.{ℕ, _/_, _%_, _^_, _≤_, _<_, _+_}
+-- What is written of a card's sheet reads back the same, what is read is written again, and what the readers refuse. Statements alone: the proofs are in proofs/Sheets.antt and proofs/Refusals.antt.
+use Prim.Native.Nat.{ℕ, _^_, _≤_, _<_, _+_}
 use mathlib.Core.Path.{_≡_}
-use mathlib.Core.Bool.{_&&_, cond}
-use mathlib.Core.List.{List, _∷_, _++_}
-use lib.Dec.{ltb}
+use mathlib.Core.List.{List, [], _∷_, _++_}
 use lib.ListN.{length, take, getD, set}
 use lib.Seq.{sets}
-use Rattle.laws.specs.Below.{tabulate}
 use Rattle.refusal.specs.declared.Refusal.{Refusal}
-use Rattle.frame.specs.declared.Verdict.the-variants.{Accepted, Refused}
+use Rattle.refusal.specs.declared.Verdict.the-variants.{Accepted, Refused}
 use Rattle.frame.specs.declared.Header.{Header}
 use Rattle.frame.specs.declared.Frame.{Frame}
-use Rattle.frame.specs.Format.{format}
-use Rattle.sheet.specs.declared.Sheet.{Sheet}
+use Rattle.frame.specs.Format.{format, formats}
+use Rattle.sheet.specs.declared.Readout.{Readout}
 use Rattle.sheet.specs.Pages.{Page, pagesBytes}
 use Rattle.sheet.specs.Allowed.{Allowed, AllAllowed, Short, shortBytes}
-use Rattle.sheet.specs.Walk.{noReadout}
-use Rattle.sheet.specs.Flat.{noSheet}
+use Rattle.sheet.specs.Walk.{noReadout, layPages}
+use Rattle.sheet.specs.Ring.{pageOf}
 use Rattle.write.specs.declared.Written.the-variants.{Length}
-use Rattle.write.specs.Write.{wrote}
 use Rattle.readout.specs.Joint.{readoutOf}
 use Rattle.sheet_reader.specs.Single.{sheetReadOf}
+use Rattle.sheet_writer.specs.Single.{wrote}
 
--- a sheet as the code holds one: arrays of 48 and of 768, numbers of 32 bits
-pub record Held (s : Sheet) : Type 0 where
-  pub changes : length (s .changes) ≡ 48
-  pub entries : length (s .entries) ≡ 768
-  pub session : s .session < 16 ^ 8
-  pub numbers : (i : ℕ) → getD (s .changes) i 0 < 16 ^ 8
+-- a read-out as the code holds one: numbers of 32 bits
+pub record Held (r : Readout) : Type 0 where
+  pub sessions : (c : ℕ) → getD (r .sessions) c 0 < 16 ^ 8
+  pub changes : (i : ℕ) → getD (r .changes) i 0 < 16 ^ 8
 
--- places beyond the count and the number of cards made 0; the rest as it was
-abbrev pub cleaned : Sheet → Sheet
-cleaned s =
-    record {
-      entries = tabulate 768 (λ i. cond (ltb (i / 16) (s .count) && ltb (i % 16) (s .cards)) (getD (s .entries) i 0) 0);
-      changes = tabulate 48 (λ i. cond (ltb i (s .count)) (getD (s .changes) i 0) 0);
-      session = s .session;
-      card = s .card;
-      cards = s .cards;
-      base = s .base;
-      count = s .count;
-    }
+-- card c's sheet alone: every place that is not looked at, for it or for another card, made 0
+abbrev pub alone : Readout → ℕ → Readout
+alone r c = layPages (pageOf r c ∷ []) noReadout
 
--- What the writer wrote of a sheet reads back, told its card, as that sheet, places that were not looked at as 0.
+-- What the writer wrote of a card's sheet reads back, told that card, as a read-out that holds that sheet alone.
 abbrev pub WrittenReadsBack : Type 0
 WrittenReadsBack =
-    (s : Sheet) → Held s → (buffer : List ℕ) (n : ℕ) → wrote s buffer .answer ≡ Length n → sheetReadOf (s .card) (take n (wrote s buffer .buffer)) ≡ record { sheet = cleaned s; verdict = Accepted }
+    (r : Readout) → Held r → (c : ℕ) (buffer : List ℕ) (n : ℕ) → wrote (pageOf r c) buffer .answer ≡ Length n → sheetReadOf c (take n (wrote (pageOf r c) buffer .buffer)) ≡ record { readout = alone r c; verdict = Accepted }
 
--- The very same sheet, where those places are 0.
+-- Its sheet of that card is the very sheet that was written, header and frames.
+abbrev pub PageReadsBack : Type 0
+PageReadsBack =
+    (r : Readout) → Held r → (c : ℕ) (buffer : List ℕ) (n : ℕ) → wrote (pageOf r c) buffer .answer ≡ Length n → pageOf (sheetReadOf c (take n (wrote (pageOf r c) buffer .buffer)) .readout) c ≡ pageOf r c
+
+-- The very same read-out, where it holds that sheet alone.
 abbrev pub SameReadsBack : Type 0
 SameReadsBack =
-    (s : Sheet) → Held s → cleaned s ≡ s → (buffer : List ℕ) (n : ℕ) → wrote s buffer .answer ≡ Length n → sheetReadOf (s .card) (take n (wrote s buffer .buffer)) ≡ record { sheet = s; verdict = Accepted }
+    (r : Readout) → Held r → (c : ℕ) → alone r c ≡ r → (buffer : List ℕ) (n : ℕ) → wrote (pageOf r c) buffer .answer ≡ Length n → sheetReadOf c (take n (wrote (pageOf r c) buffer .buffer)) ≡ record { readout = r; verdict = Accepted }
 
--- Bytes that the reader accepts are the very bytes that the writer makes of the sheet answered.
+-- Bytes that the reader accepts are the very bytes that the writer makes of the read-out answered.
 abbrev pub ReadWritesAgain : Type 0
 ReadWritesAgain =
-    (card : ℕ) (input : List ℕ) → sheetReadOf card input .verdict ≡ Accepted → (buffer : List ℕ) → length input ≤ length buffer → wrote (sheetReadOf card input .sheet) buffer ≡ record { answer = Length (length input); buffer = sets buffer 0 input }
+    (card : ℕ) (input : List ℕ) → sheetReadOf card input .verdict ≡ Accepted → (buffer : List ℕ) → length input ≤ length buffer → wrote (pageOf (sheetReadOf card input .readout) card) buffer ≡ record { answer = Length (length input); buffer = sets buffer 0 input }
 
--- The sheet answered is as the code holds one, and places beyond its count and number of cards are 0.
-abbrev pub ReadIsClean : Type 0
-ReadIsClean = (card : ℕ) (input : List ℕ) → sheetReadOf card input .verdict ≡ Accepted → Held (sheetReadOf card input .sheet) × (cleaned (sheetReadOf card input .sheet) ≡ sheetReadOf card input .sheet)
+-- The read-out answered is as the code holds one, and holds that sheet alone.
+abbrev pub ReadIsAlone : Type 0
+ReadIsAlone = (card : ℕ) (input : List ℕ) → sheetReadOf card input .verdict ≡ Accepted → Held (sheetReadOf card input .readout) × (alone (sheetReadOf card input .readout) card ≡ sheetReadOf card input .readout)
 
 -- ---- what is refused
 
--- One altered byte in an accepted sheet is refused, whichever byte, whatever it becomes, and the sheet of zeros is handed back.
+-- One altered byte in an accepted sheet is refused, whichever byte, whatever it becomes, and the read-out of zeros is handed back.
 abbrev pub AlteredSheetRefused : Type 0
 AlteredSheetRefused =
-    (card : ℕ) (input : List ℕ) (p b : ℕ) → p < length input → (b ≡ getD input p 0 → ⊥) → sheetReadOf card input .verdict ≡ Accepted → (r : Refusal) × (sheetReadOf card (set input p b) ≡ record { sheet = noSheet; verdict = Refused r })
+    (card : ℕ) (input : List ℕ) (p b : ℕ) → p < length input → (b ≡ getD input p 0 → ⊥) → sheetReadOf card input .verdict ≡ Accepted → (r : Refusal) × (sheetReadOf card (set input p b) ≡ record { readout = noReadout; verdict = Refused r })
 
 -- So is one in an accepted read-out.
 abbrev pub AlteredReadoutRefused : Type 0
@@ -76,7 +67,7 @@ AlteredReadoutRefused =
 -- A sheet that declares one frame more than it has is refused by what stands where that frame is due, and nothing of the sheet is answered.
 abbrev pub ShortSheetRefused : Type 0
 ShortSheetRefused =
-    (card : ℕ) (h : Header) (frs : List Frame) (rest : List ℕ) (r : Refusal) → Short format card 0 h frs rest r → length (shortBytes format h frs rest) ≤ 65536 → sheetReadOf card (shortBytes format h frs rest) ≡ record { sheet = noSheet; verdict = Refused r }
+    (card : ℕ) (h : Header) (frs : List Frame) (rest : List ℕ) (r : Refusal) → Short format card 0 h frs rest r → length (shortBytes format h frs rest) ≤ 65536 → sheetReadOf card (shortBytes format h frs rest) ≡ record { readout = noReadout; verdict = Refused r }
 
 -- So is a read-out whose first sheet is so short.
 abbrev pub ShortFirstRefused : Type 0
@@ -88,8 +79,8 @@ abbrev pub ShortReadoutRefused : Type 0
 ShortReadoutRefused =
     (p : Page) (ps : List Page) (h : Header) (frs : List Frame) (rest : List ℕ) (r : Refusal) →
     Allowed format 0 0 p →
-    AllAllowed format 1 (p .header .cards) ps →
+    AllAllowed formats 1 (p .header .cards) ps →
     length ps + 1 < p .header .cards →
     Short format (1 + length ps) (p .header .cards) h frs rest r →
-    length (pagesBytes format (p ∷ ps) ++ shortBytes format h frs rest) ≤ 65536 →
-    readoutOf (pagesBytes format (p ∷ ps) ++ shortBytes format h frs rest) ≡ record { readout = noReadout; verdict = Refused r }
+    length (pagesBytes formats (p ∷ ps) ++ shortBytes format h frs rest) ≤ 65536 →
+    readoutOf (pagesBytes formats (p ∷ ps) ++ shortBytes format h frs rest) ≡ record { readout = noReadout; verdict = Refused r }

@@ -22,7 +22,8 @@ use Rattle.protocol.specs.Sound.{frameSound, risesSound, framesSound, entriesSo
 use Rattle.verdicts.specs.declared.Head.{Head}
 use Rattle.verdicts.specs.declared.Vector.{Vector}
 use Rattle.verdicts.specs.declared.Place.{Place}
-use Rattle.verdicts.specs.Shape.{limits16, phaseOf, at, presentOf, vectorAt, ring, ringMaker, ringFrame, cut, numbersOf, partOf, inHand, makerInHand, frameInHand, openOf, modelOf, thereSound}
+use Rattle.verdicts.specs.declared.Core.{Core}
+use Rattle.verdicts.specs.Shape.{limits16, phaseOf, at, presentOf, vectorAt, ring, ringMaker, ringFrame, cut, numbersOf, partOf, inHand, makerInHand, frameInHand, openOf, numbersModel, modelOf, thereSound}
 use Rattle.verdicts.proofs.Limits.{width16}
 use Rattle.verdicts.proofs.Cards.{strays-within}
 use Rattle.limits.proofs.Tests.{entries-absent}
@@ -118,26 +119,26 @@ card-flags h c n last pending a b w there en ea eb ew =
     ap₂ (λ (x y : Bool). x && y) (ap₂ (λ (x y : Bool). x && y) (ea ∙ seen (at last)) (eb ∙ seen (at pending))) (ap (λ (x : Bool). not (presentOf (h .cards) c) || x) ew)
 
 -- what the check of a card says of its elements is what the definition says of the card
-pub card-whole : (entries makers : List ℕ) (last pending : List Vector) (base stored kept reached line : List ℕ) (h : Head) (c : ℕ)
+pub card-whole : (entries makers : List ℕ) (s : Core) (c : ℕ)
     → c < 16
-    → entriesSound limits16 (λ j. presentOf (h .cards) c && presentOf (h .cards) j) (vectorAt last c) && entriesSound limits16 (λ j. presentOf (h .cards) c && presentOf (h .cards) j) (vectorAt pending c)
-    && (not (presentOf (h .cards) c) || thereSound (partOf (h .cards) (phaseOf (h .phase)) (numbersOf (at base c) (at stored c) (at kept c) (at reached c)) (ring entries makers) (at line c)) c)
-    ≡ cardSound limits16 (modelOf entries makers last pending [] base stored kept reached line [] 0 h) c
-card-whole entries makers last pending base stored kept reached line h c b16 =
-    ap (λ (x : Bool). entriesSound limits16 (λ j. presentOf (h .cards) c && presentOf (h .cards) j) (vectorAt last c) && entriesSound limits16 (λ j. presentOf (h .cards) c && presentOf (h .cards) j) (vectorAt pending c)
-    && (not (presentOf (h .cards) c) || (numbersSound limits16 (numbersOf (at base c) (at stored c) (at kept c) (at reached c)) c && lineSound (partOf (h .cards) (phaseOf (h .phase)) (numbersOf (at base c) (at stored c) (at kept c) (at reached c)) (ring entries makers) (at line c)) c && x)))
-    (sym (frames-in-hand entries makers base reached last pending (h .cards) c b16))
+    → entriesSound limits16 (λ j. presentOf (s .head .cards) c && presentOf (s .head .cards) j) (vectorAt (s .last) c) && entriesSound limits16 (λ j. presentOf (s .head .cards) c && presentOf (s .head .cards) j) (vectorAt (s .pending) c)
+    && (not (presentOf (s .head .cards) c) || thereSound (partOf (s .head .cards) (phaseOf (s .head .phase)) (numbersOf (at (s .base) c) (at (s .stored) c) (at (s .held) c) (at (s .reached) c)) (ring entries makers) (at (s .line) c)) c)
+    ≡ cardSound limits16 (modelOf entries makers s) c
+card-whole entries makers s c b16 =
+    ap (λ (x : Bool). entriesSound limits16 (λ j. presentOf (s .head .cards) c && presentOf (s .head .cards) j) (vectorAt (s .last) c) && entriesSound limits16 (λ j. presentOf (s .head .cards) c && presentOf (s .head .cards) j) (vectorAt (s .pending) c)
+    && (not (presentOf (s .head .cards) c) || (numbersSound limits16 (numbersOf (at (s .base) c) (at (s .stored) c) (at (s .held) c) (at (s .reached) c)) c && lineSound (partOf (s .head .cards) (phaseOf (s .head .phase)) (numbersOf (at (s .base) c) (at (s .stored) c) (at (s .held) c) (at (s .reached) c)) (ring entries makers) (at (s .line) c)) c && x)))
+    (sym (frames-in-hand entries makers (s .base) (s .reached) (s .last) (s .pending) (s .head .cards) c b16))
 
 -- what is looked at of an open change
 abbrev openSound : (o : Place) (base reached : List ℕ) → Head → Bool
 openSound o base reached h =
-    not (strays limits16 (modelOf [] [] [] [] [] base [] [] reached [] [] 0 h) (either (member (o .reads)) (member (o .writes))))
+    not (strays limits16 (numbersModel h base [] [] reached) (either (member (o .reads)) (member (o .writes))))
     && allBelow (limits16 .width) (λ c. not (toWrite (openOf o) c) || roomToWrite limits16 (numbersOf (at base c) 0 0 (at reached c)) 0)
     && entriesSound limits16 (presentOf (h .cards)) (at (o .vector))
 
 -- a free place is sound
 pub place-free : (o : Place) (base reached : List ℕ) (h : Head) → o .number ≡ 0
-    → true ≡ placeSound limits16 (modelOf [] [] [] [] [] base [] [] reached [] [] 0 h) (openOf o)
+    → true ≡ placeSound limits16 (numbersModel h base [] [] reached) (openOf o)
 place-free o base reached h z =
     sym (ap (λ (b : Bool). not (not b) || openSound o base reached h) (eq-eqb (o .number) 0 z))
 
@@ -148,10 +149,10 @@ pub place-whole : (o : Place) (base reached : List ℕ) (h : Head) (touched : �
     → i ≡ subset 16 (member touched) (below (h .cards))
     → f ≡ allBelow (limits16 .width) (λ c. not (toWrite (openOf o) c) || roomToWrite limits16 (numbersOf (at base c) 0 0 (at reached c)) 0)
     → e ≡ entriesSound limits16 (presentOf (h .cards)) (at (o .vector))
-    → i && f && e ≡ placeSound limits16 (modelOf [] [] [] [] [] base [] [] reached [] [] 0 h) (openOf o)
+    → i && f && e ≡ placeSound limits16 (numbersModel h base [] [] reached) (openOf o)
 place-whole o base reached h touched i f e full et ei ef ee =
     let s : CardSet = either (member (o .reads)) (member (o .writes)) in
-    let inside : i ≡ not (strays limits16 (modelOf [] [] [] [] [] base [] [] reached [] [] 0 h) s) =
+    let inside : i ≡ not (strays limits16 (numbersModel h base [] [] reached) s) =
     ei ∙ ap (λ (p : CardSet). subset 16 p (below (h .cards))) et ∙ sym (strays-within 16 (h .cards) s)
     ∙ ap (λ (w : ℕ). not (anyBelow w (λ c. s c && not (presentOf (h .cards) c)))) (sym width16) in
     ap₂ (λ (x y : Bool). x && y) (ap₂ (λ (x y : Bool). x && y) inside ef) ee

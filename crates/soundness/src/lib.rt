@@ -9,11 +9,11 @@ ghost use Rattle.laws.specs.Below.{allBelow};
 ghost use Rattle.bits.specs.Member.{member};
 ghost use Rattle.protocol.specs.Model.{toWrite, up};
 ghost use Rattle.protocol.specs.Sound.{entriesSound, frameSound, risesSound, framesSound, lineSound, cardSound, roomToWrite, placeSound, sound};
-ghost use Rattle.verdicts.specs.Shape.{limits16, phaseOf, at, presentOf, ring, ringFrame, ringPlace, numbersOf, openOf, openAt, partOf, modelOf, thereSound};
+ghost use Rattle.verdicts.specs.Shape.{limits16, phaseOf, at, presentOf, ring, ringFrame, ringPlace, numbersOf, openOf, openAt, partOf, numbersModel, modelOf, thereSound};
+use verdicts::Core;
 use verdicts::Head;
 use verdicts::Phase;
 use verdicts::Place;
-use verdicts::Vector;
 use verdicts::is_rolling;
 
 // The same of the vector of a frame.
@@ -180,20 +180,17 @@ fn card_sound<'a>(
     lasts & pendings & (!there | whole)
 }
 
-fn all_cards_sound<'a>(
-    entries: &'a [u32; 12288],
-    makers: &'a [u32; 768],
-    last: [Vector; 16],
-    pending: [Vector; 16],
-    base: [u32; 16],
-    stored: [u32; 16],
-    held: [u32; 16],
-    reached: [u32; 16],
-    line: [u32; 16],
-    head: Head,
-) -> bool
-    ensures { λ r. ⌜ r ≡ allBelow (limits16 .width) (cardSound limits16 (modelOf (now (entries .entry)) (now (makers .entry)) last pending [] base stored held reached line [] 0 head)) ⌝ }
+fn all_cards_sound<'a>(entries: &'a [u32; 12288], makers: &'a [u32; 768], core: Core) -> bool
+    ensures { λ r. ⌜ r ≡ allBelow (limits16 .width) (cardSound limits16 (modelOf (now (entries .entry)) (now (makers .entry)) core)) ⌝ }
 {
+    let last = core.last;
+    let pending = core.pending;
+    let base = core.base;
+    let stored = core.stored;
+    let held = core.held;
+    let reached = core.reached;
+    let line = core.line;
+    let head = core.head;
     let mut ok = true;
     let mut c: usize = 0;
     while c < 16 {
@@ -237,7 +234,7 @@ fn writes_fit(o: Place, base: [u32; 16], reached: [u32; 16]) -> bool
 
 // An open change "that touches an absent card or has yet to write a card at base + 48 or 60,000", or whose vector is outside the limits, is not. A free place is.
 pub fn place_sound(o: Place, base: [u32; 16], reached: [u32; 16], head: Head) -> bool
-    ensures { λ r. ⌜ r ≡ placeSound limits16 (modelOf [] [] [] [] [] base [] [] reached [] [] 0 head) (openOf o) ⌝ }
+    ensures { λ r. ⌜ r ≡ placeSound limits16 (numbersModel head base [] [] reached) (openOf o) ⌝ }
 {
     if o.number == 0 {
         return true;
@@ -252,7 +249,7 @@ pub fn place_sound(o: Place, base: [u32; 16], reached: [u32; 16], head: Head) ->
 }
 
 fn all_places_sound(places: [Place; 8], base: [u32; 16], reached: [u32; 16], head: Head) -> bool
-    ensures { λ r. ⌜ r ≡ allBelow (limits16 .places) (λ p. placeSound limits16 (modelOf [] [] [] [] [] base [] [] reached [] [] 0 head) (openAt places p)) ⌝ }
+    ensures { λ r. ⌜ r ≡ allBelow (limits16 .places) (λ p. placeSound limits16 (numbersModel head base [] [] reached) (openAt places p)) ⌝ }
 {
     let mut ok = true;
     let mut p: usize = 0;
@@ -265,35 +262,16 @@ fn all_places_sound(places: [Place; 8], base: [u32; 16], reached: [u32; 16], hea
 }
 
 // A cabinet that is not refused with 28.
-pub fn cabinet_sound<'a>(
-    entries: &'a [u32; 12288],
-    makers: &'a [u32; 768],
-    last: [Vector; 16],
-    pending: [Vector; 16],
-    places: [Place; 8],
-    base: [u32; 16],
-    stored: [u32; 16],
-    held: [u32; 16],
-    reached: [u32; 16],
-    line: [u32; 16],
-    head: Head,
-) -> bool
-    ensures { λ r. ⌜ r ≡ sound limits16 (modelOf (now (entries .entry)) (now (makers .entry)) last pending places base stored held reached line [] 0 head) ⌝ }
+pub fn cabinet_sound<'a>(entries: &'a [u32; 12288], makers: &'a [u32; 768], core: Core) -> bool
+    ensures { λ r. ⌜ r ≡ sound limits16 (modelOf (now (entries .entry)) (now (makers .entry)) core) ⌝ }
 {
+    let places = core.places;
+    let base = core.base;
+    let reached = core.reached;
+    let head = core.head;
     let session = limits::session_sound(head);
     let number = limits::cards_sound(head);
-    let cards = all_cards_sound(
-        entries,
-        makers,
-        last,
-        pending,
-        base,
-        stored,
-        held,
-        reached,
-        line,
-        head,
-    );
+    let cards = all_cards_sound(entries, makers, core);
     let open = all_places_sound(places, base, reached, head);
     session & number & cards & open
 }

@@ -1,23 +1,27 @@
 -- One merge over the sheets' frames finds a change with two vectors on two sheets, where the change numbers rise. Assumes nothing.
 use Prim.Native.Nat.{ℕ, suc, _+_, _*_, _-_, _%_, _≤_, _<_}
 use mathlib.Core.Path.{_≡_, refl, sym, _∙_, ap, ap₂, subst}
-use mathlib.Core.Bool.{Bool, true, false, not, cond}
+use mathlib.Core.Bool.{Bool, true, false, not, _&&_, cond}
 use mathlib.Core.List.{List, []}
 use mathlib.Core.Logic.{by-cases}
 use native.Mathlib.Decide.{decLt, ℕ-discrete}
 use native.Mathlib.Omega.{arith}
 use lib.Dec.{eqb, ltb}
-use lib.ListN.{getD}
+use lib.ListN.{length, getD}
 use borrow.Author.Tests.{lt-ltb, le-ltb, eq-eqb, eqb-true, ltb-true}
-use Rattle.laws.specs.Below.{anyBelow}
+use Rattle.laws.specs.Below.{anyBelow, tabulate}
 use Rattle.laws.proofs.Logic.{test, clash, fails, and-intro, and-left, and-right, not-true, not-intro, cond-true, cond-false}
-use Rattle.laws.proofs.Below.{Found, all-at, all-intro, any-intro, any-elim, first-below, first-passes}
-use Rattle.laws.proofs.Fill.{getD-tabulate}
+use Rattle.laws.proofs.Below.{Found, all-at, all-intro, all-same, any-intro, any-elim, first-below, first-passes}
+use Rattle.laws.proofs.Fill.{length-tabulate, getD-tabulate}
 use Rattle.merge.specs.Merge.{at, maker, headNumbers, leastOf, allPast, Rises, cardAhead, ahead, NextOf, Passed}
 use Rattle.merge.proofs.Walk.{head-is, head-at, walk-start, walk-next, walk-past, walk-low}
-use Rattle.sheet.specs.Walk.{frameAt}
-use Rattle.two_vectors.specs.Vectors.{differ, differsIn, twoVectors}
+use Rattle.sheet.specs.declared.Readout.{Readout}
+use Rattle.sheet.specs.Walk.{placeOf}
+use Rattle.sheet.specs.Ring.{pageOf, pagesOf}
+use Rattle.sheet.proofs.Whole.{count-on, frame-on}
+use Rattle.two_vectors.specs.Vectors.{frameOn, differ, twoVectors}
 use Rattle.two_vectors.specs.Heads.{endsOf, headPlace, sameEntries, headDiffers, firstWith, headsDiffer, listsRead}
+use Rattle.two_vectors.proofs.Paged.{two-some, two-none}
 
 -- ---- vectors that are the same
 same-self : (entries : List ℕ) (n p : ℕ) → sameEntries entries n p p ≡ true
@@ -105,30 +109,46 @@ module _ (entries heads passed : List ℕ) (n k : ℕ) where
                   (λ (z : c ≡ firstWith heads k). clash (subst (λ (x : ℕ). sameEntries entries n (place x) (place first) ≡ true) (sym z) (same-self entries n (place first))) d)
                   (λ (z : ¬ (c ≡ firstWith heads k)). record { i = firstWith heads k; j = c; i-card = l; j-card = h; i-head = f-head; j-head = g; less = omega (arith, u, z); differs = fails (sameEntries entries n (place first) (place c)) (λ (s : sameEntries entries n (place first) (place c) ≡ true). clash (same-back entries n (place first) (place c) s) d) }))
 
--- ---- the definition, taken apart
-none-any : (n : ℕ) (p : ℕ → Bool) → ((k : ℕ) → k < n → p k ≡ false) → anyBelow n p ≡ false
-none-any n p f = fails (anyBelow n p) (λ (t : anyBelow n p ≡ true). let q : Found n p = any-elim n p t in clash (q .2) (f (q .0) (q .1)))
-
+-- ---- the definition, by the places of the frames
 module _ (changes entries bases counts : List ℕ) (n : ℕ) where
-  abbrev pairDiffers : ℕ → ℕ → ℕ → ℕ → Bool
-  pairDiffers i j a b = differ changes entries n (frameAt i (at bases i) a) (frameAt j (at bases j) b)
+  abbrev out : Readout
+  out = listsRead changes entries [] bases counts n
 
-  two-some : (i j a b : ℕ) → i < n → j < i → a < at counts i → b < at counts j → pairDiffers i j a b ≡ true → true ≡ twoVectors (listsRead changes entries [] bases counts) n
-  unfolding twoVectors
-  two-some i j a b hi hj ha hb e =
-      sym (any-intro n (λ i. anyBelow i (λ j. anyBelow (at counts i) (λ a. differsIn changes entries n (frameAt i (at bases i) a) j (at bases j) (at counts j)))) i hi
-      (any-intro i (λ j. anyBelow (at counts i) (λ a. differsIn changes entries n (frameAt i (at bases i) a) j (at bases j) (at counts j))) j hj
-      (any-intro (at counts i) (λ a. differsIn changes entries n (frameAt i (at bases i) a) j (at bases j) (at counts j)) a ha
-      (any-intro (at counts j) (λ b. differ changes entries n (frameAt i (at bases i) a) (frameAt j (at bases j) b)) b hb e))))
+  -- the frames at two places have one change and two vectors
+  abbrev placesDiffer : ℕ → ℕ → Bool
+  placesDiffer p q = eqb (getD changes p 0) (getD changes q 0) && not (sameEntries entries n p q)
 
-  two-none : ((i j a b : ℕ) → i < n → j < i → a < at counts i → b < at counts j → pairDiffers i j a b ≡ false) → false ≡ twoVectors (listsRead changes entries [] bases counts) n
-  unfolding twoVectors
-  two-none f =
-      sym (none-any n (λ i. anyBelow i (λ j. anyBelow (at counts i) (λ a. differsIn changes entries n (frameAt i (at bases i) a) j (at bases j) (at counts j))))
-      (λ i hi. none-any i (λ j. anyBelow (at counts i) (λ a. differsIn changes entries n (frameAt i (at bases i) a) j (at bases j) (at counts j)))
-      (λ j hj. none-any (at counts i) (λ a. differsIn changes entries n (frameAt i (at bases i) a) j (at bases j) (at counts j))
-      (λ a ha. none-any (at counts j) (λ b. differ changes entries n (frameAt i (at bases i) a) (frameAt j (at bases j) b))
-      (λ b hb. f i j a b hi hj ha hb)))))
+  -- the place of frame a of card i
+  abbrev ring-at : ℕ → ℕ → ℕ
+  ring-at i a = placeOf i (suc (at bases i + a))
+
+  pages-count : length (pagesOf out) ≡ n
+  pages-count = length-tabulate n (pageOf out)
+
+  differ-on : (i j a b : ℕ) → i < n → j < n → a < at counts i → b < at counts j → differ (length (pagesOf out)) (frameOn (pagesOf out) i a) (frameOn (pagesOf out) j b) ≡ placesDiffer (ring-at i a) (ring-at j b)
+  differ-on i j a b hi hj ha hb =
+      rw (pages-count, frame-on out i hi a ha, frame-on out j hj b hb)
+      (ap (λ (t : Bool). eqb (getD changes (ring-at i a) 0) (getD changes (ring-at j b) 0) && not t)
+      (all-same n (λ k. eqb (getD (row i a) k 0) (getD (row j b) k 0)) (λ k. eqb (getD entries (ring-at i a * 16 + k) 0) (getD entries (ring-at j b * 16 + k) 0))
+      (λ k h. ap₂ eqb (getD-tabulate n (λ k. getD entries (ring-at i a * 16 + k) 0) 0 k h) (getD-tabulate n (λ k. getD entries (ring-at j b * 16 + k) 0) 0 k h))))
+    where
+      row : ℕ → ℕ → List ℕ
+      row i a = tabulate n (λ k. getD entries (ring-at i a * 16 + k) 0)
+
+  ring-some : (i j a b : ℕ) → i < n → j < i → a < at counts i → b < at counts j → placesDiffer (ring-at i a) (ring-at j b) ≡ true → true ≡ twoVectors (pagesOf out)
+  ring-some i j a b hi hj ha hb e =
+      let lj : j < n = omega arith in
+      sym (two-some (pagesOf out) i j a b (rw pages-count hi) hj (rw (count-on out i hi) ha) (rw (count-on out j lj) hb) (differ-on i j a b hi lj ha hb ∙ e))
+
+  ring-none : ((i j a b : ℕ) → i < n → j < i → a < at counts i → b < at counts j → placesDiffer (ring-at i a) (ring-at j b) ≡ false) → false ≡ twoVectors (pagesOf out)
+  ring-none f =
+      sym (two-none (pagesOf out)
+      (λ i j a b hi hj ha hb.
+      let li : i < n = rw pages-count at hi in
+      let lj : j < n = omega arith in
+      let la : a < at counts i = rw (count-on out i li) at ha in
+      let lb : b < at counts j = rw (count-on out j lj) at hb in
+      differ-on i j a b li lj la lb ∙ f i j a b li hj la lb))
 
 -- ---- what was met: frames of one number up to k have one vector
 pub record Agreed (changes entries bases ends : List ℕ) (n k : ℕ) : Type 0 where
@@ -215,33 +235,33 @@ module _ (changes entries bases ends : List ℕ) (n : ℕ) (r : Rises changes ba
           test (ltb i n) (λ t. (ltb-true i n t, end-at i h ∙ cond-true (at bases i + at counts i) 0 t))
           (λ t. let z : at ends i ≡ 0 = end-at i h ∙ cond-false (at bases i + at counts i) 0 t in absurd (omega arith))
 
-      two-here : Two entries heads passed n x → true ≡ twoVectors (listsRead changes entries [] bases counts) n
+      two-here : Two entries heads passed n x → true ≡ twoVectors (pagesOf (listsRead changes entries [] bases counts n))
       two-here w = found (w .i) (w .j) (w .i-card) (w .j-card) (head-there (w .i) (w .i-card) (w .i-head)) (head-there (w .j) (w .j-card) (w .j-head)) (w .less) (w .differs)
         where
           found : (i j : ℕ) → i < 16 → j < 16 → (at passed i < at ends i) × (maker changes i (suc (at passed i)) ≡ x) → (at passed j < at ends j) × (maker changes j (suc (at passed j)) ≡ x) → j < i
-              → sameEntries entries n (headPlace i (at passed i)) (headPlace j (at passed j)) ≡ false → true ≡ twoVectors (listsRead changes entries [] bases counts) n
+              → sameEntries entries n (headPlace i (at passed i)) (headPlace j (at passed j)) ≡ false → true ≡ twoVectors (pagesOf (listsRead changes entries [] bases counts n))
           found i j hi hj pi pj l d =
               let ti : (i < n) × (at ends i ≡ at bases i + at counts i) = there i hi (pi .0) in
               let tj : (j < n) × (at ends j ≡ at bases j + at counts j) = there j hj (pj .0) in
               let bi : at bases i ≤ at passed i = s .walked .card i hi .begun in
               let bj : at bases j ≤ at passed j = s .walked .card j hj .begun in
-              let si : at bases i + 1 + (at passed i - at bases i) ≡ suc (at passed i) = omega arith in
-              let sj : at bases j + 1 + (at passed j - at bases j) ≡ suc (at passed j) = omega arith in
+              let si : suc (at bases i + (at passed i - at bases i)) ≡ suc (at passed i) = omega arith in
+              let sj : suc (at bases j + (at passed j - at bases j)) ≡ suc (at passed j) = omega arith in
               let li : at passed i < at ends i = pi .0 in
               let lj : at passed j < at ends j = pj .0 in
               let qi : at ends i ≡ at bases i + at counts i = ti .1 in
               let qj : at ends j ≡ at bases j + at counts j = tj .1 in
-              let e : differ changes entries n (i * 48 + suc (at passed i) % 48) (j * 48 + suc (at passed j) % 48) ≡ true =
+              let e : placesDiffer changes entries bases counts n (headPlace i (at passed i)) (headPlace j (at passed j)) ≡ true =
               and-intro (eq-eqb (maker changes i (suc (at passed i))) (maker changes j (suc (at passed j))) (pi .1 ∙ sym (pj .1))) (not-intro d) in
-              two-some changes entries bases counts n i j (at passed i - at bases i) (at passed j - at bases j) (ti .0) l (omega arith) (omega arith)
-              (ap₂ (λ (a b : ℕ). differ changes entries n (i * 48 + a % 48) (j * 48 + b % 48)) si sj ∙ e)
+              ring-some changes entries bases counts n i j (at passed i - at bases i) (at passed j - at bases j) (ti .0) l (omega arith) (omega arith)
+              (ap₂ (λ (a b : ℕ). placesDiffer changes entries bases counts n (placeOf i a) (placeOf j b)) si sj ∙ e)
 
-      pub looked-found : {t : Bool} → t ≡ headsDiffer entries heads passed n x → t ≡ true → true ≡ twoVectors (listsRead changes entries [] bases counts) n
+      pub looked-found : {t : Bool} → t ≡ headsDiffer entries heads passed n x → t ≡ true → true ≡ twoVectors (pagesOf (listsRead changes entries [] bases counts n))
       looked-found d f = two-here (heads-two entries heads passed n x (sym d ∙ f))
 
   -- nothing is left: each pair has one vector
-  pub looked-done : {passed heads : List ℕ} {k x : ℕ} → Looked changes entries bases ends n passed heads k x → x ≤ k → (counts : List ℕ) → ends ≡ endsOf bases counts n → n ≤ 16 → false ≡ twoVectors (listsRead changes entries [] bases counts) n
-  looked-done {passed} {heads} {k} {x} s l counts es few = two-none changes entries bases counts n each
+  pub looked-done : {passed heads : List ℕ} {k x : ℕ} → Looked changes entries bases ends n passed heads k x → x ≤ k → (counts : List ℕ) → ends ≡ endsOf bases counts n → n ≤ 16 → false ≡ twoVectors (pagesOf (listsRead changes entries [] bases counts n))
+  looked-done {passed} {heads} {k} {x} s l counts es few = ring-none changes entries bases counts n each
     where
       none : x ≡ 0
       none = by-cases (ℕ-discrete x 0) (λ (z : x ≡ 0). z) (λ (z : ¬ (x ≡ 0)). let u : k < x = s .next .above z in absurd (omega arith))
@@ -255,14 +275,15 @@ module _ (changes entries bases ends : List ℕ) (n : ℕ) (r : Rises changes ba
       end-at i h =
           ap (λ (m : List ℕ). at m i) es ∙ getD-tabulate 16 (λ c. cond (ltb c n) (at bases c + at counts c) 0) 0 i (omega arith) ∙ cond-true (at bases i + at counts i) 0 (lt-ltb i n h)
 
-      each : (i j a b : ℕ) → i < n → j < i → a < at counts i → b < at counts j → differ changes entries n (frameAt i (at bases i) a) (frameAt j (at bases j) b) ≡ false
+      each : (i j a b : ℕ) → i < n → j < i → a < at counts i → b < at counts j → placesDiffer changes entries bases counts n (placeOf i (suc (at bases i + a))) (placeOf j (suc (at bases j + b))) ≡ false
       each i j a b hi hj ha hb =
-          fails (differ changes entries n (frameAt i (at bases i) a) (frameAt j (at bases j) b))
-          (λ (t : differ changes entries n (frameAt i (at bases i) a) (frameAt j (at bases j) b) ≡ true).
+          let x : ℕ = suc (at bases i + a) in
+          let y : ℕ = suc (at bases j + b) in
+          let same : Bool = sameEntries entries n (placeOf i x) (placeOf j y) in
+          fails (eqb (maker changes i x) (maker changes j y) && not same)
+          (λ (t : eqb (maker changes i x) (maker changes j y) && not same ≡ true).
           let ei : at ends i ≡ at bases i + at counts i = end-at i hi in
           let ej : at ends j ≡ at bases j + at counts j = end-at j (omega arith) in
-          let q : maker changes i (at bases i + 1 + a) ≡ maker changes j (at bases j + 1 + b) =
-          eqb-true (maker changes i (at bases i + 1 + a)) (maker changes j (at bases j + 1 + b)) (and-left (eqb (maker changes i (at bases i + 1 + a)) (maker changes j (at bases j + 1 + b))) (not (sameEntries entries n (frameAt i (at bases i) a) (frameAt j (at bases j) b))) t) in
-          let d : sameEntries entries n (frameAt i (at bases i) a) (frameAt j (at bases j) b) ≡ false =
-          not-true (sameEntries entries n (frameAt i (at bases i) a) (frameAt j (at bases j) b)) (and-right (eqb (maker changes i (at bases i + 1 + a)) (maker changes j (at bases j + 1 + b))) (not (sameEntries entries n (frameAt i (at bases i) a) (frameAt j (at bases j) b))) t) in
-          clash (s .agreed .same i j (at bases i + 1 + a) (at bases j + 1 + b) (omega arith) (omega arith) (omega arith) (omega arith) (omega arith) (omega arith) q (met i (at bases i + 1 + a) (omega arith) (omega arith) (omega arith))) d)
+          let q : maker changes i x ≡ maker changes j y = eqb-true (maker changes i x) (maker changes j y) (and-left (eqb (maker changes i x) (maker changes j y)) (not same) t) in
+          let d : same ≡ false = not-true same (and-right (eqb (maker changes i x) (maker changes j y)) (not same) t) in
+          clash (s .agreed .same i j x y (omega arith) (omega arith) (omega arith) (omega arith) (omega arith) (omega arith) q (met i x (omega arith) (omega arith) (omega arith))) d)

@@ -38,7 +38,7 @@ abbrev pub headsDiffer : (entries heads passed : List ℕ) → (n k : ℕ) → B
 headsDiffer entries heads passed n k =
     cond (ltb (firstWith heads k) 16) (anyBelow 16 (headDiffers entries heads passed n k (headPlace (firstWith heads k) (at passed (firstWith heads k))))) false
 
--- a read-out of these lists, its number of cards left out
-abbrev pub listsRead : (changes entries sessions bases counts : List ℕ) → Readout
-listsRead changes entries sessions bases counts =
-    record { changes = changes; entries = entries; sessions = sessions; bases = bases; counts = counts; cards = 0 }
+-- a read-out of these lists, of n cards
+abbrev pub listsRead : (changes entries sessions bases counts : List ℕ) → ℕ → Readout
+listsRead changes entries sessions bases counts n =
+    record { changes = changes; entries = entries; sessions = sessions; bases = bases; counts = counts; cards = n }

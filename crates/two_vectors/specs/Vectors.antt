@@ -1,28 +1,29 @@
 -- Refusal 10: one change, two sheets, two vectors.
-use Prim.Native.Nat.{ℕ, suc, _+_, _*_}
+use Prim.Native.Nat.{ℕ}
 use mathlib.Core.Bool.{Bool, not, _&&_}
 use mathlib.Core.List.{List}
 use lib.Dec.{eqb}
-use lib.ListN.{getD}
+use lib.ListN.{length, getD}
 use Rattle.laws.specs.Below.{allBelow, anyBelow}
-use Rattle.sheet.specs.declared.Readout.{Readout}
-use Rattle.sheet.specs.Walk.{frameAt}
+use Rattle.frame.specs.declared.Frame.{Frame}
+use Rattle.frame.specs.Lines.{noFrame}
+use Rattle.sheet.specs.Pages.{Page}
+use Rattle.sheet.specs.Ring.{pageAt}
 
--- the frames at two places have one change number and two vectors of n entries
-abbrev pub differ : List ℕ → List ℕ → ℕ → ℕ → ℕ → Bool
-differ changes entries n p q =
-    eqb (getD changes p 0) (getD changes q 0) && not (allBelow n (λ k. eqb (getD entries (p * 16 + k) 0) (getD entries (q * 16 + k) 0)))
+-- frame a of sheet i
+abbrev pub frameOn : List Page → ℕ → ℕ → Frame
+frameOn ps i a = getD (pageAt ps i .frames) a noFrame
 
--- the frame at place p differs so from a frame of card j
-abbrev pub differsIn : List ℕ → List ℕ → ℕ → ℕ → ℕ → ℕ → ℕ → Bool
-differsIn changes entries n p j base count = anyBelow count (λ b. differ changes entries n p (frameAt j base b))
+-- two frames have one change and two vectors of n entries
+abbrev pub differ : ℕ → Frame → Frame → Bool
+differ n f g = eqb (f .change) (g .change) && not (allBelow n (λ k. eqb (getD (f .entries) k 0) (getD (g .entries) k 0)))
 
 -- refusal 10: "one change, two sheets, two vectors"
-unfoldable pub twoVectors : Readout → ℕ → Bool
-twoVectors r n =
-    anyBelow n
+unfoldable pub twoVectors : List Page → Bool
+twoVectors ps =
+    anyBelow (length ps)
     (λ i.
     anyBelow i
     (λ j.
-    anyBelow (getD (r .counts) i 0)
-    (λ a. differsIn (r .changes) (r .entries) n (frameAt i (getD (r .bases) i 0) a) j (getD (r .bases) j 0) (getD (r .counts) j 0))))
+    anyBelow (length (pageAt ps i .frames))
+    (λ a. anyBelow (length (pageAt ps j .frames)) (λ b. differ (length ps) (frameOn ps i a) (frameOn ps j b)))))

@@ -6,6 +6,7 @@ ghost use mathlib.Core.List.{[]};
 ghost use lib.Dec.{eqb};
 ghost use Rattle.laws.specs.Below.{anyBelow};
 ghost use Rattle.merge.specs.Merge.{at};
+ghost use Rattle.sheet.specs.Ring.{pagesOf};
 ghost use Rattle.two_vectors.specs.Vectors.{twoVectors};
 ghost use Rattle.two_vectors.specs.Heads.{endsOf, Orderly, listsRead, headPlace, sameEntries, firstWith, headDiffers, headsDiffer};
 
@@ -141,7 +142,7 @@ pub fn two_vectors<'a>(
     n: u32,
 ) -> bool
     requires { ⌜ (n ≤ 16) × Orderly (now changes) bases counts n ⌝ }
-    ensures { λ x. ⌜ x ≡ twoVectors (listsRead (now (changes .entry)) (now (entries .entry)) [] bases counts) n ⌝ }
+    ensures { λ x. ⌜ x ≡ twoVectors (pagesOf (listsRead (now (changes .entry)) (now (entries .entry)) [] bases counts n)) ⌝ }
 {
     let cards = n as usize;
     let ends = ends_of(bases, counts, n);

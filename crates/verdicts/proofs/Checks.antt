@@ -1,14 +1,13 @@
 -- The checks of a call one after the other answer as its plan does. Assumes nothing.
-use mathlib.Core.Path.{_≡_, refl, sym, _∙_, ap}
-use mathlib.Core.Bool.{Bool, true, false, not, cond}
+use mathlib.Core.Path.{_≡_, refl, ap}
+use mathlib.Core.Bool.{Bool, true, false}
 use mathlib.Core.List.{List, [], _∷_}
-use Rattle.laws.proofs.Logic.{test}
 use Rattle.refusal.specs.declared.Refusal.{Refusal}
-use Rattle.protocol.specs.Plan.{Answer, done, Check, _⇒_, Plan, checked, accepted, refused}
+use Rattle.protocol.specs.Plan.{Answer, Check, _⇒_, checked, accepted, refused}
 use Rattle.protocol.specs.Edit.{Edit}
 use Rattle.verdicts.specs.declared.Reply.{Reply}
 use Rattle.verdicts.specs.declared.Reply.the-variants.{Done, Refused}
-use Rattle.verdicts.specs.Answers.{replyOf, next, firstFailing}
+use Rattle.verdicts.specs.Answers.{next, firstFailing}
 
 -- the checks one after the other, after an earlier reply
 abbrev pub folded : List Check → Reply → Reply

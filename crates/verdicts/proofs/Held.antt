@@ -1,26 +1,26 @@
 -- Vectors as lists of 16 entries, sets as numbers of 16 bits, places as what they hold. Assumes nothing.
-use Prim.Native.Nat.{ℕ, zero, suc, _+_, _^_, _≤_, _<_, max}
+use Prim.Native.Nat.{ℕ, suc, _+_, _≤_, _<_, max}
 use mathlib.Core.Path.{_≡_, refl, sym, _∙_, ap, ap₂}
 use mathlib.Core.Bool.{Bool, true, false, not, _&&_, _||_, cond}
-use mathlib.Core.List.{List, []}
+use mathlib.Core.List.{List}
 use mathlib.Core.Logic.{by-cases}
 use native.Mathlib.Decide.{decLt, ℕ-discrete}
 use native.Mathlib.Omega.{arith}
-use lib.ListN.{length, getD, set, replicate, length-set, List·getD-eq-default}
+use lib.ListN.{length, set, replicate, length-set, List·getD-eq-default}
 use lib.Seq.{getD-set-same, getD-set-other}
 use native.Mathlib.Numerals.{add-one}
-use lib.Dec.{eqb, ltb}
+use lib.Dec.{eqb}
 use borrow.Author.Tests.{lt-ltb, eq-eqb, ne-eqb}
-use Rattle.laws.specs.Below.{allBelow, anyBelow, greatest, tabulate}
-use Rattle.laws.proofs.Fill.{all-same, any-same, tabulate-ext, tabulate-same, length-tabulate, getD-tabulate}
+use Rattle.laws.specs.Below.{allBelow, greatest, tabulate}
+use Rattle.laws.proofs.Fill.{all-same, tabulate-ext, tabulate-same, length-tabulate, getD-tabulate}
 use Rattle.bits.specs.Member.{member, number}
-use Rattle.bits.specs.Sets.{either, both, except, one, below, cut, subset}
-use Rattle.bits.proofs.Members.{number-members, number-same, member-number, members-are, number-lt}
+use Rattle.bits.specs.Sets.{either, one, cut}
+use Rattle.bits.proofs.Members.{number-members, number-same, members-are, member-none}
 use Rattle.history.specs.Change.{CardSet, Numbers}
 use Rattle.history.specs.Vector.{noEntries, joined, withOwn}
 use Rattle.protocol.specs.Model.{OpenChange, freePlace, withCard, noCards}
 use Rattle.verdicts.specs.declared.Place.{Place}
-use Rattle.verdicts.specs.Shape.{limits16, at, listOf, setOf, openOf, placeFor}
+use Rattle.verdicts.specs.Shape.{limits16, at, listOf, setOf, openOf, emptyPlace, placeFor}
 use Rattle.verdicts.proofs.Limits.{width16}
 
 -- ---- vectors
@@ -106,17 +106,34 @@ pub set-put : (x y c : ℕ) → y < 65536 → member y ≡ cut 16 (either (membe
 set-put x y c h e = set-by y (withCard (member x) c) h (λ i l. ap (λ (p : CardSet). p i) e ∙ put-same x c i l)
 
 -- ---- places
-pub place-by : {v v′ : List ℕ} {n r r′ w w′ y y′ t t′ : ℕ} → v ≡ v′ → r ≡ r′ → w ≡ w′ → y ≡ y′ → t ≡ t′
-    → _≡_ {A = Place} (record { vector = v; number = n; reads = r; writes = w; yes = y; taken = t }) (record { vector = v′; number = n; reads = r′; writes = w′; yes = y′; taken = t′ })
-place-by {n = n} ev er ew ey et = λ i. record { vector = ev i; number = n; reads = er i; writes = ew i; yes = ey i; taken = et i }
+pub place-by : {p q : Place} → p .vector ≡ q .vector → p .number ≡ q .number → p .reads ≡ q .reads → p .writes ≡ q .writes → p .yes ≡ q .yes → p .taken ≡ q .taken → p ≡ q
+place-by ev en er ew ey et = λ i. record { vector = ev i; number = en i; reads = er i; writes = ew i; yes = ey i; taken = et i }
 
-pub zero-list : at (listOf noEntries) ≡ noEntries
-zero-list = at-list-all noEntries (λ k h. refl)
-
-zero-set : setOf noCards ≡ 0
+pub zero-set : setOf noCards ≡ 0
 unfolding limits16
 zero-set = refl
 
-pub free-open : openOf (placeFor freePlace) ≡ openOf (record { vector = []; number = 0; reads = 0; writes = 0; yes = 0; taken = 0 })
-free-open =
-    ap₂ (λ (v : Numbers) (s : ℕ). record { change = record { number = 0; reads = member s; writes = member s }; yes = member s; taken = member s; vector = v }) zero-list zero-set
+pub no-members : member 0 ≡ noCards
+no-members = λ i c. member-none c i
+
+open-by : {o q : OpenChange} → o .change .number ≡ q .change .number → o .change .reads ≡ q .change .reads → o .change .writes ≡ q .change .writes → o .yes ≡ q .yes → o .taken ≡ q .taken → o .vector ≡ q .vector → o ≡ q
+open-by en er ew ey et ev = λ i. record { change = record { number = en i; reads = er i; writes = ew i }; yes = ey i; taken = et i; vector = ev i }
+
+-- what an open change must be to stand in a place: no card and no entry beyond the width
+pub record Fits (o : OpenChange) : Type 0 where
+  pub reads : (k : ℕ) → 16 ≤ k → o .change .reads k ≡ false
+  pub writes : (k : ℕ) → 16 ≤ k → o .change .writes k ≡ false
+  pub yes : (k : ℕ) → 16 ≤ k → o .yes k ≡ false
+  pub taken : (k : ℕ) → 16 ≤ k → o .taken k ≡ false
+  pub vector : (k : ℕ) → 16 ≤ k → o .vector k ≡ 0
+
+pub open-back : (o : OpenChange) → Fits o → openOf (placeFor o) ≡ o
+open-back o f =
+    open-by refl (member-set (o .change .reads) (f .reads)) (member-set (o .change .writes) (f .writes)) (member-set (o .yes) (f .yes)) (member-set (o .taken) (f .taken))
+    (at-list-all (o .vector) (f .vector))
+
+pub free-fits : Fits freePlace
+free-fits = record { reads = λ k h. refl; writes = λ k h. refl; yes = λ k h. refl; taken = λ k h. refl; vector = λ k h. refl }
+
+pub no-place : openOf emptyPlace ≡ freePlace
+no-place = open-by refl no-members no-members no-members no-members refl

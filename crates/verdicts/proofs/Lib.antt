@@ -1,4 +1,5 @@
 pub mod Limits
 pub mod Checks
 pub mod Held
+pub mod Made
 pub mod Cards

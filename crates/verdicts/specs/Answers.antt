@@ -1,10 +1,9 @@
 -- Each answer enum in document 01's numbers and values, and the first check that fails.
-use Prim.Native.Nat.{ℕ}
 use mathlib.Core.Bool.{Bool, cond}
 use mathlib.Core.List.{List, [], _∷_}
 use Rattle.refusal.specs.declared.Refusal.{Refusal}
 use Rattle.refusal.specs.declared.Refusal.the-variants.{BadCabinet}
-use Rattle.protocol.specs.Plan.{Answer, done, opened, safe, unsafe, Check, _⇒_, accepted, refused}
+use Rattle.protocol.specs.Plan.{done, opened, safe, unsafe, Check, _⇒_, accepted, refused}
 use Rattle.protocol.specs.Plan as plan
 use Rattle.verdicts.specs.declared.Reply.{Reply}
 use Rattle.verdicts.specs.declared.Reply.the-variants.{Done, Refused}

@@ -3,20 +3,23 @@ use Prim.Native.Nat.{ℕ, _+_, _*_, _%_}
 use mathlib.Core.Bool.{Bool, _&&_, cond}
 use mathlib.Core.List.{List, []}
 use lib.Dec.{leb, ltb}
-use lib.ListN.{getD}
+use lib.ListN.{getD, replicate}
 use Rattle.laws.specs.Below.{tabulate}
 use Rattle.bits.specs.Member.{member, number}
 use Rattle.history.specs.Change.{CardSet, Numbers}
 use Rattle.history.specs.Vector.{noEntries, Tracked}
 use Rattle.history.specs.Vector as history
 use Rattle.protocol.specs.Model as model
-use Rattle.protocol.specs.Model.{Limits, Model, OpenChange, Memory, StateNumbers, noCards}
+use Rattle.protocol.specs.Model.{Limits, Model, OpenChange, Memory, StateNumbers, noCards, freePlace}
+use Rattle.protocol.specs.Edit as edit
+use Rattle.protocol.specs.Calls.{freshModel}
 use Rattle.protocol.specs.Sound.{numbersSound, lineSound, framesSound}
 use Rattle.verdicts.specs.declared.Phase.{Phase}
 use Rattle.verdicts.specs.declared.Phase.the-variants.{Up, Down, Rolling}
 use Rattle.verdicts.specs.declared.Head.{Head}
 use Rattle.verdicts.specs.declared.Vector.{Vector}
 use Rattle.verdicts.specs.declared.Place.{Place}
+use Rattle.verdicts.specs.declared.Core.{Core}
 
 -- "the limits 16, 48, 8 and 60,000", and 4,294,967,295
 unfoldable pub limits16 : Limits
@@ -84,9 +87,13 @@ openOf p =
       vector = at (p .vector);
     }
 
+-- a place with nothing in it, not even entries: what is read beyond a list of places
+abbrev pub emptyPlace : Place
+emptyPlace = record { vector = []; number = 0; reads = 0; writes = 0; yes = 0; taken = 0 }
+
 -- the open change in place p
 abbrev pub openAt : List Place → ℕ → OpenChange
-openAt l p = openOf (getD l p (record { vector = []; number = 0; reads = 0; writes = 0; yes = 0; taken = 0 }))
+openAt l p = openOf (getD l p emptyPlace)
 
 -- the set as a number of 16 bits
 abbrev pub setOf : CardSet → ℕ
@@ -111,36 +118,152 @@ placeFor o =
       taken = setOf (o .taken);
     }
 
--- the model of a cabinet held in these lists
-abbrev pub modelOf : (entries makers : List ℕ) (last pending : List Vector) (places : List Place) (base stored kept reached line ended : List ℕ) (rolled : ℕ) → Head → Model
-modelOf entries makers last pending places base stored kept reached line ended rolled h =
+-- ---- heads
+-- a head whose change numbers start at 1
+abbrev pub headOf : (session cards : ℕ) → Phase → Head
+headOf session cards phase = record { session = session; cards = cards; count = 0; phase = phase }
+
+abbrev pub inPhase : Head → Phase → Head
+inPhase h p = record { session = h .session; cards = h .cards; count = h .count; phase = p }
+
+abbrev pub counted : Head → ℕ → Head
+counted h k = record { session = h .session; cards = h .cards; count = k; phase = h .phase }
+
+-- ---- the groups of fields of a core, each set by itself
+abbrev pub withHead : Core → Head → Core
+withHead s h =
     record {
-      session = h .session;
-      phase = phaseOf (h .phase);
-      count = h .count;
-      present = presentOf (h .cards);
-      numbers = record { base = at base; stored = at stored; held = at kept; reached = at reached };
+      head = h;
+      last = s .last;
+      pending = s .pending;
+      places = s .places;
+      base = s .base;
+      stored = s .stored;
+      held = s .held;
+      reached = s .reached;
+      line = s .line;
+      ended = s .ended;
+      rolled = s .rolled;
+    }
+
+abbrev pub withVectors : Core → (last pending : List Vector) → Core
+withVectors s last pending =
+    record {
+      head = s .head;
+      last = last;
+      pending = pending;
+      places = s .places;
+      base = s .base;
+      stored = s .stored;
+      held = s .held;
+      reached = s .reached;
+      line = s .line;
+      ended = s .ended;
+      rolled = s .rolled;
+    }
+
+abbrev pub withPlaces : Core → List Place → (ended : List ℕ) → Core
+withPlaces s places ended =
+    record {
+      head = s .head;
+      last = s .last;
+      pending = s .pending;
+      places = places;
+      base = s .base;
+      stored = s .stored;
+      held = s .held;
+      reached = s .reached;
+      line = s .line;
+      ended = ended;
+      rolled = s .rolled;
+    }
+
+abbrev pub withNumbers : Core → (base stored kept reached : List ℕ) → Core
+withNumbers s base stored kept reached =
+    record {
+      head = s .head;
+      last = s .last;
+      pending = s .pending;
+      places = s .places;
+      base = base;
+      stored = stored;
+      held = kept;
+      reached = reached;
+      line = s .line;
+      ended = s .ended;
+      rolled = s .rolled;
+    }
+
+abbrev pub withLine : Core → (line : List ℕ) (rolled : ℕ) → Core
+withLine s line rolled =
+    record {
+      head = s .head;
+      last = s .last;
+      pending = s .pending;
+      places = s .places;
+      base = s .base;
+      stored = s .stored;
+      held = s .held;
+      reached = s .reached;
+      line = line;
+      ended = s .ended;
+      rolled = rolled;
+    }
+
+-- a core of which only the head is there
+abbrev pub bare : Head → Core
+bare h =
+    record {
+      head = h;
+      last = [];
+      pending = [];
+      places = [];
+      base = [];
+      stored = [];
+      held = [];
+      reached = [];
+      line = [];
+      ended = [];
+      rolled = 0;
+    }
+
+-- "all state numbers 0, all entries none", every place free
+abbrev pub blankCore : Head → Core
+blankCore h =
+    let none : List ℕ = replicate 16 0 in
+    let vectors : List Vector = replicate 16 (record { entries = none }) in
+    withLine (withPlaces (withNumbers (withVectors (bare h) vectors vectors) none none none none) (replicate 8 (placeFor freePlace)) (replicate 8 0)) none 0
+
+-- the model of a cabinet of these frames and this core
+abbrev pub modelOf : (entries makers : List ℕ) → Core → Model
+modelOf entries makers s =
+    record {
+      session = s .head .session;
+      phase = phaseOf (s .head .phase);
+      count = s .head .count;
+      present = presentOf (s .head .cards);
+      numbers = record { base = at (s .base); stored = at (s .stored); held = at (s .held); reached = at (s .reached) };
       memory = record {
-        last = vectorAt last;
-        pending = vectorAt pending;
-        maker = makerInHand makers base reached;
-        frame = frameInHand entries base reached;
+        last = vectorAt (s .last);
+        pending = vectorAt (s .pending);
+        maker = makerInHand makers (s .base) (s .reached);
+        frame = frameInHand entries (s .base) (s .reached);
       };
-      place = openAt places;
-      ended = at ended;
-      line = at line;
-      rolled = member rolled;
+      place = openAt (s .places);
+      ended = at (s .ended);
+      line = at (s .line);
+      rolled = member (s .rolled);
     }
 
 -- the parts of a cabinet that a verdict looks at: the head; numbers by card; the places
 abbrev pub headModel : Head → Model
-headModel h = modelOf [] [] [] [] [] [] [] [] [] [] [] 0 h
+headModel h = modelOf [] [] (bare h)
 
 abbrev pub numbersModel : Head → (base stored kept reached : List ℕ) → Model
-numbersModel h base stored kept reached = modelOf [] [] [] [] [] base stored kept reached [] [] 0 h
+numbersModel h base stored kept reached = modelOf [] [] (withNumbers (bare h) base stored kept reached)
 
 abbrev pub placesModel : Head → List Place → (base reached : List ℕ) → Model
-placesModel h places base reached = modelOf [] [] [] [] places base [] [] reached [] [] 0 h
+placesModel h places base reached = modelOf [] [] (withPlaces (withNumbers (bare h) base [] [] reached) places [])
 
 -- what the vector of a change is worked out from
 abbrev pub trackedOf : (reached : List ℕ) (last pending : List Vector) → Tracked
@@ -150,18 +273,7 @@ trackedOf reached last pending =
 -- the parts of a cabinet of n cards that a check of one card or one place looks at
 abbrev pub partOf : (n : ℕ) → model.Phase → StateNumbers → Memory → (line : ℕ) → Model
 partOf n phase numbers memory line =
-    record {
-      session = 0;
-      phase = phase;
-      count = 0;
-      present = presentOf n;
-      numbers = numbers;
-      memory = memory;
-      place = λ p. model.freePlace;
-      ended = λ p. 0;
-      line = λ c. line;
-      rolled = noCards;
-    }
+    edit.withLine (edit.withNumbers (edit.withHead (freshModel (presentOf n)) 0 phase 0) numbers memory) (λ c. line) noCards
 
 -- what refusal 28 looks at of a card that is there, besides its vectors
 abbrev pub thereSound : Model → ℕ → Bool

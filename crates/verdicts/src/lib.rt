@@ -1,7 +1,7 @@
-// What the calls are said with: phase, head, places, vectors and replies; reading a phase and a number by card.
+// What the calls are said with: phase, head, places, vectors and replies; a head, a free place and a core anew; reading a phase and a number by card.
 ghost use mathlib.Core.Path.{_≡_};
-ghost use Rattle.protocol.specs.Model.{isUp, isDown, isRolling};
-ghost use Rattle.verdicts.specs.Shape.{phaseOf, at};
+ghost use Rattle.protocol.specs.Model.{isUp, isDown, isRolling, freePlace};
+ghost use Rattle.verdicts.specs.Shape.{phaseOf, at, placeFor, headOf, inPhase, counted, blankCore};
 use refusal::Refusal;
 
 pub enum Phase {
@@ -46,10 +46,105 @@ pub struct Place {
     pub taken: u16,
 }
 
+// A cabinet but for its frames: what 28 looks at, and what a loss and a roll remember.
+pub struct Core {
+    pub head: Head,
+    pub last: [Vector; 16],
+    pub pending: [Vector; 16],
+    pub places: [Place; 8],
+    pub base: [u32; 16],
+    pub stored: [u32; 16],
+    pub held: [u32; 16],
+    pub reached: [u32; 16],
+    // while rolling: the line fixed
+    pub line: [u32; 16],
+    // by place, the decided changes that a loss ended with a written share untaken
+    pub ended: [u32; 8],
+    // while rolling: the cards already rolled
+    pub rolled: u16,
+}
+
+// What a call on the core that answers nothing but acceptance hands back.
+pub struct CoreAnswer {
+    pub core: Core,
+    pub reply: Reply,
+}
+
 // The answer of a call that answers nothing but that it was accepted.
 pub enum Reply {
     Done,
     Refused(Refusal),
+}
+
+// A head whose change numbers start at 1.
+pub fn head_of(session: u32, cards: u32, phase: Phase) -> Head
+    ensures { λ r. ⌜ r ≡ headOf session cards phase ⌝ }
+{
+    Head {
+        session: session,
+        cards: cards,
+        count: 0,
+        phase: phase,
+    }
+}
+
+pub fn in_phase(head: Head, phase: Phase) -> Head
+    ensures { λ r. ⌜ r ≡ inPhase head phase ⌝ }
+{
+    Head {
+        session: head.session,
+        cards: head.cards,
+        count: head.count,
+        phase: phase,
+    }
+}
+
+// With k for the last change number given.
+pub fn counted(head: Head, k: u32) -> Head
+    ensures { λ r. ⌜ r ≡ counted head k ⌝ }
+{
+    let mut next = head;
+    next.count = k;
+    next
+}
+
+// A free place, all zero.
+pub fn free_place() -> Place
+    ensures { λ r. ⌜ r ≡ placeFor freePlace ⌝ }
+{
+    Place {
+        vector: [0u32; 16],
+        number: 0,
+        reads: 0,
+        writes: 0,
+        yes: 0,
+        taken: 0,
+    }
+}
+
+// All state numbers 0, all entries none, every place free.
+pub fn blank(head: Head) -> Core
+    ensures { λ r. ⌜ r ≡ blankCore head ⌝ }
+{
+    let none = [0u32; 16];
+    let v = Vector { entries: none };
+    let last = [v; 16];
+    let pending = [v; 16];
+    let free = free_place();
+    let places = [free; 8];
+    Core {
+        head: head,
+        last: last,
+        pending: pending,
+        places: places,
+        base: none,
+        stored: none,
+        held: none,
+        reached: none,
+        line: none,
+        ended: [0u32; 8],
+        rolled: 0,
+    }
 }
 
 pub fn is_up(phase: Phase) -> bool

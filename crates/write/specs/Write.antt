@@ -1,27 +1,19 @@
--- What the writer of a sheet by value answers and leaves in the buffer.
-use Prim.Native.Nat.{ℕ, _+_}
+-- What the writer of a sheet answers and leaves in the buffer.
+use Prim.Native.Nat.{ℕ, suc, _+_}
 use mathlib.Core.Bool.{cond}
 use mathlib.Core.List.{List}
 use lib.Dec.{leb}
 use lib.ListN.{length}
 use lib.Seq.{sets}
-use Rattle.refusal.specs.declared.Refusal.the-variants.{TooShort, BadHeader, BadFrame}
-use Rattle.frame.specs.declared.Verdict.{Verdict}
-use Rattle.frame.specs.declared.Verdict.the-variants.{Accepted, Refused}
-use Rattle.frame.specs.Format.{format}
-use Rattle.frame.specs.Lines.{headerAllowed, noFrame}
-use Rattle.sheet.specs.Pages.{pageBytes}
-use Rattle.sheet.specs.Allowed.{framesAllowed}
-use Rattle.sheet.specs.declared.Sheet.{Sheet}
-use Rattle.sheet.specs.Flat.{headerOf, rowsOf, pageOf}
+use Rattle.laws.specs.Below.{tabulate}
+use Rattle.refusal.specs.declared.Refusal.the-variants.{TooShort}
+use Rattle.refusal.specs.declared.Verdict.{Verdict}
+use Rattle.refusal.specs.declared.Verdict.the-variants.{Accepted, Refused}
+use Rattle.frame.specs.declared.Header.{Header}
+use Rattle.sheet.specs.Pages.{Page}
+use Rattle.sheet.specs.Ring.{ringFrame}
 use Rattle.write.specs.declared.Written.{Written}
 use Rattle.write.specs.declared.Written.the-variants.{Length, Refused as written-refused}
-
--- a sheet that is no sheet is refused with the number that the reader would give
-unfoldable pub sheetVerdict : Sheet → Verdict
-sheetVerdict s =
-    cond (headerAllowed format (s .card) 0 (headerOf s))
-    (cond (framesAllowed format (s .card) (s .cards) (s .base + 1) noFrame (rowsOf s 0 (s .count))) Accepted (Refused BadFrame)) (Refused BadHeader)
 
 -- what a writer answers, and the buffer behind it
 pub record Wrote : Type 0 where
@@ -34,5 +26,6 @@ wroteBytes (Refused r) bytes buffer = record { answer = written-refused r; buffe
 wroteBytes Accepted bytes buffer =
     cond (leb (length bytes) (length buffer)) (record { answer = Length (length bytes); buffer = sets buffer 0 bytes }) (record { answer = written-refused TooShort; buffer = buffer })
 
-unfoldable pub wrote : Sheet → List ℕ → Wrote
-wrote s buffer = wroteBytes (sheetVerdict s) (pageBytes format (pageOf s)) buffer
+-- the sheet that a ring holds for a header, each frame with all 16 entries of its place: as many are looked at as there are cards
+abbrev pub ringRows : (changes entries : List ℕ) → Header → Page
+ringRows changes entries h = record { header = h; frames = tabulate (h .count) (λ k. ringFrame changes entries 16 (h .card) (suc (h .base + k))) }

@@ -1,7 +1,6 @@
 -- `card_sheet::write_card` writes a card's sheet by its plan. Assumes nothing.
-use Prim.Native.Nat.{ℕ, _≤_, _<_}
-use mathlib.Core.Path.{_≡_, refl, sym, _∙_, ap}
-use mathlib.Core.Bool.{Bool, true, false, not}
+use Prim.Native.Nat.{_<_}
+use mathlib.Core.Path.{sym, _∙_}
 use native.Mathlib.Omega.{arith}
 use borrow.Author.Tests.{not-true, not-false}
 use Rattle.card_sheet.proofs.Told.{card-there, told-unsound, told-absent, passes-7, told-whole}
@@ -10,10 +9,10 @@ use Rattle.card_sheet.proofs.write_card.Statement.{statement}
 use Rattle.card_sheet.proofs.write_card.Tie as tie
 use Rattle.card_sheet.proofs.write_card.Reads as reads
 use Rattle.card_sheet.proofs.write_card.Lts as lts
-use Rattle.card_sheet.proofs.sheet_of.Reads as sheet-of-reads
+use Rattle.card_sheet.proofs.header_of.Reads as header-of-reads
 use Rattle.verdicts.proofs.at.Reads as at-reads
 use Rattle.replies.proofs.is_card.Reads as is-card-reads
-use Rattle.write.proofs.write_whole.Reads as write-whole-reads
+use Rattle.write.proofs.write_page.Reads as write-page-reads
 
 returns : tie.Need-returns
 returns c =
@@ -34,25 +33,23 @@ at-requires c κs = search needs
 at-requires-2 : tie.Need-at-requires-2
 at-requires-2 c κs = search needs
 
-sheet-of-requires : tie.Need-sheet-of-requires
-sheet-of-requires c κs =
+header-of-requires : tie.Need-header-of-requires
+header-of-requires c κs =
     let a = c .before .before .before .before .before .before .args in
     let w = c .before .before .before .before .before .before .pre (not-false _ (c .before .before .before .before .if1 .left)) in
     let n = sym (c .before .before .before .is-card .ensures) ∙ not-false _ (c .before .before .if2 .left) in
     let t : a .card < a .head .cards = card-there (a .head) (a .card) n in
-    let f = w .cards in
     let x = w .low t in
-    let y = w .top t in
     let p = c .before .at .ensures in
     let q = c .at2 .ensures in
-    (omega arith, omega arith, omega arith, w .next)
+    (omega arith, w .next)
 
-write-whole-requires : tie.Need-write-whole-requires
-write-whole-requires c κs =
+write-page-requires : tie.Need-write-page-requires
+write-page-requires c κs =
     let a = c .before .before .before .before .before .before .before .before .args in
     let w = c .before .before .before .before .before .before .before .before .pre (not-false _ (c .before .before .before .before .before .before .if1 .left)) in
     let n = sym (c .before .before .before .before .before .is-card .ensures) ∙ not-false _ (c .before .before .before .before .if2 .left) in
-    passes-7 (a .sound) (a .entries .now) (a .makers .now) (a .head) (a .rolled) (a .base) (a .stored) (a .card) (a .b .now) (c .before .sheet-of .result) (c .before .before .before .at .result) (c .before .before .at2 .result) (c .before .sheet-of .ensures) (c .before .before .before .at .ensures) (c .before .before .at2 .ensures) w n
+    passes-7 (a .sound) (a .entries .now) (a .makers .now) (a .head) (a .rolled) (a .base) (a .stored) (a .card) (a .b .now) (c .before .header-of .result) (c .before .before .before .at .result) (c .before .before .at2 .result) (c .before .header-of .ensures) (c .before .before .before .at .ensures) (c .before .before .at2 .ensures) w n
 
 same-length : tie.Need-same-length
 same-length c = search needs
@@ -63,7 +60,7 @@ returns-3 c =
     let t = not-false _ (c .before .before .before .before .before .before .before .before .before .if1 .left) in
     let w = c .before .before .before .before .before .before .before .before .before .before .before .pre t in
     let n = sym (c .before .before .before .before .before .before .before .before .is-card .ensures) ∙ not-false _ (c .before .before .before .before .before .before .before .if2 .left) in
-    told-whole (a .sound) (a .entries .now) (a .makers .now) (a .head) (a .rolled) (a .base) (a .stored) (a .card) (a .b .now) (c .before .before .before .before .sheet-of .result) (c .before .before .before .before .before .before .at .result) (c .before .before .before .before .before .at2 .result) (c .before .before .before .before .sheet-of .ensures) (c .before .before .before .before .before .before .at .ensures) (c .before .before .before .before .before .at2 .ensures) w n t (c .before .before .write-whole .last .1 .0) (c .before .before .write-whole .result) (c .before .before .write-whole .ensures .0) (c .before .before .write-whole .ensures .1)
+    told-whole (a .sound) (a .entries .now) (a .makers .now) (a .head) (a .rolled) (a .base) (a .stored) (a .card) (a .b .now) (c .before .before .before .before .header-of .result) (c .before .before .before .before .before .before .at .result) (c .before .before .before .before .before .at2 .result) (c .before .before .before .before .header-of .ensures) (c .before .before .before .before .before .before .at .ensures) (c .before .before .before .before .before .at2 .ensures) w n t (c .before .before .write-page .last .0) (c .before .before .write-page .result) (c .before .before .write-page .ensures)
 
 pub write-card-spec : {M : Type 1} → statement M
 write-card-spec =
@@ -74,7 +71,7 @@ write-card-spec =
     returns-2
     at-requires
     at-requires-2
-    sheet-of-requires
-    write-whole-requires
+    header-of-requires
+    write-page-requires
     same-length
     returns-3)

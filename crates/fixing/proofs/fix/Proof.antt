@@ -140,7 +140,7 @@ module _ {M : Type 1} (𝓤 : URA M) (H : Heap 𝓤) (A : Atoms 𝓤) (W : Given
       nothing ! $ move ! (2 ∷ 0 ∷ []) $ join ! $ join ! $ frame ! $ done !
 
   -- from what is had at exit to the contract
-  exits : Is B.the-row s (sv ∷ []) → (r : FixAnswer) (w : Val) → Is F.the-row r (w ∷ []) → (ys′ : List CardRecord) (xs′ : List ℕ) → FixLent s ys ys′ xs xs′ (r .stored) (r .line) (r .reply) (r .cabinet) → length ys′ ≡ length ys → length xs′ ≡ length xs
+  exits : Is B.the-row s (sv ∷ []) → (r : FixAnswer) (w : Val) → Is F.the-row r (w ∷ []) → (ys′ : List CardRecord) (xs′ : List ℕ) → FixLent s ys ys′ xs xs′ (r .reply) (r .cabinet) → length ys′ ≡ length ys → length xs′ ≡ length xs
       → ent 𝓤 (⋆ 𝓤 H A ((‵ (flft κ q) ⊛ ‵ ftrue) ∷ (‵ (flft κ′ q′) ⊛ ‵ ftrue) ∷ ‵ (finally R.the-row γ ys′) ∷ ‵ (finally u32 γ′ xs′) ∷ [])) (Post w)
   exits g r w is ys′ xs′ e l l′ =
       qed W ((‵ (flft κ q) ⊛ ‵ ftrue) ∷ (‵ (flft κ′ q′) ⊛ ‵ ftrue) ∷ ‵ (finally R.the-row γ ys′) ∷ ‵ (finally u32 γ′ xs′) ∷ []) ∵
@@ -165,8 +165,8 @@ module _ {M : Type 1} (𝓤 : URA M) (H : Heap 𝓤) (A : Atoms 𝓤) (W : Given
         use2 W (raw (PlainFix 𝓤 H A mem run .pre to-fix)) (goes-fix g (room .0)) $
         calls-at ! fm (PlainFix 𝓤 H A mem run) known-fix to-fix (and-then ! (load ! (from ! (stop !)) (look ! 25 refl)) (and-then ! (load ! (from ! (stop !)) (look ! 15 refl)) (and-then ! (load ! (from ! (stop !)) (look ! 11 refl)) (no-more !)))) (λ w.
         use1 W (later (some (λ (r : FixAnswer). ((‵ (flft κ′ q′) ⊛ ‵ ftrue) ⊛ ‵ (F.the-row .own r (w ∷ []))) ⊛ raw (ensured 𝓤 H A plain-fix.ended (plain-fix.clauses 𝓤 H A mem run) (κ′, tt) (s, (length ys, (list, tt))) tt r)))) (id⊢ 𝓤 _) $ await ! tt $ pick ! (λ r.
-        split ! $ move ! (1 ∷ []) $ use1 W (some (λ (zs : Unit {0} × (Unit {0} × (List ℕ × Unit {0}))). ‵ (lasts plain-fix.ended (κ′, tt) (s, (length ys, (list, tt))) zs) ⊛ raw (fact 𝓤 (FixCarried s (length ys) xs (zs .1 .1 .0) (r .stored) (r .line) (r .reply) (r .cabinet))))) (id⊢ 𝓤 _) $ pick ! (λ zs.
-        split ! $ move ! (1 ∷ []) $ heard ! (FixCarried s (length ys) xs (zs .1 .1 .0) (r .stored) (r .line) (r .reply) (r .cabinet)) (λ e.
+        split ! $ move ! (1 ∷ []) $ use1 W (some (λ (zs : Unit {0} × (Unit {0} × (List ℕ × Unit {0}))). ‵ (lasts plain-fix.ended (κ′, tt) (s, (length ys, (list, tt))) zs) ⊛ raw (fact 𝓤 (FixCarried s (length ys) xs (zs .1 .1 .0) (r .reply) (r .cabinet))))) (id⊢ 𝓤 _) $ pick ! (λ zs.
+        split ! $ move ! (1 ∷ []) $ heard ! (FixCarried s (length ys) xs (zs .1 .1 .0) (r .reply) (r .cabinet)) (λ e.
         fsplit ! $ move ! (1 ∷ []) $ fsplit ! $ move ! (1 ∷ []) $ fsplit ! $ fsplit ! $ move ! (1 ∷ []) $ feqL ! (λ l′.
         move ! (4 ∷ []) $ split ! $ move ! (1 ∷ []) $ facts ! F.the-row (Is F.the-row) (shows 𝓤 H A F.the-row) r (w ∷ []) (λ is.
         land ! (from ! (stop !)) (init ! 23 refl (LL.lawful F.the-type F′.the-laws 𝓤 H A W .typed r _ is .0)) $

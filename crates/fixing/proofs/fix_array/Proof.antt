@@ -93,11 +93,11 @@ room16 : {n : ℕ} → n ≡ 16 → Room R.the-row n
 room16 e = subst (Room R.the-row) (sym e) (lit< tt, lit< tt)
 
 -- what is known of an answer and records goes over to the two together
-carry : (s : Cabinet) (ys zs : List CardRecord) (xs ws : List ℕ) (r : FixAnswer) (m : RecordsAnswer) → FixLent s ys zs xs ws (r .stored) (r .line) (r .reply) (r .cabinet) → m .answer ≡ r → m .records ≡ zs
-    → FixLent s ys (m .records) xs ws (m .answer .stored) (m .answer .line) (m .answer .reply) (m .answer .cabinet)
+carry : (s : Cabinet) (ys zs : List CardRecord) (xs ws : List ℕ) (r : FixAnswer) (m : RecordsAnswer) → FixLent s ys zs xs ws (r .reply) (r .cabinet) → m .answer ≡ r → m .records ≡ zs
+    → FixLent s ys (m .records) xs ws (m .answer .reply) (m .answer .cabinet)
 carry s ys zs xs ws r m e p q =
-    subst (λ (l : List CardRecord). FixLent s ys l xs ws (m .answer .stored) (m .answer .line) (m .answer .reply) (m .answer .cabinet)) (sym q)
-    (subst (λ (a : FixAnswer). FixLent s ys zs xs ws (a .stored) (a .line) (a .reply) (a .cabinet)) (sym p) e)
+    subst (λ (l : List CardRecord). FixLent s ys l xs ws (m .answer .reply) (m .answer .cabinet)) (sym q)
+    (subst (λ (a : FixAnswer). FixLent s ys zs xs ws (a .reply) (a .cabinet)) (sym p) e)
 
 module _ {M : Type 1} (𝓤 : URA M) (H : Heap 𝓤) (A : Atoms 𝓤) (W : Given 𝓤 H A) (l : ℕ) where
   -- an array of records in a local is its records side by side, and back
@@ -177,7 +177,7 @@ module _ {M : Type 1} (𝓤 : URA M) (H : Heap 𝓤) (A : Atoms 𝓤) (W : Given
       nothing ! $ join ! $ frame ! $ done !
 
   -- from what is had at exit to the contract
-  exits : Is B.the-row s (sv ∷ []) → (m : RecordsAnswer) (w : Val) → Is K.the-row m (w ∷ []) → (xs′ : List ℕ) → FixLent s ys (m .records) xs xs′ (m .answer .stored) (m .answer .line) (m .answer .reply) (m .answer .cabinet) → length xs′ ≡ length xs
+  exits : Is B.the-row s (sv ∷ []) → (m : RecordsAnswer) (w : Val) → Is K.the-row m (w ∷ []) → (xs′ : List ℕ) → FixLent s ys (m .records) xs xs′ (m .answer .reply) (m .answer .cabinet) → length xs′ ≡ length xs
       → ent 𝓤 (⋆ 𝓤 H A ((‵ (flft κ q) ⊛ ‵ ftrue) ∷ ‵ (finally u32 γ xs′) ∷ [])) (Post w)
   exits g m w is xs′ e l′ =
       qed W ((‵ (flft κ q) ⊛ ‵ ftrue) ∷ ‵ (finally u32 γ xs′) ∷ []) ∵
@@ -206,8 +206,8 @@ module _ {M : Type 1} (𝓤 : URA M) (H : Heap 𝓤) (A : Atoms 𝓤) (W : Given
         move ! (2 ∷ 3 ∷ 0 ∷ 5 ∷ []) $ join ! $ use3 W (raw (Fix 𝓤 H A mem″ run .pre (to-fix l₄ ν δ))) (goes-fix g l₄ ν δ) $
         calls-at ! fm (Fix 𝓤 H A mem″ run) known-fix (to-fix l₄ ν δ) (and-then ! (load ! (from ! (stop !)) (look ! 21 refl)) (and-then ! (load ! (from ! (stop !)) (look ! 10 refl)) (and-then ! (load ! (from ! (stop !)) (look ! 6 refl)) (no-more !)))) (λ w.
         use1 W (later (some (λ (r : FixAnswer). ((‵ (flft (ν ∷ []) fullShare) ⊛ ‵ (flft κ q) ⊛ ‵ ftrue) ⊛ ‵ (F.the-row .own r (w ∷ []))) ⊛ raw (ensured 𝓤 H A fix.ended (fix.clauses 𝓤 H A mem″ run) (ν ∷ [], (κ, tt)) (s, (records l₄ δ, (list, tt))) tt r)))) (id⊢ 𝓤 _) $ await ! tt $ pick ! (λ r.
-        split ! $ move ! (1 ∷ []) $ use1 W (some (λ (zs : Unit {0} × (List CardRecord × (List ℕ × Unit {0}))). ‵ (lasts fix.ended (ν ∷ [], (κ, tt)) (s, (records l₄ δ, (list, tt))) zs) ⊛ raw (fact 𝓤 (FixLent s ys (zs .1 .0) xs (zs .1 .1 .0) (r .stored) (r .line) (r .reply) (r .cabinet))))) (id⊢ 𝓤 _) $ pick ! (λ zs.
-        split ! $ move ! (1 ∷ []) $ heard ! (FixLent s ys (zs .1 .0) xs (zs .1 .1 .0) (r .stored) (r .line) (r .reply) (r .cabinet)) (λ e.
+        split ! $ move ! (1 ∷ []) $ use1 W (some (λ (zs : Unit {0} × (List CardRecord × (List ℕ × Unit {0}))). ‵ (lasts fix.ended (ν ∷ [], (κ, tt)) (s, (records l₄ δ, (list, tt))) zs) ⊛ raw (fact 𝓤 (FixLent s ys (zs .1 .0) xs (zs .1 .1 .0) (r .reply) (r .cabinet))))) (id⊢ 𝓤 _) $ pick ! (λ zs.
+        split ! $ move ! (1 ∷ []) $ heard ! (FixLent s ys (zs .1 .0) xs (zs .1 .1 .0) (r .reply) (r .cabinet)) (λ e.
         fsplit ! $ drop ! $ fsplit ! $ fsplit ! $ move ! (1 ∷ []) $ feqL ! (λ l. move ! (1 ∷ []) $ fsplit ! $ fsplit ! $ move ! (1 ∷ []) $ feqL ! (λ l′.
         move ! (3 ∷ []) $ split ! $ move ! (1 ∷ []) $ facts ! F.the-row (Is F.the-row) (shows 𝓤 H A F.the-row) r (w ∷ []) (λ is.
         land ! (from ! (stop !)) (init ! 17 refl (LL.lawful F.the-type F′.the-laws 𝓤 H A W .typed r _ is .0)) $

@@ -22,11 +22,11 @@ enum-told-2 c = search needs
 
 -- src/lib.rt:11:1
 returns : tie.Need-returns
-returns c = let a : _ = c .before .before .before .before .args .answer in ap (λ (k : ℕ). record { cards = k; first = a .stored; second = a .line }) (sym (ap (λ (r : FixReply). cardsIn r (a .cabinet .head .cards)) (c .enum-told .given .1)))
+returns c = let a : _ = c .before .before .before .before .args .answer in ap (λ (k : ℕ). record { cards = k; first = a .cabinet .core .stored; second = a .cabinet .core .line }) (sym (ap (λ (r : FixReply). cardsIn r (a .cabinet .core .head .cards)) (c .enum-told .given .1)))
 
 -- src/lib.rt:11:1
 returns-2 : tie.Need-returns-2
-returns-2 c = let a : _ = c .before .before .before .before .args .answer in ap (λ (k : ℕ). record { cards = k; first = a .stored; second = a .line }) (sym (ap (λ (r : FixReply). cardsIn r (a .cabinet .head .cards)) (c .enum-told2 .given .1)))
+returns-2 c = let a : _ = c .before .before .before .before .args .answer in ap (λ (k : ℕ). record { cards = k; first = a .cabinet .core .stored; second = a .cabinet .core .line }) (sym (ap (λ (r : FixReply). cardsIn r (a .cabinet .core .head .cards)) (c .enum-told2 .given .1)))
 
 pub numbers-of-spec : {M : Type 1} → statement M
 numbers-of-spec = tie.close (tie.spec enum-told cast-t7 enum-told-2 returns returns-2)

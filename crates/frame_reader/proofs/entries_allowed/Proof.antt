@@ -7,7 +7,7 @@ use native.Mathlib.Omega.{arith}
 use borrow.Author.Tests.{lt-ltb, le-ltb, le-leb, lt-leb, eq-eqb, ne-eqb, not-true, not-false}
 use lib.ListN.{getD}
 use Rattle.laws.specs.Below.{allBelow}
-use Rattle.frame.specs.Format.{format}
+use Rattle.frame.specs.Format.{formatOf}
 use Rattle.frame.specs.Lines.{entryAllowed, entriesAllowed}
 use Rattle.frame.proofs.Judged.{below-step, below-stop}
 use Rattle.frame_reader.proofs.entries_allowed.Statement.{statement}
@@ -17,10 +17,10 @@ use Rattle.frame_reader.proofs.entries_allowed.Lts as lts
 use Rattle.frame_reader.proofs.entry_allowed.Reads as entry-allowed-reads
 
 abbrev Inv-loop : tie.InvT-loop
-Inv-loop card state n last next j₀ j = (j ≤ n) × (allBelow j (λ i. entryAllowed format card state i (getD last i 0) (getD next i 0)) ≡ true)
+Inv-loop f card state n last next j₀ j = (j ≤ n) × (allBelow j (λ i. entryAllowed (formatOf f) card state i (getD last i 0) (getD next i 0)) ≡ true)
 
 abbrev μ-loop : tie.MeasureT-loop
-μ-loop card state n last next j₀ j = n - j
+μ-loop f card state n last next j₀ j = n - j
 
 loop-holds : tie.Need-loop-holds Inv-loop μ-loop
 loop-holds c = (zero-le, refl)
@@ -47,7 +47,7 @@ returns : tie.Need-returns Inv-loop μ-loop
 unfolding entriesAllowed
 returns c =
     let a = c .before .before .before .before .args in
-    below-stop (c .before .before .before .loop .j) (a .n) (λ i. entryAllowed format (a .card) (a .state) i (getD (a .t4) i 0) (getD (a .t5) i 0)) (c .before .before .loop-test .taken) (c .before .entry-allowed .ensures) (not-true _ (c .if1 .taken))
+    below-stop (c .before .before .before .loop .j) (a .n) (λ i. entryAllowed (formatOf (a .f)) (a .card) (a .state) i (getD (a .t5) i 0) (getD (a .t6) i 0)) (c .before .before .loop-test .taken) (c .before .entry-allowed .ensures) (not-true _ (c .if1 .taken))
 
 add-j : tie.Need-add-j Inv-loop μ-loop
 add-j c = search needs
@@ -58,14 +58,14 @@ loop-less c = search needs
 loop-again : tie.Need-loop-again Inv-loop μ-loop
 loop-again c =
     let a = c .before .before .before .before .args in
-    (omega arith, below-step (c .before .before .before .loop .j) (λ i. entryAllowed format (a .card) (a .state) i (getD (a .t4) i 0) (getD (a .t5) i 0)) (c .before .before .before .loop .inv .1) (c .before .entry-allowed .ensures) (not-false _ (c .if1 .left)))
+    (omega arith, below-step (c .before .before .before .loop .j) (λ i. entryAllowed (formatOf (a .f)) (a .card) (a .state) i (getD (a .t5) i 0) (getD (a .t6) i 0)) (c .before .before .before .loop .inv .1) (c .before .entry-allowed .ensures) (not-false _ (c .if1 .left)))
 
 returns-2 : tie.Need-returns-2 Inv-loop μ-loop
 unfolding entriesAllowed
 returns-2 c =
     let a = c .before .before .args in
     let e : c .before .loop .j ≡ a .n = omega arith in
-    sym (sym (ap (λ (k : ℕ). allBelow k (λ i. entryAllowed format (a .card) (a .state) i (getD (a .t4) i 0) (getD (a .t5) i 0))) e) ∙ c .before .loop .inv .1)
+    sym (sym (ap (λ (k : ℕ). allBelow k (λ i. entryAllowed (formatOf (a .f)) (a .card) (a .state) i (getD (a .t5) i 0) (getD (a .t6) i 0))) e) ∙ c .before .loop .inv .1)
 
 pub entries-allowed-spec : {M : Type 1} → statement M
 entries-allowed-spec =

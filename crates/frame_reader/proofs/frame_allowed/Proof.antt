@@ -4,6 +4,7 @@ use borrow.Author.Needs.{needs}
 use borrow.Author.Tests.{lt-ltb, le-ltb, le-leb, lt-leb, eq-eqb, ne-eqb, not-true, not-false}
 use native.Mathlib.Omega.{arith}
 use lib.ListN.{length}
+use Rattle.frame.specs.Format.{formatOf}
 use Rattle.frame_reader.proofs.Absent.{entries-fail, entries-pass}
 use Rattle.frame.proofs.Judged.{frame-tests}
 use Rattle.frame_reader.proofs.frame_allowed.Statement.{statement}
@@ -15,12 +16,12 @@ use Rattle.frame_reader.proofs.entries_allowed.Reads as entries-allowed
 returns : tie.Need-returns
 returns c =
     let a = c .before .args in
-    frame-tests (a .card) (a .n) (a .state) (a .told) (a .last) (a .next) (ne-eqb _ _ (c .if1 .taken)) refl refl
+    frame-tests (formatOf (a .f)) (a .card) (a .n) (a .state) (a .told) (a .last) (a .next) (ne-eqb _ _ (c .if1 .taken)) refl refl
 
 returns-2 : tie.Need-returns-2
 returns-2 c =
     let a = c .before .before .before .before .args in
-    frame-tests (a .card) (a .n) (a .state) (a .told) (a .last) (a .next) (eq-eqb _ _ (c .before .before .before .if1 .left)) (le-ltb _ _ (c .if2 .taken)) refl
+    frame-tests (formatOf (a .f)) (a .card) (a .n) (a .state) (a .told) (a .last) (a .next) (eq-eqb _ _ (c .before .before .before .if1 .left)) (le-ltb _ _ (c .if2 .taken)) refl
 
 at-most-16-requires : tie.Need-at-most-16-requires
 at-most-16-requires c κs = search needs
@@ -33,8 +34,8 @@ returns-3 c =
     let a = c .before .before .before .before .before .before .before .before .before .args in
     let x : length (a .last .entries) ≡ 16 = search needs in
     let y : length (a .next .entries) ≡ 16 = search needs in
-    frame-tests (a .card) (a .n) (a .state) (a .told) (a .last) (a .next) (eq-eqb _ _ (c .before .before .before .before .before .before .before .before .if1 .left)) (lt-ltb _ _ (c .before .before .before .before .before .if2 .left))
-    (entries-fail (a .card) (a .state) (a .n) (a .last .entries) (a .next .entries) x y (c .before .before .at-most-16 .ensures) (c .before .entries-allowed .ensures) (not-true _ (c .if3 .taken)))
+    frame-tests (formatOf (a .f)) (a .card) (a .n) (a .state) (a .told) (a .last) (a .next) (eq-eqb _ _ (c .before .before .before .before .before .before .before .before .if1 .left)) (lt-ltb _ _ (c .before .before .before .before .before .if2 .left))
+    (entries-fail (formatOf (a .f)) (a .card) (a .state) (a .n) (a .last .entries) (a .next .entries) x y (c .before .before .at-most-16 .ensures) (c .before .entries-allowed .ensures) (not-true _ (c .if3 .taken)))
 
 absent-allowed-requires : tie.Need-absent-allowed-requires
 absent-allowed-requires c κs = search needs
@@ -44,8 +45,8 @@ returns-4 c =
     let a = c .before .before .before .before .before .before .before .before .before .before .args in
     let x : length (a .last .entries) ≡ 16 = search needs in
     let y : length (a .next .entries) ≡ 16 = search needs in
-    frame-tests (a .card) (a .n) (a .state) (a .told) (a .last) (a .next) (eq-eqb _ _ (c .before .before .before .before .before .before .before .before .before .if1 .left)) (lt-ltb _ _ (c .before .before .before .before .before .before .if2 .left))
-    (entries-pass (a .card) (a .state) (a .n) (a .last .entries) (a .next .entries) x y (c .before .before .before .at-most-16 .ensures) (c .before .before .entries-allowed .ensures) (not-false _ (c .before .if3 .left)) (c .absent-allowed .ensures))
+    frame-tests (formatOf (a .f)) (a .card) (a .n) (a .state) (a .told) (a .last) (a .next) (eq-eqb _ _ (c .before .before .before .before .before .before .before .before .before .if1 .left)) (lt-ltb _ _ (c .before .before .before .before .before .before .if2 .left))
+    (entries-pass (formatOf (a .f)) (a .card) (a .state) (a .n) (a .last .entries) (a .next .entries) x y (c .before .before .before .at-most-16 .ensures) (c .before .before .entries-allowed .ensures) (not-false _ (c .before .if3 .left)) (c .absent-allowed .ensures))
 
 pub frame-allowed-spec : {M : Type 1} → statement M
 frame-allowed-spec =

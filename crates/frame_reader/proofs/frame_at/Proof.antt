@@ -5,8 +5,9 @@ use native.Mathlib.Omega.{arith}
 use lib.ListN.{length, drop}
 use Prim.Native.Nat.{_+_, _*_, _≤_}
 use Rattle.digits.proofs.Lines.{whole-room}
+use Rattle.frame.specs.Format.{formatOf}
 use Rattle.frame.specs.Lines.{noFrame}
-use Rattle.frame.proofs.Judged.{frame-faulty}
+use Rattle.frame.proofs.Judged.{row-small, frame-faulty}
 use Rattle.frame_reader.proofs.frame_at.Statement.{statement}
 use Rattle.frame_reader.proofs.frame_at.Tie as tie
 use Rattle.frame_reader.proofs.frame_at.Reads as reads
@@ -15,11 +16,20 @@ use Rattle.frame_reader.proofs.frame_judged.Reads as frame-judged-reads
 use Rattle.frame_reader.proofs.frame_refused.Reads as frame-refused-reads
 use Rattle.digits.proofs.shape_at.Reads as shape-at-reads
 
-mul-shape-at : tie.Need-mul-shape-at
-mul-shape-at c = search needs
-
 add-shape-at : tie.Need-add-shape-at
 add-shape-at c = search needs
+
+mul-shape-at : tie.Need-mul-shape-at
+mul-shape-at c =
+    let a = c .before .args in
+    let h = row-small (a .n) (a .f .width) (c .before .pre .1) (c .before .pre .0 .width) in
+    search needs
+
+add-shape-at-2 : tie.Need-add-shape-at-2
+add-shape-at-2 c =
+    let a = c .before .args in
+    let h = row-small (a .n) (a .f .width) (c .before .pre .1) (c .before .pre .0 .width) in
+    search needs
 
 shape-at-requires : tie.Need-shape-at-requires
 shape-at-requires c κs = search needs
@@ -37,13 +47,13 @@ frame-judged-requires : tie.Need-frame-judged-requires
 frame-judged-requires c κs =
     let a = c .before .before .before .before .args in
     let e = sym (c .before .before .shape-at .ensures) ∙ c .enum-told .given .1 in
-    let h : a .at + (12 + a .n * 4) + 5 ≤ length (a .s .now) = whole-room (12 + a .n * 4) (a .at) (a .s .now) e in
-    (omega arith, omega arith, e)
+    let h : a .at + (a .f .width + 8 + a .n * a .f .width) + 5 ≤ length (a .s .now) = whole-room (a .f .width + 8 + a .n * a .f .width) (a .at) (a .s .now) e in
+    (c .before .before .before .before .pre .0, omega arith, h, e)
 
 returns : tie.Need-returns
 returns c =
     let a = c .before .before .before .before .before .before .args in
-    c .frame-refused .ensures ∙ frame-faulty (a .start) (a .card) (a .n) (a .state) (a .last) noFrame (drop (a .at) (a .s .now)) (c .before .before .line .given .0 .0) (sym (c .before .before .before .before .shape-at .ensures) ∙ c .before .before .line .given .1)
+    c .frame-refused .ensures ∙ frame-faulty (formatOf (a .f)) (a .start) (a .card) (a .n) (a .state) (a .last) noFrame (drop (a .at) (a .s .now)) (c .before .before .line .given .0 .0) (sym (c .before .before .before .before .shape-at .ensures) ∙ c .before .before .line .given .1)
 
 returns-2 : tie.Need-returns-2
 returns-2 c = c .frame-judged .ensures
@@ -52,8 +62,9 @@ pub frame-at-spec : {M : Type 1} → statement M
 frame-at-spec =
     tie.close
     (tie.spec
-    mul-shape-at
     add-shape-at
+    mul-shape-at
+    add-shape-at-2
     shape-at-requires
     enum-known-line
     frame-refused-requires

@@ -3,8 +3,11 @@ use mathlib.Core.Path.{_≡_, refl, sym, _∙_, ap}
 use borrow.Author.Needs.{needs}
 use native.Mathlib.Omega.{arith}
 use borrow.Author.Tests.{lt-ltb, le-ltb, le-leb, lt-leb, eq-eqb, ne-eqb, not-true, not-false}
+use Prim.Native.Nat.{_+_}
 use lib.ListN.{drop}
-use Rattle.frame.proofs.Judged.{frame-told, frame-taken, frame-kept}
+use Rattle.frame.specs.Lines.{padded}
+use Rattle.frame.specs.Format.{formatOf}
+use Rattle.frame.proofs.Judged.{entries-by, frame-told, frame-taken, frame-kept}
 use Rattle.frame_reader.proofs.frame_judged.Statement.{statement}
 use Rattle.frame_reader.proofs.frame_judged.Tie as tie
 use Rattle.frame_reader.proofs.frame_judged.Reads as reads
@@ -15,11 +18,14 @@ use Rattle.frame_reader.proofs.frame_refused.Reads as frame-refused-rea
 use Rattle.digits.proofs.check_at.Reads as check-at-reads
 use Rattle.digits.proofs.number_at.Reads as number-at-reads
 
+add-check-at : tie.Need-add-check-at
+add-check-at c = search needs
+
 mul-check-at : tie.Need-mul-check-at
 mul-check-at c = search needs
 
-add-check-at : tie.Need-add-check-at
-add-check-at c = search needs
+add-check-at-2 : tie.Need-add-check-at-2
+add-check-at-2 c = search needs
 
 check-at-requires : tie.Need-check-at-requires
 check-at-requires c κs = search needs
@@ -30,7 +36,7 @@ frame-refused-requires c κs = search needs
 returns : tie.Need-returns
 returns c =
     let a = c .before .before .before .before .args in
-    c .frame-refused .ensures ∙ frame-told (a .start) (a .card) (a .n) (a .state) (a .last) (drop (a .at) (a .s .now)) (c .before .before .before .before .pre .2) (sym (not-true _ (c .before .if1 .taken)) ∙ c .before .before .check-at .ensures) refl
+    c .frame-refused .ensures ∙ frame-told (formatOf (a .f)) (a .start) (a .card) (a .n) (a .state) (a .last) (drop (a .at) (a .s .now)) (c .before .before .before .before .pre .3) (sym (not-true _ (c .before .if1 .taken)) ∙ c .before .before .check-at .ensures) refl
 
 number-at-requires : tie.Need-number-at-requires
 number-at-requires c κs = search needs
@@ -44,6 +50,9 @@ number-at-requires-2 c κs = search needs
 add-entries-at : tie.Need-add-entries-at
 add-entries-at c = search needs
 
+add-entries-at-2 : tie.Need-add-entries-at-2
+add-entries-at-2 c = search needs
+
 entries-at-requires : tie.Need-entries-at-requires
 entries-at-requires c κs = search needs
 
@@ -56,20 +65,21 @@ frame-refused-requires-2 c κs = search needs
 returns-2 : tie.Need-returns-2
 returns-2 c =
     let a = c .before .before .before .before .before .before .before .before .before .args in
-    c .frame-refused2 .ensures ∙ frame-told (a .start) (a .card) (a .n) (a .state) (a .last) (drop (a .at) (a .s .now)) (c .before .before .before .before .before .before .before .before .before .pre .2) (sym (not-false _ (c .before .before .before .before .before .before .if1 .left)) ∙ c .before .before .before .before .before .before .before .check-at .ensures) (frame-taken (a .card) (a .n) (a .state) (a .at) (a .last) (a .s .now) (omega arith) (sym (not-true _ (c .before .if2 .taken)) ∙ c .before .before .frame-allowed .ensures) (c .before .before .before .before .before .number-at .ensures) (c .before .before .before .before .number-at2 .ensures) (c .before .before .before .entries-at .ensures))
+    c .frame-refused2 .ensures ∙ frame-told (formatOf (a .f)) (a .start) (a .card) (a .n) (a .state) (a .last) (drop (a .at) (a .s .now)) (c .before .before .before .before .before .before .before .before .before .pre .3) (sym (not-false _ (c .before .before .before .before .before .before .if1 .left)) ∙ c .before .before .before .before .before .before .before .check-at .ensures) (frame-taken (formatOf (a .f)) (a .card) (a .n) (a .state) (a .at) (a .last) (a .s .now) (omega arith) (sym (not-true _ (c .before .if2 .taken)) ∙ c .before .before .frame-allowed .ensures) (c .before .before .before .before .before .number-at .ensures) (c .before .before .before .before .number-at2 .ensures) (c .before .before .before .entries-at .ensures ∙ ap padded (entries-by (formatOf (a .f)) (a .n) (drop (a .at + (a .f .width + 8)) (a .s .now)) (c .before .before .before .before .before .before .before .before .before .pre .0 .none))))
 
 returns-3 : tie.Need-returns-3
 returns-3 c =
     let a = c .before .before .before .before .before .before .before .before .args in
-    frame-kept (a .n) (a .at) (a .s .now) (c .before .before .before .number-at2 .ensures) (c .before .before .entries-at .ensures)
-    ∙ frame-told (a .start) (a .card) (a .n) (a .state) (a .last) (drop (a .at) (a .s .now)) (c .before .before .before .before .before .before .before .before .pre .2) (sym (not-false _ (c .before .before .before .before .before .if1 .left)) ∙ c .before .before .before .before .before .before .check-at .ensures) (frame-taken (a .card) (a .n) (a .state) (a .at) (a .last) (a .s .now) (omega arith) (sym (not-false _ (c .if2 .left)) ∙ c .before .frame-allowed .ensures) (c .before .before .before .before .number-at .ensures) (c .before .before .before .number-at2 .ensures) (c .before .before .entries-at .ensures))
+    frame-kept (formatOf (a .f)) (a .n) (a .at) (a .s .now) (c .before .before .before .number-at2 .ensures) (c .before .before .entries-at .ensures ∙ ap padded (entries-by (formatOf (a .f)) (a .n) (drop (a .at + (a .f .width + 8)) (a .s .now)) (c .before .before .before .before .before .before .before .before .pre .0 .none)))
+    ∙ frame-told (formatOf (a .f)) (a .start) (a .card) (a .n) (a .state) (a .last) (drop (a .at) (a .s .now)) (c .before .before .before .before .before .before .before .before .pre .3) (sym (not-false _ (c .before .before .before .before .before .if1 .left)) ∙ c .before .before .before .before .before .before .check-at .ensures) (frame-taken (formatOf (a .f)) (a .card) (a .n) (a .state) (a .at) (a .last) (a .s .now) (omega arith) (sym (not-false _ (c .if2 .left)) ∙ c .before .frame-allowed .ensures) (c .before .before .before .before .number-at .ensures) (c .before .before .before .number-at2 .ensures) (c .before .before .entries-at .ensures ∙ ap padded (entries-by (formatOf (a .f)) (a .n) (drop (a .at + (a .f .width + 8)) (a .s .now)) (c .before .before .before .before .before .before .before .before .pre .0 .none))))
 
 pub frame-judged-spec : {M : Type 1} → statement M
 frame-judged-spec =
     tie.close
     (tie.spec
-    mul-check-at
     add-check-at
+    mul-check-at
+    add-check-at-2
     check-at-requires
     frame-refused-requires
     returns
@@ -77,6 +87,7 @@ frame-judged-spec =
     add-number-at
     number-at-requires-2
     add-entries-at
+    add-entries-at-2
     entries-at-requires
     frame-allowed-requires
     frame-refused-requires-2

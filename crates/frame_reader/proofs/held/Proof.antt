@@ -1,22 +1,26 @@
--- `frame::held` gives the dependency held for an entry. Assumes nothing.
+-- `frame_reader::held` gives what is held for an entry. Assumes nothing.
 use borrow.Author.Needs.{needs}
-use borrow.Author.Tests.{lt-ltb, le-ltb, le-leb, lt-leb, eq-eqb, ne-eqb, not-true, not-false}
-use Rattle.frame.specs.Format.{dependency, entryOf}
+use borrow.Author.Tests.{not-true, not-false}
+use Rattle.frame.proofs.Entries.{held-none, held-long, held-zero, held-need}
 use Rattle.frame_reader.proofs.held.Statement.{statement}
 use Rattle.frame_reader.proofs.held.Tie as tie
 use Rattle.frame_reader.proofs.held.Reads as reads
 use Rattle.frame_reader.proofs.held.Lts as lts
 
+returns : tie.Need-returns
+returns c = let a = c .before .args in held-none (a .short) (a .none) (a .e) (c .if1 .taken)
+
 add-result : tie.Need-add-result
 add-result c = search needs
 
-returns : tie.Need-returns
-unfolding dependency
-returns c = rw (eq-eqb (c .before .args .e) 65535 (c .if1 .taken))
-
 returns-2 : tie.Need-returns-2
-unfolding dependency
-returns-2 c = rw (ne-eqb (c .before .args .e) 65535 (c .if1 .left))
+returns-2 c = let a = c .before .before .args in held-long (a .short) (a .none) (a .e) (c .before .if1 .left) (not-true _ (c .if2 .taken))
+
+returns-3 : tie.Need-returns-3
+returns-3 c = let a = c .before .before .before .args in held-zero (a .short) (a .none) (a .e) (c .before .before .if1 .left) (not-false _ (c .before .if2 .left)) (c .if3 .taken)
+
+returns-4 : tie.Need-returns-4
+returns-4 c = let a = c .before .before .before .args in held-need (a .short) (a .none) (a .e) (c .before .before .if1 .left) (not-false _ (c .before .if2 .left)) (c .if3 .left)
 
 pub held-spec : {M : Type 1} → statement M
-held-spec = tie.close (tie.spec add-result returns returns-2)
+held-spec = tie.close (tie.spec returns add-result returns-2 returns-3 returns-4)

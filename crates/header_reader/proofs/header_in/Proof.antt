@@ -1,4 +1,5 @@
 -- `frame::header_in` takes the numbers of a header from its digits. Assumes nothing.
+use Prim.Native.Nat.{_+_}
 use mathlib.Core.Path.{_≡_, refl, sym, _∙_, ap}
 use borrow.Author.Needs.{needs}
 use lib.Seq.{drop-drop}
@@ -33,6 +34,9 @@ number-at-requires-4 c κs = search needs
 add-number-at-4 : tie.Need-add-number-at-4
 add-number-at-4 c = search needs
 
+add-number-at-5 : tie.Need-add-number-at-5
+add-number-at-5 c = search needs
+
 number-at-requires-5 : tie.Need-number-at-requires-5
 number-at-requires-5 c κs = search needs
 
@@ -40,7 +44,7 @@ returns : tie.Need-returns
 unfolding headerIn
 returns c =
     let a = c .before .before .before .before .before .before .args in
-    rw (c .number-at5 .ensures, c .before .number-at4 .ensures, c .before .before .number-at3 .ensures, c .before .before .before .number-at2 .ensures, c .before .before .before .before .number-at .ensures, drop-drop 8 (a .at) (a .s .now), drop-drop 10 (a .at) (a .s .now), drop-drop 12 (a .at) (a .s .now), drop-drop 16 (a .at) (a .s .now))
+    rw (c .number-at5 .ensures, c .before .number-at4 .ensures, c .before .before .number-at3 .ensures, c .before .before .before .number-at2 .ensures, c .before .before .before .before .number-at .ensures, drop-drop 8 (a .at) (a .s .now), drop-drop 10 (a .at) (a .s .now), drop-drop 12 (a .at) (a .s .now), drop-drop (a .f .width + 12) (a .at) (a .s .now))
 
 pub header-in-spec : {M : Type 1} → statement M
 header-in-spec =
@@ -54,5 +58,6 @@ header-in-spec =
     add-number-at-3
     number-at-requires-4
     add-number-at-4
+    add-number-at-5
     number-at-requires-5
     returns)

@@ -4,6 +4,7 @@ use borrow.Author.Needs.{needs}
 use native.Mathlib.Omega.{arith}
 use borrow.Author.Tests.{lt-ltb, le-ltb, le-leb, lt-leb, eq-eqb, ne-eqb, not-true, not-false}
 use lib.ListN.{drop}
+use Rattle.frame.specs.Format.{formatOf}
 use Rattle.frame.proofs.Judged.{header-told}
 use Rattle.header_reader.proofs.header_judged.Statement.{statement}
 use Rattle.header_reader.proofs.header_judged.Tie as tie
@@ -13,6 +14,9 @@ use Rattle.header_reader.proofs.header_allowed.Reads as header-allowed-
 use Rattle.header_reader.proofs.header_in.Reads as header-in-reads
 use Rattle.frame.proofs.start_of.Reads as start-of-reads
 use Rattle.digits.proofs.check_at.Reads as check-at-reads
+
+add-digits : tie.Need-add-digits
+add-digits c = search needs
 
 header-in-requires : tie.Need-header-in-requires
 header-in-requires c κs = search needs
@@ -25,26 +29,27 @@ check-at-requires c κs = search needs
 
 returns : tie.Need-returns
 returns c =
-    let a = c .before .before .before .before .before .args in
-    header-told (a .due) (a .first) (drop (a .at) (a .s .now)) (c .before .before .before .before .before .pre .1) (c .before .before .before .header-in .ensures) (c .before .before .start-of .ensures) (sym (not-true _ (c .if1 .taken)) ∙ c .before .check-at .ensures) refl
+    let a = c .before .before .before .before .before .before .args in
+    header-told (formatOf (a .f)) (a .due) (a .first) (drop (a .at) (a .s .now)) (c .before .before .before .before .before .before .pre .2) (c .before .before .before .header-in .ensures) (c .before .before .start-of .ensures) (sym (not-true _ (c .if1 .taken)) ∙ c .before .check-at .ensures) refl
 
 header-allowed-requires : tie.Need-header-allowed-requires
 header-allowed-requires c κs = search needs
 
 returns-2 : tie.Need-returns-2
 returns-2 c =
-    let a = c .before .before .before .before .before .before .before .args in
-    header-told (a .due) (a .first) (drop (a .at) (a .s .now)) (c .before .before .before .before .before .before .before .pre .1) (c .before .before .before .before .before .header-in .ensures) (c .before .before .before .before .start-of .ensures) (sym (not-false _ (c .before .before .if1 .left)) ∙ c .before .before .before .check-at .ensures) (sym (not-true _ (c .if2 .taken)) ∙ c .before .header-allowed .ensures)
+    let a = c .before .before .before .before .before .before .before .before .args in
+    header-told (formatOf (a .f)) (a .due) (a .first) (drop (a .at) (a .s .now)) (c .before .before .before .before .before .before .before .before .pre .2) (c .before .before .before .before .before .header-in .ensures) (c .before .before .before .before .start-of .ensures) (sym (not-false _ (c .before .before .if1 .left)) ∙ c .before .before .before .check-at .ensures) (sym (not-true _ (c .if2 .taken)) ∙ c .before .header-allowed .ensures)
 
 returns-3 : tie.Need-returns-3
 returns-3 c =
-    let a = c .before .before .before .before .before .before .before .args in
-    header-told (a .due) (a .first) (drop (a .at) (a .s .now)) (c .before .before .before .before .before .before .before .pre .1) (c .before .before .before .before .before .header-in .ensures) (c .before .before .before .before .start-of .ensures) (sym (not-false _ (c .before .before .if1 .left)) ∙ c .before .before .before .check-at .ensures) (sym (not-false _ (c .if2 .left)) ∙ c .before .header-allowed .ensures)
+    let a = c .before .before .before .before .before .before .before .before .args in
+    header-told (formatOf (a .f)) (a .due) (a .first) (drop (a .at) (a .s .now)) (c .before .before .before .before .before .before .before .before .pre .2) (c .before .before .before .before .before .header-in .ensures) (c .before .before .before .before .start-of .ensures) (sym (not-false _ (c .before .before .if1 .left)) ∙ c .before .before .before .check-at .ensures) (sym (not-false _ (c .if2 .left)) ∙ c .before .header-allowed .ensures)
 
 pub header-judged-spec : {M : Type 1} → statement M
 header-judged-spec =
     tie.close
     (tie.spec
+    add-digits
     header-in-requires
     start-of-requires
     check-at-requires

@@ -7,31 +7,41 @@ use mathlib.Core.List.{List, map}
 use lib.ListN.{length, drop, replicate}
 use lib.Seq.{sets}
 use Rattle.digits.specs.Digits.{digits, written}
-use Rattle.frame.specs.Format.{entryOf}
+use Rattle.frame.specs.Format.{shownBy}
+use Rattle.frame.proofs.Judged.{row-room}
 use Rattle.line_writer.proofs.Puts.{entry-put, entries-begin, entries-done}
 use Rattle.line_writer.proofs.put_entries.Statement.{statement}
 use Rattle.line_writer.proofs.put_entries.Tie as tie
 use Rattle.line_writer.proofs.put_entries.Reads as reads
 use Rattle.line_writer.proofs.put_entries.Lts as lts
 use Rattle.line_writer.proofs.entry_of.Reads as entry-of-reads
-use Rattle.digits.proofs.put_number.Reads as put-number-reads
+use Rattle.digits.proofs.put_state.Reads as put-state-reads
 
 abbrev Inv-loop : tie.InvT-loop
-Inv-loop b₀ at n entries j₀ b j = (j ≤ n) × (length b ≡ length b₀) × (sets b (at + j * 4) (written (replicate (n - j) 4) (map (entryOf 65535) (drop j entries))) ≡ sets b₀ at (written (replicate n 4) (map (entryOf 65535) entries)))
+Inv-loop b₀ at n w short none entries j₀ b j =
+    (j ≤ n) × (length b ≡ length b₀) × (sets b (at + j * w) (written (replicate (n - j) w) (map (shownBy short none) (drop j entries))) ≡ sets b₀ at (written (replicate n w) (map (shownBy short none) entries)))
 
 abbrev μ-loop : tie.MeasureT-loop
-μ-loop b₀ at n entries j₀ b j = n - j
+μ-loop b₀ at n w short none entries j₀ b j = n - j
 
 loop-holds : tie.Need-loop-holds Inv-loop μ-loop
 loop-holds c =
     let a = c .before .args in
-    (zero-le, refl, entries-begin (a .b .now) (a .t4) (a .at) (a .n))
+    (zero-le, refl, entries-begin (a .width) (shownBy (a .short) (a .none)) (a .b .now) (a .t7) (a .at) (a .n))
 
-mul-put-number : tie.Need-mul-put-number Inv-loop μ-loop
-mul-put-number c = search needs
+mul-put-state : tie.Need-mul-put-state Inv-loop μ-loop
+mul-put-state c =
+    let a = c .before .before .before .before .args in
+    let l = c .before .before .loop in
+    let h : a .at + l .j * a .width + a .width ≤ length (a .b .now) = row-room (a .at) (a .width) (a .n) (l .j) (length (a .b .now)) (omega arith) (c .before .before .before .before .pre .1) in
+    search needs
 
-add-put-number : tie.Need-add-put-number Inv-loop μ-loop
-add-put-number c = search needs
+add-put-state : tie.Need-add-put-state Inv-loop μ-loop
+add-put-state c =
+    let a = c .before .before .before .before .args in
+    let l = c .before .before .loop in
+    let h : a .at + l .j * a .width + a .width ≤ length (a .b .now) = row-room (a .at) (a .width) (a .n) (l .j) (length (a .b .now)) (omega arith) (c .before .before .before .before .pre .1) in
+    search needs
 
 mul-entry-of : tie.Need-mul-entry-of Inv-loop μ-loop
 mul-entry-of c = search needs
@@ -42,8 +52,12 @@ array-read-entry-of c = search needs
 entry-of-requires : tie.Need-entry-of-requires Inv-loop μ-loop
 entry-of-requires c κs = search needs
 
-put-number-requires : tie.Need-put-number-requires Inv-loop μ-loop
-put-number-requires c κs = search needs
+put-state-requires : tie.Need-put-state-requires Inv-loop μ-loop
+put-state-requires c κs =
+    let a = c .before .before .before .before .before .args in
+    let l = c .before .before .before .loop in
+    let h : a .at + l .j * a .width + a .width ≤ length (a .b .now) = row-room (a .at) (a .width) (a .n) (l .j) (length (a .b .now)) (omega arith) (c .before .before .before .before .before .pre .1) in
+    search needs
 
 add-j : tie.Need-add-j Inv-loop μ-loop
 add-j c = search needs
@@ -55,8 +69,8 @@ loop-again : tie.Need-loop-again Inv-loop μ-loop
 loop-again c =
     let a = c .before .before .before .before .before .before .before .before .args in
     let l = c .before .before .before .before .before .before .loop in
-    let s : length (a .t4) ≡ 16 = c .before .before .before .before .before .before .before .before .good .1 .1 .1 .0 .1 .0 .1 in
-    (omega arith, c .before .before .put-number .kept .0 ∙ l .inv .1, entry-put (l .b) (a .t4) (a .at) (a .n) (l .j) (omega arith) (omega arith) (c .before .before .put-number .ensures ∙ ap (λ (v : ℕ). sets (l .b) (a .at + l .j * 4) (digits 4 v)) (c .before .before .before .entry-of .ensures)) ∙ l .inv .2)
+    let s : length (a .t7) ≡ 16 = search needs in
+    (omega arith, c .before .before .put-state .kept .0 ∙ l .inv .1, entry-put (a .width) (shownBy (a .short) (a .none)) (l .b) (a .t7) (a .at) (a .n) (l .j) (omega arith) (omega arith) (c .before .before .put-state .ensures ∙ ap (λ (v : ℕ). sets (l .b) (a .at + l .j * a .width) (digits (a .width) v)) (c .before .before .before .entry-of .ensures)) ∙ l .inv .2)
 
 same-length : tie.Need-same-length Inv-loop μ-loop
 same-length c = c .before .loop .inv .1
@@ -64,7 +78,7 @@ same-length c = c .before .loop .inv .1
 returns : tie.Need-returns Inv-loop μ-loop
 returns c =
     let a = c .before .before .before .args in
-    sym (entries-done (c .before .loop .b) (a .t4) (a .at) (a .n) (c .before .loop .j) (c .loop-test .left)) ∙ c .before .loop .inv .2
+    sym (entries-done (a .width) (shownBy (a .short) (a .none)) (c .before .loop .b) (a .t7) (a .at) (a .n) (c .before .loop .j) (c .loop-test .left)) ∙ c .before .loop .inv .2
 
 pub put-entries-spec : {M : Type 1} → statement M
 put-entries-spec =
@@ -73,12 +87,12 @@ put-entries-spec =
     Inv-loop
     μ-loop
     loop-holds
-    mul-put-number
-    add-put-number
+    mul-put-state
+    add-put-state
     mul-entry-of
     array-read-entry-of
     entry-of-requires
-    put-number-requires
+    put-state-requires
     add-j
     loop-less
     loop-again

@@ -6,14 +6,6 @@ use Rattle.lost.proofs.Told.{foundLine, first-told, line-rises, early-t
 use borrow.Author.Needs.{needs}
 use Rattle.lost.proofs.fix.Statement.{statement}
 use Rattle.lost.proofs.fix.Tie as tie
-use Rattle.lost.proofs.fix.Reads as reads
-use Rattle.lost.proofs.fix.Lts as lts
-use Rattle.lost.proofs.fix_reply.Reads as fix-reply-reads
-use Rattle.lost.proofs.is_short.Reads as is-short-reads
-use Rattle.lost.proofs.listing.count_lost.Reads as count-lost-reads
-use Rattle.lost.proofs.listing.write_lost.Reads as write-lost-reads
-use Rattle.recovery.proofs.lines.Reads as lines-reads
-use Rattle.soundness.proofs.cabinet_sound.Reads as cabinet-sound-reads
 
 cabinet-sound-requires : tie.Need-cabinet-sound-requires
 cabinet-sound-requires c κs = search needs
@@ -41,11 +33,11 @@ enum-known-first c = search needs
 
 returns : tie.Need-returns
 returns c =
-    let a : _ = c .before .before .before .before .before .before .before .before .before .args in
+    let a : _ = c .before .before .before .before .before .before .before .before .before .before .before .before .before .before .args in
     let line : _ = c .before .before .before .lines in
-    let done : _ = first-told (a .entries .now) (a .makers .now) (a .last) (a .pending) (a .changes) (a .base) (a .stored) (a .held) (a .reached) (a .line) (a .ended) (a .head) (a .places) (a .list .now) (c .before .before .before .before .before .before .before .cabinet-sound .result) (c .before .before .before .before .before .before .fix-reply .result) (c .before .before .before .before .before .before .before .cabinet-sound .ensures) (c .before .before .before .before .before .before .fix-reply .ensures) ∙ c .before .before .before .before .enum-told .given .1 in
-    short-told (a .entries .now) (a .makers .now) (a .last) (a .pending) (a .changes) (a .base) (a .stored) (a .held) (a .reached) (a .line) (a .ended) (a .head) (a .places) (a .list .now) (line .result) (line .ensures) (replicate 16 0) zero-listed (c .before .before .count-lost .result)
-    (c .before .before .count-lost .ensures (line-rises (a .entries .now) (a .makers .now) (a .last) (a .pending) (a .changes) (a .base) (a .stored) (a .held) (a .reached) (a .line) (a .ended) (a .head) (a .places) (a .list .now) (line .result) (line .ensures) (replicate 16 0) zero-listed done))
+    let done : _ = first-told (a .entries .now) (a .makers .now) (a .core) (a .places) (a .list .now) (c .before .before .before .before .before .before .before .cabinet-sound .result) (c .before .before .before .before .before .before .fix-reply .result) (c .before .before .before .before .before .before .before .cabinet-sound .ensures) (c .before .before .before .before .before .before .fix-reply .ensures) ∙ c .before .before .before .before .enum-told .given .1 in
+    short-told (a .entries .now) (a .makers .now) (a .core) (a .places) (a .list .now) (line .result) (line .ensures) (replicate 16 0) zero-listed (c .before .before .count-lost .result)
+    (c .before .before .count-lost .ensures (line-rises (a .entries .now) (a .makers .now) (a .core) (a .places) (a .list .now) (line .result) (line .ensures) (replicate 16 0) zero-listed done))
     done (sym (c .before .is-short .ensures) ∙ c .if1 .taken)
 
 same-length : tie.Need-same-length
@@ -53,18 +45,18 @@ same-length c = search needs
 
 returns-2 : tie.Need-returns-2
 returns-2 c =
-    let a : _ = c .before .before .before .before .before .before .before .before .before .before .before .before .before .args in
+    let a : _ = c .before .before .before .before .before .before .before .before .before .before .before .before .before .before .before .before .before .before .args in
     let line : _ = c .before .before .before .before .before .before .before .lines in
     let count : _ = c .before .before .before .before .before .before .count-lost in
-    let done : _ = first-told (a .entries .now) (a .makers .now) (a .last) (a .pending) (a .changes) (a .base) (a .stored) (a .held) (a .reached) (a .line) (a .ended) (a .head) (a .places) (a .list .now) (c .before .before .before .before .before .before .before .before .before .before .before .cabinet-sound .result) (c .before .before .before .before .before .before .before .before .before .before .fix-reply .result) (c .before .before .before .before .before .before .before .before .before .before .before .cabinet-sound .ensures) (c .before .before .before .before .before .before .before .before .before .before .fix-reply .ensures) ∙ c .before .before .before .before .before .before .before .before .enum-told .given .1 in
-    let rises : _ = line-rises (a .entries .now) (a .makers .now) (a .last) (a .pending) (a .changes) (a .base) (a .stored) (a .held) (a .reached) (a .line) (a .ended) (a .head) (a .places) (a .list .now) (line .result) (line .ensures) (replicate 16 0) zero-listed done in
-    fixed-told (a .entries .now) (a .makers .now) (a .last) (a .pending) (a .changes) (a .base) (a .stored) (a .held) (a .reached) (a .line) (a .ended) (a .head) (a .places) (a .list .now) (line .result) (line .ensures) (replicate 16 0) zero-listed (count .result) _ (count .ensures rises) (c .before .before .write-lost .ensures rises)
+    let done : _ = first-told (a .entries .now) (a .makers .now) (a .core) (a .places) (a .list .now) (c .before .before .before .before .before .before .before .before .before .before .before .cabinet-sound .result) (c .before .before .before .before .before .before .before .before .before .before .fix-reply .result) (c .before .before .before .before .before .before .before .before .before .before .before .cabinet-sound .ensures) (c .before .before .before .before .before .before .before .before .before .before .fix-reply .ensures) ∙ c .before .before .before .before .before .before .before .before .enum-told .given .1 in
+    let rises : _ = line-rises (a .entries .now) (a .makers .now) (a .core) (a .places) (a .list .now) (line .result) (line .ensures) (replicate 16 0) zero-listed done in
+    fixed-told (a .entries .now) (a .makers .now) (a .core) (a .places) (a .list .now) (line .result) (line .ensures) (replicate 16 0) zero-listed (count .result) _ (count .ensures rises) (c .before .before .write-lost .ensures rises)
     done (sym (c .before .before .before .before .before .is-short .ensures) ∙ c .before .before .before .before .if1 .left)
 
 returns-3 : tie.Need-returns-3
 returns-3 c =
-    let a : _ = c .before .before .before .before .before .before .args in
-    early-told (a .entries .now) (a .makers .now) (a .last) (a .pending) (a .changes) (a .base) (a .stored) (a .held) (a .reached) (a .line) (a .ended) (a .head) (a .places) (a .list .now) (foundLine (a .entries .now) (a .makers .now) (a .last) (a .pending) (a .changes) (a .base) (a .stored) (a .held) (a .reached) (a .line) (a .ended) (a .head)) refl (replicate 16 0) zero-listed _ (first-told (a .entries .now) (a .makers .now) (a .last) (a .pending) (a .changes) (a .base) (a .stored) (a .held) (a .reached) (a .line) (a .ended) (a .head) (a .places) (a .list .now) (c .before .before .before .before .cabinet-sound .result) (c .before .before .before .fix-reply .result) (c .before .before .before .before .cabinet-sound .ensures) (c .before .before .before .fix-reply .ensures) ∙ c .before .first .given .1)
+    let a : _ = c .before .before .before .before .before .before .before .before .before .before .before .args in
+    early-told (a .entries .now) (a .makers .now) (a .core) (a .places) (a .list .now) (foundLine (a .entries .now) (a .makers .now) (a .core)) refl (replicate 16 0) zero-listed _ (first-told (a .entries .now) (a .makers .now) (a .core) (a .places) (a .list .now) (c .before .before .before .before .cabinet-sound .result) (c .before .before .before .fix-reply .result) (c .before .before .before .before .cabinet-sound .ensures) (c .before .before .before .fix-reply .ensures) ∙ c .before .first .given .1)
 
 pub fix-spec : {M : Type 1} → statement M
 fix-spec =

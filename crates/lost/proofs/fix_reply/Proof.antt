@@ -4,29 +4,15 @@ use Rattle.verdicts.specs.declared.Reply.the-variants.{Done}
 use Rattle.verdicts.specs.Answers.{after28}
 use Rattle.verdicts.proofs.Checks.{folded, folded-first}
 use Rattle.recovery.specs.Fix.{butLast}
-use Prim.Native.Nat.{ℕ, zero, suc, _+_, _*_, _-_, _/_, _%_, _^_, _≤_, _<_, max}
-use mathlib.Core.Path.{_≡_, refl, sym, _∙_, ap, ap₂}
-use mathlib.Core.Bool.{Bool, true, false, not, _&&_, _||_, cond}
-use mathlib.Core.List.{List, [], _∷_, _++_}
-use mathlib.Core.Logic.{⊎-elim, by-cases, inl, inr}
-use native.Mathlib.Numerals.{add-one}
-use native.Mathlib.Omega.{arith}
-use lib.ListN.{length, getD, set, List·getD-eq-default}
-use lib.Dec.{leb, ltb, eqb}
-use borrow.Author.Tests.{eq-eqb, ne-eqb, lt-ltb, le-ltb, le-leb, lt-leb, ltb-true, leb-true}
-use Rattle.laws.specs.Below.{allBelow, anyBelow, tabulate}
-use Rattle.laws.proofs.Logic.{test, clash, cond-true, cond-false, and-intro, and-left, and-right}
-use Rattle.laws.proofs.Fill.{AnySoFar, any-none, any-more, any-done, any-same, all-same, FilledSoFar, filled-none, filled-more, filled-done}
-use Rattle.history.specs.Line.{orphan, climb, lineFrom}
-use Rattle.verdicts.specs.Shape.{limits16, at, listOf, setOf, ringFrame, ringPlace, headModel, modelOf}
-use Rattle.verdicts.proofs.Limits.{width16, places8, greatestNumber32}
+use Prim.Native.Nat.{_-_}
+use mathlib.Core.Path.{_≡_, _∙_}
+use mathlib.Core.Bool.{not}
+use mathlib.Core.List.{List, []}
+use Rattle.verdicts.specs.Shape.{limits16, headModel}
+use Rattle.verdicts.proofs.Limits.{greatestNumber32}
 use borrow.Author.Needs.{needs}
 use Rattle.lost.proofs.fix_reply.Statement.{statement}
 use Rattle.lost.proofs.fix_reply.Tie as tie
-use Rattle.lost.proofs.fix_reply.Reads as reads
-use Rattle.lost.proofs.fix_reply.Lts as lts
-use Rattle.verdicts.proofs.is_down.Reads as is-down-reads
-use Rattle.replies.proofs.next.Reads as next-reads
 
 -- src/core.rt:28:9
 is-down-requires : tie.Need-is-down-requires

@@ -2,9 +2,6 @@
 use borrow.Author.Needs.{needs}
 use Rattle.places.proofs.is_decided.Statement.{statement}
 use Rattle.places.proofs.is_decided.Tie as tie
-use Rattle.places.proofs.is_decided.Reads as reads
-use Rattle.places.proofs.is_decided.Lts as lts
-use Rattle.places.proofs.awaited.Reads as awaited-reads
 
 awaited-requires : tie.Need-awaited-requires
 awaited-requires c κs = search needs

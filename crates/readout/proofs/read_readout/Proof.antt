@@ -1,10 +1,8 @@
 -- `readout::read_readout` reads a joined read-out. Assumes nothing.
-use Rattle.frame.specs.declared.Verdict.{Verdict}
-use mathlib.Core.Path.{sym, _∙_, ap}
+use mathlib.Core.Path.{_∙_}
 use borrow.Author.Needs.{needs}
-use Rattle.readout.specs.Joint.{joined, lined}
-use Rattle.readout.proofs.Jointly.{long-read, lines-read}
-use Rattle.readout.proofs.Tidy.{reading-orderly}
+use Rattle.readout.proofs.Jointly.{long-read, lines-accepted, lines-refused}
+use Rattle.readout.proofs.Laid.{reading-laid}
 use Rattle.readout.proofs.read_readout.Statement.{statement}
 use Rattle.readout.proofs.read_readout.Tie as tie
 use Rattle.readout.proofs.read_readout.Reads as reads
@@ -27,8 +25,7 @@ enum-told c = search needs
 
 judged-jointly-requires : tie.Need-judged-jointly-requires
 judged-jointly-requires c κs =
-    let g = c .before .before .before .read-sheets in
-    reading-orderly (c .before .before .before .before .before .before .args .s .now) (g .ensures) (c .before .enum-told .given .1) _
+    reading-laid (c .before .before .before .before .before .before .args .s .now) (c .before .before .before .read-sheets .ensures) (c .before .enum-told .given .1)
 
 enum-known-v : tie.Need-enum-known-v
 enum-known-v c = search needs
@@ -38,13 +35,13 @@ no-readout-requires-2 c κs = search needs
 
 returns-2 : tie.Need-returns-2
 returns-2 c =
-    let g = c .before .before .before .before .read-sheets .result in
-    c .judged-jointly .ensures ∙ ap (λ (v : Verdict). lined v (g .readout)) (sym (c .before .before .enum-told .given .1)) ∙ lines-read (c .before .before .before .before .before .before .before .args .s .now) (c .before .before .before .before .before .if1 .left) (c .before .before .before .before .read-sheets .ensures)
+    let s : _ = c .before .before .before .before in
+    c .judged-jointly .ensures ∙ lines-accepted (s .before .before .before .args .s .now) (s .before .if1 .left) (s .read-sheets .ensures) (c .before .before .enum-told .given .1)
 
 returns-3 : tie.Need-returns-3
 returns-3 c =
-    let g = c .before .before .before .before .read-sheets .result in
-    c .no-readout2 .ensures ∙ ap (λ (v : Verdict). lined v (g .readout)) (sym (c .before .before .v .given .1)) ∙ lines-read (c .before .before .before .before .before .before .before .args .s .now) (c .before .before .before .before .before .if1 .left) (c .before .before .before .before .read-sheets .ensures)
+    let s : _ = c .before .before .before .before in
+    c .no-readout2 .ensures ∙ lines-refused (s .before .before .before .args .s .now) (s .before .if1 .left) (s .read-sheets .ensures) (c .before .before .v .given .1)
 
 pub read-readout-spec : {M : Type 1} → statement M
 read-readout-spec =

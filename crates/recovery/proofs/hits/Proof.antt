@@ -6,8 +6,6 @@ use lib.Dec.{leb}
 use borrow.Author.Needs.{needs}
 use Rattle.recovery.proofs.hits.Statement.{statement}
 use Rattle.recovery.proofs.hits.Tie as tie
-use Rattle.recovery.proofs.hits.Reads as reads
-use Rattle.recovery.proofs.hits.Lts as lts
 
 -- src/lib.rt:43:5
 add-result : tie.Need-add-result

@@ -1,34 +1,17 @@
 use Rattle.bits.proofs.Sets.{empty-except}
 use Rattle.bits.specs.Member.{member}
-use Rattle.bits.specs.Sets.{below, cut, subset}
+use Rattle.bits.specs.Sets.{below, subset}
 use Rattle.history.specs.Change.{CardSet}
 use Rattle.verdicts.proofs.Held.{all-put}
 use Rattle.recovery.proofs.Rolled.{cut-within}
-use Prim.Native.Nat.{ℕ, zero, suc, _+_, _*_, _-_, _/_, _%_, _^_, _≤_, _<_, max}
-use mathlib.Core.Path.{_≡_, refl, sym, _∙_, ap, ap₂}
-use mathlib.Core.Bool.{Bool, true, false, not, _&&_, _||_, cond}
-use mathlib.Core.List.{List, [], _∷_, _++_}
-use mathlib.Core.Logic.{⊎-elim, by-cases, inl, inr}
-use native.Mathlib.Numerals.{add-one}
-use native.Mathlib.Omega.{arith}
-use lib.ListN.{length, getD, set, List·getD-eq-default}
-use lib.Dec.{leb, ltb, eqb}
-use borrow.Author.Tests.{eq-eqb, ne-eqb, lt-ltb, le-ltb, le-leb, lt-leb, ltb-true, leb-true}
-use Rattle.laws.specs.Below.{allBelow, anyBelow, tabulate}
-use Rattle.laws.proofs.Logic.{test, clash, cond-true, cond-false, and-intro, and-left, and-right}
-use Rattle.laws.proofs.Fill.{AnySoFar, any-none, any-more, any-done, any-same, all-same, FilledSoFar, filled-none, filled-more, filled-done}
-use Rattle.history.specs.Line.{orphan, climb, lineFrom}
-use Rattle.verdicts.specs.Shape.{limits16, at, listOf, setOf, ringFrame, ringPlace, headModel, modelOf}
-use Rattle.verdicts.proofs.Limits.{width16, places8, greatestNumber32}
+use Prim.Native.Nat.{ℕ, _-_}
+use mathlib.Core.Path.{sym, _∙_, ap}
+use mathlib.Core.Bool.{not}
+use Rattle.laws.specs.Below.{anyBelow}
+use Rattle.verdicts.proofs.Limits.{width16}
 use borrow.Author.Needs.{needs}
 use Rattle.recovery.proofs.is_last.Statement.{statement}
 use Rattle.recovery.proofs.is_last.Tie as tie
-use Rattle.recovery.proofs.is_last.Reads as reads
-use Rattle.recovery.proofs.is_last.Lts as lts
-use Rattle.bits.proofs.all_below.Reads as all-below-reads
-use Rattle.bits.proofs.difference.Reads as difference-reads
-use Rattle.bits.proofs.is_empty.Reads as is-empty-reads
-use Rattle.bits.proofs.with.Reads as with-reads
 
 -- src/lib.rt:135:9
 all-below-requires : tie.Need-all-below-requires

@@ -3,32 +3,14 @@ use Rattle.protocol.specs.Plan.{Check}
 use Rattle.verdicts.specs.declared.Reply.the-variants.{Done}
 use Rattle.verdicts.specs.Answers.{after28}
 use Rattle.verdicts.proofs.Checks.{folded, folded-first}
-use Rattle.bits.specs.Member.{member}
-use Prim.Native.Nat.{ℕ, zero, suc, _+_, _*_, _-_, _/_, _%_, _^_, _≤_, _<_, max}
-use mathlib.Core.Path.{_≡_, refl, sym, _∙_, ap, ap₂}
-use mathlib.Core.Bool.{Bool, true, false, not, _&&_, _||_, cond}
-use mathlib.Core.List.{List, [], _∷_, _++_}
-use mathlib.Core.Logic.{⊎-elim, by-cases, inl, inr}
-use native.Mathlib.Numerals.{add-one}
-use native.Mathlib.Omega.{arith}
-use lib.ListN.{length, getD, set, List·getD-eq-default}
-use lib.Dec.{leb, ltb, eqb}
-use borrow.Author.Tests.{eq-eqb, ne-eqb, lt-ltb, le-ltb, le-leb, lt-leb, ltb-true, leb-true}
-use Rattle.laws.specs.Below.{allBelow, anyBelow, tabulate}
-use Rattle.laws.proofs.Logic.{test, clash, cond-true, cond-false, and-intro, and-left, and-right}
-use Rattle.laws.proofs.Fill.{AnySoFar, any-none, any-more, any-done, any-same, all-same, FilledSoFar, filled-none, filled-more, filled-done}
-use Rattle.history.specs.Line.{orphan, climb, lineFrom}
-use Rattle.verdicts.specs.Shape.{limits16, at, listOf, setOf, ringFrame, ringPlace, headModel, modelOf}
-use Rattle.verdicts.proofs.Limits.{width16, places8, greatestNumber32}
+use Prim.Native.Nat.{_-_}
+use mathlib.Core.Path.{_≡_, _∙_}
+use mathlib.Core.Bool.{not}
+use mathlib.Core.List.{List, []}
+use Rattle.verdicts.specs.Shape.{limits16, bare, withLine, modelOf}
 use borrow.Author.Needs.{needs}
 use Rattle.recovery.proofs.roll_reply.Statement.{statement}
 use Rattle.recovery.proofs.roll_reply.Tie as tie
-use Rattle.recovery.proofs.roll_reply.Reads as reads
-use Rattle.recovery.proofs.roll_reply.Lts as lts
-use Rattle.bits.proofs.has.Reads as has-reads
-use Rattle.verdicts.proofs.is_rolling.Reads as is-rolling-reads
-use Rattle.replies.proofs.is_card.Reads as is-card-reads
-use Rattle.replies.proofs.next.Reads as next-reads
 
 -- src/lib.rt:114:9
 is-card-requires : tie.Need-is-card-requires
@@ -60,7 +42,7 @@ next-requires-4 c κs = search needs
 
 -- src/lib.rt:111:1
 returns : tie.Need-returns
-returns c = let a : _ = c .before .before .before .before .before .before .before .args in let cs : List Check = after28 (not (a .sound)) (rollChecks limits16 (modelOf [] [] [] [] [] [] [] [] [] [] [] (a .rolled) (a .head)) (a .card)) in let e : c .next4 .result ≡ folded cs Done = rw (c .next4 .ensures, c .before .next3 .ensures, c .before .before .next2 .ensures, c .before .before .before .next .ensures, c .before .before .before .before .before .before .is-card .ensures, c .before .before .before .before .before .is-rolling .ensures, c .before .before .before .before .has .ensures) in e ∙ folded-first cs
+returns c = let a : _ = c .before .before .before .before .before .before .before .args in let cs : List Check = after28 (not (a .sound)) (rollChecks limits16 (modelOf [] [] (withLine (bare (a .head)) [] (a .rolled))) (a .card)) in let e : c .next4 .result ≡ folded cs Done = rw (c .next4 .ensures, c .before .next3 .ensures, c .before .before .next2 .ensures, c .before .before .before .next .ensures, c .before .before .before .before .before .before .is-card .ensures, c .before .before .before .before .before .is-rolling .ensures, c .before .before .before .before .has .ensures) in e ∙ folded-first cs
 
 pub roll-reply-spec : {M : Type 1} → statement M
 roll-reply-spec =

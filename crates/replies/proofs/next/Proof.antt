@@ -1,17 +1,7 @@
-use Prim.Native.Nat.{ℕ, zero, suc, _+_, _*_, _-_, _/_, _%_, _^_, _≤_, _<_, max}
-use mathlib.Core.Path.{_≡_, refl, sym, _∙_, ap, ap₂}
-use mathlib.Core.Bool.{Bool, true, false, not, _&&_, _||_, cond}
-use mathlib.Core.List.{List, [], _∷_}
-use mathlib.Core.Logic.{⊎-elim, by-cases, inl, inr}
-use native.Mathlib.Numerals.{add-one}
-use native.Mathlib.Omega.{arith}
-use lib.ListN.{length, getD, set, List·getD-eq-default}
-use lib.Dec.{leb, ltb, eqb}
+use Prim.Native.Nat.{_-_}
 use borrow.Author.Needs.{needs}
 use Rattle.replies.proofs.next.Statement.{statement}
 use Rattle.replies.proofs.next.Tie as tie
-use Rattle.replies.proofs.next.Reads as reads
-use Rattle.replies.proofs.next.Lts as lts
 
 -- src/lib.rt:25:16
 enum-told : tie.Need-enum-told

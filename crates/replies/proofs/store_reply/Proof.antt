@@ -1,36 +1,17 @@
 use Rattle.protocol.specs.Calls.{storeChecks}
 use Rattle.protocol.specs.Plan.{Check}
-use Rattle.verdicts.specs.Shape.{headModel, numbersModel, placesModel}
+use Rattle.verdicts.specs.Shape.{numbersModel}
 use Rattle.verdicts.specs.declared.Reply.the-variants.{Done}
 use Rattle.verdicts.specs.Answers.{after28}
 use Rattle.verdicts.proofs.Checks.{folded, folded-first}
-use Rattle.protocol.specs.Model.{isOpen}
-use Rattle.bits.specs.Sets.{either, except, subset}
-use Rattle.bits.specs.Member.{member}
-use borrow.Author.Tests.{eq-eqb, ne-eqb, lt-ltb, le-ltb}
-use Rattle.verdicts.specs.Shape.{limits16, at, listOf, setOf, openOf, openAt, placeFor}
-use Rattle.verdicts.proofs.Held.{list-by, list-known, list-same, at-list, at-list-all, set-by, set-known, put-same, place-by, free-open}
-use Rattle.verdicts.proofs.Limits.{width16, inHand48, places8, greatest60000}
-use Rattle.laws.proofs.Fill.{AllSoFar, all-none, all-more, all-done, NoneSoFar, search-none, search-more, search-done, search-found, FilledSoFar, filled-none, filled-more, filled-done, all-same, any-same}
-use Rattle.laws.specs.Below.{allBelow, anyBelow, firstBelow}
-use Prim.Native.Nat.{ℕ, zero, suc, _+_, _*_, _-_, _/_, _%_, _^_, _≤_, _<_, max}
-use mathlib.Core.Path.{_≡_, refl, sym, _∙_, ap, ap₂}
-use mathlib.Core.Bool.{Bool, true, false, not, _&&_, _||_, cond}
-use mathlib.Core.List.{List, [], _∷_}
-use mathlib.Core.Logic.{⊎-elim, by-cases, inl, inr}
-use native.Mathlib.Numerals.{add-one}
-use native.Mathlib.Omega.{arith}
-use lib.ListN.{length, getD, set, List·getD-eq-default}
-use lib.Dec.{leb, ltb, eqb}
+use Rattle.verdicts.specs.Shape.{limits16, at}
+use Prim.Native.Nat.{_-_}
+use mathlib.Core.Path.{_≡_, _∙_}
+use mathlib.Core.Bool.{not}
+use mathlib.Core.List.{List, []}
 use borrow.Author.Needs.{needs}
 use Rattle.replies.proofs.store_reply.Statement.{statement}
 use Rattle.replies.proofs.store_reply.Tie as tie
-use Rattle.replies.proofs.store_reply.Reads as reads
-use Rattle.replies.proofs.store_reply.Lts as lts
-use Rattle.verdicts.proofs.at.Reads as at-reads
-use Rattle.verdicts.proofs.is_rolling.Reads as is-rolling-reads
-use Rattle.replies.proofs.is_card.Reads as is-card-reads
-use Rattle.replies.proofs.next.Reads as next-reads
 
 -- src/lib.rt:45:9
 is-card-requires : tie.Need-is-card-requires

@@ -18,7 +18,7 @@ enum-told : tie.Need-enum-told
 enum-told c = search needs
 
 accepted-text-requires : tie.Need-accepted-text-requires
-accepted-text-requires c κs = (few (c .before .before .before .before .before .before .before .before .args .bytes .now) (c .before .before .before .before .before .before .restart .result .reply) (c .before .before .before .before .before .before .restart .result .cabinet) (c .before .before .before .before .before .before .restart .ensures) (c .before .before .before .before .enum-told .given .1), left (c .before .before .before .before .before .before .before .before .args .bytes .now) (c .before .before .before .before .before .before .restart .result .reply) (c .before .before .before .before .before .before .restart .result .cabinet) (c .before .before .before .before .before .before .restart .ensures) (c .before .before .before .before .enum-told .given .1))
+accepted-text-requires c κs = (few (c .before .before .before .before .before .before .before .before .before .args .bytes .now) (c .before .before .before .before .before .before .before .restart .result .reply) (c .before .before .before .before .before .before .before .restart .result .cabinet) (c .before .before .before .before .before .before .before .restart .ensures) (c .before .before .before .before .before .enum-told .given .1), left (c .before .before .before .before .before .before .before .before .before .args .bytes .now) (c .before .before .before .before .before .before .before .restart .result .reply) (c .before .before .before .before .before .before .before .restart .result .cabinet) (c .before .before .before .before .before .before .before .restart .ensures) (c .before .before .before .before .before .enum-told .given .1))
 
 enum-known-r : tie.Need-enum-known-r
 enum-known-r c = search needs
@@ -30,7 +30,7 @@ refused-text-requires : tie.Need-refused-text-requires
 refused-text-requires c κs = search needs
 
 returns : tie.Need-returns
-returns c = accepted-same (c .before .before .before .before .before .before .before .before .before .args .bytes .now) (c .before .before .before .before .before .before .before .restart .result .reply) (c .before .before .before .before .before .before .before .restart .result .cabinet) (c .before .before .before .before .before .before .before .restart .ensures) (c .before .before .before .before .before .enum-told .given .1) (c .accepted-text .ensures)
+returns c = accepted-same (c .before .before .before .before .before .before .before .before .before .before .args .bytes .now) (c .before .before .before .before .before .before .before .before .restart .result .reply) (c .before .before .before .before .before .before .before .before .restart .result .cabinet) (c .before .before .before .before .before .before .before .before .restart .ensures) (c .before .before .before .before .before .before .enum-told .given .1) (c .accepted-text .ensures)
 
 returns-2 : tie.Need-returns-2
 returns-2 c = refused-same (c .before .before .before .before .before .before .before .args .bytes .now) (c .before .before .before .before .before .restart .result .reply) (c .before .before .before .before .before .restart .result .cabinet) (c .before .before .before .before .before .restart .ensures) (c .before .before .before .r .given .0 .0) (c .before .number .result) (c .before .before .before .r .given .1) (c .before .number .ensures) (c .refused-text .ensures)

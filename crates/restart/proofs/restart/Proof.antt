@@ -1,5 +1,6 @@
 -- `restart::restart` answers what the read-out's verdict says. Assumes nothing.
-use mathlib.Core.Path.{_≡_}
+use mathlib.Core.Path.{_≡_, _∙_, ap}
+use Rattle.cabinet.specs.Fresh.{zeroCabinet}
 use Rattle.restart.proofs.Shows.{read-within, restart-done, restart-refused}
 use borrow.Author.Needs.{needs}
 use Rattle.restart.proofs.restart.Statement.{statement}
@@ -22,6 +23,9 @@ restarted-requires c κs = read-within (c .before .before .before .before .befor
 enum-known-v : tie.Need-enum-known-v
 enum-known-v c = search needs
 
+head-of-requires : tie.Need-head-of-requires
+head-of-requires c κs = search needs
+
 zeros-requires : tie.Need-zeros-requires
 zeros-requires c κs = search needs
 
@@ -29,7 +33,7 @@ returns : tie.Need-returns
 returns c = restart-done (c .before .before .before .before .before .before .args .bytes .now) (c .before .before .before .before .read-readout .result) (c .before .before .before .before .read-readout .ensures) (c .restarted .result) (c .before .before .enum-told .given .1) (c .restarted .ensures)
 
 returns-2 : tie.Need-returns-2
-returns-2 c = restart-refused (c .before .before .before .before .before .before .args .bytes .now) (c .before .before .before .before .read-readout .result) (c .before .before .before .before .read-readout .ensures) (c .zeros .result) (c .before .before .v .given .0 .0) (c .before .before .v .given .1) (c .zeros .ensures)
+returns-2 c = restart-refused (c .before .before .before .before .before .before .before .args .bytes .now) (c .before .before .before .before .before .read-readout .result) (c .before .before .before .before .before .read-readout .ensures) (c .zeros .result) (c .before .before .before .v .given .0 .0) (c .before .before .before .v .given .1) (c .zeros .ensures ∙ ap zeroCabinet (c .before .head-of .ensures))
 
 pub restart-spec : {M : Type 1} → statement M
 restart-spec =
@@ -39,6 +43,7 @@ restart-spec =
     enum-told
     restarted-requires
     enum-known-v
+    head-of-requires
     zeros-requires
     returns
     returns-2)

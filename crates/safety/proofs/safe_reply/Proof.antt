@@ -9,7 +9,7 @@ use Rattle.verdicts.specs.declared.Reply.the-variants.{Done}
 use Rattle.verdicts.specs.Answers.{after28}
 use Rattle.verdicts.proofs.Checks.{folded, folded-first}
 use borrow.Author.Tests.{ltb-true, not-false}
-use Rattle.verdicts.specs.Shape.{limits16, at, ringMaker, openOf, openAt, modelOf}
+use Rattle.verdicts.specs.Shape.{limits16, at, ringMaker, openOf, openAt, bare, withPlaces, withNumbers, modelOf}
 use Rattle.verdicts.proofs.Limits.{width16, places8}
 use Rattle.laws.proofs.Fill.{AnySoFar, any-none, any-more, any-done}
 use Rattle.laws.specs.Below.{anyBelow}
@@ -81,7 +81,7 @@ answered-requires c κs = search needs
 
 -- src/lib.rt:87:1
 returns-2 : tie.Need-returns-2
-returns-2 c = let a : _ = c .before .before .before .before .before .before .before .before .before .before .before .args in let m : Model = modelOf [] (a .makers .now) [] [] (a .all) (a .base) (a .stored) [] (a .reached) [] [] 0 (a .head) in let P : ℕ = placeOf limits16 m (a .k) in let ok : a .sound ≡ true = not-false (a .sound) (c .before .before .before .before .before .before .before .before .before .before .if1 .left) in let ord : _ = c .before .before .before .before .before .before .before .before .before .before .before .pre ok in let cs : List Check = rest (safeChecks limits16 m (a .k)) in let fk : c .before .before .before .before .before .before .before .some-above .result ≡ someFrameAbove limits16 m (a .k) (at (a .base)) = c .before .before .before .before .before .before .before .some-above .ensures ∙ window (a .makers .now) (a .base) (a .reached) (a .base) (a .head .cards) (a .k) (λ i h l. omega arith) in let fl : c .before .before .before .before .before .before .some-above2 .result ≡ someFrameAbove limits16 m (a .k) (at (a .stored)) = c .before .before .before .before .before .before .some-above2 .ensures ∙ window (a .makers .now) (a .base) (a .reached) (a .stored) (a .head .cards) (a .k) (ord .low) in let ep : c .before .before .before .before .before .place-of .result ≡ P = c .before .before .before .before .before .place-of .ensures in let eo : openOf (c .before .before .before .before .place-at .result) ≡ openAt (a .all) P = c .before .before .before .before .place-at .ensures ∙ ap (openAt (a .all)) ep in let ew : c .before .before .before .awaits-write .result ≡ awaitsWrite limits16 (openAt (a .all) P) = c .before .before .before .awaits-write .ensures ∙ ap (awaitsWrite limits16) eo in let ek : ltb (c .before .before .before .before .before .place-of .result) 8 ≡ ltb P (limits16 .places) = ap₂ (λ (x y : ℕ). ltb x y) ep (sym places8) in let good : not (c .before .before .before .before .before .before .some-above2 .result) && not (ltb (c .before .before .before .before .before .place-of .result) 8 && c .before .before .before .awaits-write .result) ≡ isSafe limits16 m (a .k) = rw (fl, ek, ew) in let e : c .before .next2 .result ≡ folded cs Done = rw (c .before .next2 .ensures, c .before .before .next .ensures, c .before .before .before .before .before .before .before .before .is-up .ensures, fk) in c .answered .ensures ∙ ap₂ (λ (r : Reply) (g : Bool). gradedOf r g) (e ∙ folded-first cs) good ∙ graded-first cs (isSafe limits16 m (a .k)) ∙ sym (ap (λ (x : Bool). checked (after28 (not x) (safeChecks limits16 m (a .k))) (cond (isSafe limits16 m (a .k)) safe unsafe) [] .reply) ok)
+returns-2 c = let a : _ = c .before .before .before .before .before .before .before .before .before .before .before .args in let m : Model = modelOf [] (a .makers .now) (withPlaces (withNumbers (bare (a .head)) (a .base) (a .stored) [] (a .reached)) (a .all) []) in let P : ℕ = placeOf limits16 m (a .k) in let ok : a .sound ≡ true = not-false (a .sound) (c .before .before .before .before .before .before .before .before .before .before .if1 .left) in let ord : _ = c .before .before .before .before .before .before .before .before .before .before .before .pre ok in let cs : List Check = rest (safeChecks limits16 m (a .k)) in let fk : c .before .before .before .before .before .before .before .some-above .result ≡ someFrameAbove limits16 m (a .k) (at (a .base)) = c .before .before .before .before .before .before .before .some-above .ensures ∙ window (a .makers .now) (a .base) (a .reached) (a .base) (a .head .cards) (a .k) (λ i h l. omega arith) in let fl : c .before .before .before .before .before .before .some-above2 .result ≡ someFrameAbove limits16 m (a .k) (at (a .stored)) = c .before .before .before .before .before .before .some-above2 .ensures ∙ window (a .makers .now) (a .base) (a .reached) (a .stored) (a .head .cards) (a .k) (ord .low) in let ep : c .before .before .before .before .before .place-of .result ≡ P = c .before .before .before .before .before .place-of .ensures in let eo : openOf (c .before .before .before .before .place-at .result) ≡ openAt (a .all) P = c .before .before .before .before .place-at .ensures ∙ ap (openAt (a .all)) ep in let ew : c .before .before .before .awaits-write .result ≡ awaitsWrite limits16 (openAt (a .all) P) = c .before .before .before .awaits-write .ensures ∙ ap (awaitsWrite limits16) eo in let ek : ltb (c .before .before .before .before .before .place-of .result) 8 ≡ ltb P (limits16 .places) = ap₂ (λ (x y : ℕ). ltb x y) ep (sym places8) in let good : not (c .before .before .before .before .before .before .some-above2 .result) && not (ltb (c .before .before .before .before .before .place-of .result) 8 && c .before .before .before .awaits-write .result) ≡ isSafe limits16 m (a .k) = rw (fl, ek, ew) in let e : c .before .next2 .result ≡ folded cs Done = rw (c .before .next2 .ensures, c .before .before .next .ensures, c .before .before .before .before .before .before .before .before .is-up .ensures, fk) in c .answered .ensures ∙ ap₂ (λ (r : Reply) (g : Bool). gradedOf r g) (e ∙ folded-first cs) good ∙ graded-first cs (isSafe limits16 m (a .k)) ∙ sym (ap (λ (x : Bool). checked (after28 (not x) (safeChecks limits16 m (a .k))) (cond (isSafe limits16 m (a .k)) safe unsafe) [] .reply) ok)
 
 pub safe-reply-spec : {M : Type 1} → statement M
 safe-reply-spec =

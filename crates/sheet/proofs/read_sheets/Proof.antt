@@ -8,14 +8,16 @@ use lib.Dec.{eqb}
 use lib.ListN.{length, drop}
 use Rattle.digits.proofs.Lines.{whole-room}
 use mathlib.Core.List.{List}
-use Rattle.frame.specs.declared.Verdict.{Verdict}
-use Rattle.frame.specs.declared.Verdict.the-variants.{Accepted, Refused}
+use Rattle.refusal.specs.declared.Verdict.{Verdict}
+use Rattle.refusal.specs.declared.Verdict.the-variants.{Accepted, Refused}
 use Rattle.frame.specs.declared.Header.{Header}
 use Rattle.frame.specs.declared.Frame.{Frame}
 use Rattle.frame.specs.declared.FrameRead.{FrameRead}
 use Rattle.frame.specs.declared.FrameLine.the-variants.{Read as frame-read}
-use Rattle.frame.specs.Format.{format}
-use Rattle.frame.specs.Lines.{headerIn, headerVerdict, headerTold, frameIn, frameVerdict, frameReadOf, frameTold, padded}
+use Rattle.frame.specs.declared.Layout.{Layout}
+use Rattle.frame.specs.Format.{Format, formats, formatOf, Fits}
+use Rattle.frame.specs.Lines.{cardsOf, formatIn, headerDigits, headerIn, headerVerdict, headerTold, frameDigits, frameIn, frameVerdict, frameReadOf, frameTold, padded}
+use Rattle.frame.proofs.Judged.{row-small}
 use Rattle.frame.proofs.Passed.{Header-in-limits, header-within, header-passed, frame-passed}
 use Rattle.sheet.proofs.Walk.{Outer, Inner, header-read-is, header-fault-is, frame-read-is, frame-fault-is, outer-start, outer-end, outer-fault, outer-inner, inner-fault, inner-end, inner-again, sheets-fewer, lift-pos}
 use Rattle.sheet.proofs.read_sheets.Statement.{statement}
@@ -27,52 +29,84 @@ use Rattle.frame.proofs.frame_told.Reads as frame-told-reads
 use Rattle.header_reader.proofs.header_at.Reads as header-at-reads
 use Rattle.frame.proofs.header_told.Reads as header-told-reads
 use Rattle.frame.proofs.start_of.Reads as start-of-reads
+use Rattle.frame.proofs.layout_of.Reads as layout-of-reads
+use Rattle.header_reader.proofs.told_at.Reads as told-at-reads
+use Rattle.header_reader.proofs.unraised.Reads as unraised-reads
 use Rattle.sheet.proofs.end_at.Reads as end-at-reads
 use Rattle.sheet.proofs.sheets_left.Reads as sheets-left-reads
 use Rattle.sheet.proofs.store_entries.Reads as store-entries-reads
 
 abbrev Inv-loop : tie.InvT-loop
-Inv-loop s card all r₀ at₀ due first left n base count session i last₀ k₀ r at last k = Inner s card all due left n base count session i r at last k
+Inv-loop s card all r₀ at₀ due first left f w n base count session i last₀ k₀ r at last k = Inner formats (formatOf f) s card all due left n base count session i r at last k
 
 abbrev μ-loop : tie.MeasureT-loop
-μ-loop s card all r₀ at₀ due first left n base count session i last₀ k₀ r at last k = count - k
+μ-loop s card all r₀ at₀ due first left f w n base count session i last₀ k₀ r at last k = count - k
 
 abbrev Inv-sheets : tie.InvT-sheets
-Inv-sheets s card all r₀ at₀ due₀ first₀ left₀ r at due first left = Outer s card all r at due first left
+Inv-sheets s card all r₀ at₀ due₀ first₀ left₀ r at due first left = Outer formats s card all r at due first left
 
 abbrev μ-sheets : tie.MeasureT-sheets
 μ-sheets s card all r₀ at₀ due₀ first₀ left₀ r at due first left = cond (eqb first 0) 17 left
 
+-- where a header line was read and accepted: where its line stands, its layout, and what is left of the input there
+abbrev At-header : Type 0
+At-header = tie.After-known-told Inv-loop μ-loop Inv-sheets μ-sheets
+
+abbrev layout : At-header → Layout
+layout c = c .before .before .before .before .layout-of .result
+
+abbrev line-at : At-header → List ℕ
+line-at c = drop (c .before .before .before .before .before .before .before .sheets .at) (c .before .before .before .before .before .before .before .before .before .args .s .now)
+
+-- the layout is the one that the header picks
+picks : (c : At-header) → formatOf (layout c) ≡ formatIn formats (line-at c)
+picks c = c .before .before .before .before .layout-of .ensures .0 ∙ ap formats (c .before .before .before .before .before .told-at .ensures)
+
 -- the header that was read is accepted
-header-is : (c : tie.After-known-told Inv-loop μ-loop Inv-sheets μ-sheets) → (headerVerdict format (c .before .before .before .before .before .sheets .due) (c .before .before .before .before .before .sheets .first) (drop (c .before .before .before .before .before .sheets .at) (c .before .before .before .before .before .before .before .args .s .now)) ≡ Accepted) × (headerIn format (drop (c .before .before .before .before .before .sheets .at) (c .before .before .before .before .before .before .before .args .s .now)) ≡ c .before .line .given .0 .0)
+header-is : (c : At-header) → (headerVerdict (formatOf (layout c)) (c .before .before .before .before .before .before .before .sheets .due) (c .before .before .before .before .before .before .before .sheets .first) (line-at c) ≡ Accepted) × (headerIn (formatOf (layout c)) (line-at c) ≡ c .before .line .given .0 .0)
 header-is c = header-read-is _ _ _ (sym (c .before .before .before .header-at .ensures) ∙ c .before .line .given .1)
 
-header-limits : (c : tie.After-known-told Inv-loop μ-loop Inv-sheets μ-sheets) → Header-in-limits format (c .before .before .before .before .before .sheets .due) (c .before .before .before .before .before .sheets .first) (headerIn format (drop (c .before .before .before .before .before .sheets .at) (c .before .before .before .before .before .before .before .args .s .now)))
-header-limits c = header-within format _ _ _ (header-is c .0)
+header-limits : (c : At-header) → Header-in-limits (formatOf (layout c)) (c .before .before .before .before .before .before .before .sheets .due) (c .before .before .before .before .before .before .before .sheets .first) (headerIn (formatOf (layout c)) (line-at c))
+header-limits c = header-within (formatOf (layout c)) _ _ _ (header-is c .0)
 
 -- the card that is due is within the limits
-due-small : (c : tie.After-known-told Inv-loop μ-loop Inv-sheets μ-sheets) → c .before .before .before .before .before .sheets .due < 16
+due-small : (c : At-header) → c .before .before .before .before .before .before .before .sheets .due < 16
 due-small c =
     let w = header-limits c in
     let e = w .card in
     omega (arith, w .below, w .cards, e)
 
--- where a frame line was read: the header of its sheet, what is left of the input, the frame there and its verdict
+-- where a frame line was read: the header of its sheet, its layout and number of cards, what is left of the input, the frame there and its verdict
 abbrev At-frame : Type 0
 At-frame = tie.After-frame-at Inv-loop μ-loop Inv-sheets μ-sheets
 
+abbrev of-header : At-frame → At-header
+of-header c = c .before .before .before .before .before .before
+
 abbrev head : At-frame → Header
-head c = c .before .before .before .before .before .before .line .given .0 .0
+head c = of-header c .before .line .given .0 .0
+
+abbrev format-of : At-frame → Format
+format-of c = formatOf (layout (of-header c))
+
+abbrev cards-of : At-frame → ℕ
+cards-of c = c .before .before .before .before .before .unraised .result
+
+abbrev bytes : At-frame → List ℕ
+bytes c = of-header c .before .before .before .before .before .before .before .before .before .args .s .now
 
 abbrev input : At-frame → List ℕ
-input c = drop (c .before .before .before .loop .at) (c .before .before .before .before .before .before .before .before .before .before .before .before .args .s .now)
+input c = drop (c .before .before .before .loop .at) (bytes c)
 
 abbrev frame-of : At-frame → Frame
-frame-of c = frameIn format (head c .cards) (input c)
+frame-of c = frameIn (format-of c) (cards-of c) (input c)
+
+abbrev due-of : At-frame → ℕ
+due-of c = of-header c .before .before .before .before .before .before .before .sheets .due
 
 abbrev verdict-of : At-frame → Verdict
 verdict-of c =
-    frameVerdict format (format .start (c .before .before .before .before .before .before .before .before .before .before .sheets .due) (head c .session)) (c .before .before .before .before .before .before .before .before .before .before .sheets .due) (head c .cards) (head c .base + 1 + c .before .before .before .loop .k) (c .before .before .before .loop .last) (input c)
+    frameVerdict (format-of c) (format-of c .start (due-of c) (head c .session)) (due-of c) (cards-of c) (head c .base + 1 + c .before .before .before .loop .k) (c .before .before .before .loop .last) (input c)
 
 frame-told-is : (c : At-frame) → c .frame-at .result ≡ frameReadOf (verdict-of c) (frame-of c)
 frame-told-is c = rw (c .before .start-of .ensures) at (c .frame-at .ensures)
@@ -84,18 +118,28 @@ frame-is c change e = frame-read-is (verdict-of c) (frame-of c) change (sym (ap 
 entries-is : (c : At-frame) → verdict-of c ≡ Accepted → c .frame-at .result .entries ≡ padded (frame-of c .entries)
 entries-is c e = ap (λ (x : FrameRead). x .entries) (frame-told-is c) ∙ ap (λ (v : Verdict). frameReadOf v (frame-of c) .entries) e
 
--- the place where the frame goes is within the read-out
-room : (c : At-frame) → verdict-of c ≡ Accepted → c .before .before .before .loop .at + (12 + head c .cards * 4) + 5 ≤ length (c .before .before .before .before .before .before .before .before .before .before .before .before .args .s .now)
-room c e = whole-room (12 + head c .cards * 4) (c .before .before .before .loop .at) (c .before .before .before .before .before .before .before .before .before .before .before .before .args .s .now) (frame-passed format _ _ _ _ _ _ e .whole)
+-- the line is within the input
+room : (c : At-frame) → verdict-of c ≡ Accepted → c .before .before .before .loop .at + frameDigits (format-of c) (cards-of c) + 5 ≤ length (bytes c)
+room c e = whole-room (frameDigits (format-of c) (cards-of c)) (c .before .before .before .loop .at) (bytes c) (frame-passed (format-of c) _ _ _ _ _ _ e .whole)
+
+-- the layout's numbers are those of its width
+fits : (c : At-header) → Fits (layout c)
+fits c = c .before .before .before .before .layout-of .ensures .1
 
 sheets-holds : tie.Need-sheets-holds Inv-loop μ-loop Inv-sheets μ-sheets
-sheets-holds c = outer-start (c .before .args .s .now) (c .before .args .card) (c .before .args .all)
+sheets-holds c = outer-start formats (c .before .args .s .now) (c .before .args .card) (c .before .args .all)
 
 end-at-requires : tie.Need-end-at-requires Inv-loop μ-loop Inv-sheets μ-sheets
 end-at-requires c κs = search needs
 
+told-at-requires : tie.Need-told-at-requires Inv-loop μ-loop Inv-sheets μ-sheets
+told-at-requires c κs = search needs
+
+layout-of-requires : tie.Need-layout-of-requires Inv-loop μ-loop Inv-sheets μ-sheets
+layout-of-requires c κs = search needs
+
 header-at-requires : tie.Need-header-at-requires Inv-loop μ-loop Inv-sheets μ-sheets
-header-at-requires c κs = search needs
+header-at-requires c κs = c .layout-of .ensures .1 .width
 
 enum-known-line : tie.Need-enum-known-line Inv-loop μ-loop Inv-sheets μ-sheets
 enum-known-line c = search needs
@@ -106,34 +150,44 @@ enum-told c = search needs
 header-told-requires : tie.Need-header-told-requires Inv-loop μ-loop Inv-sheets μ-sheets
 header-told-requires c κs = search needs
 
+unraised-requires : tie.Need-unraised-requires Inv-loop μ-loop Inv-sheets μ-sheets
+unraised-requires c κs = search needs
+
 cast-i : tie.Need-cast-i Inv-loop μ-loop Inv-sheets μ-sheets
-cast-i c = omega (arith, due-small c)
+cast-i c = omega (arith, due-small (c .before))
 
 mul-r : tie.Need-mul-r Inv-loop μ-loop Inv-sheets μ-sheets
-mul-r c = omega (arith, due-small c)
+mul-r c = omega (arith, due-small (c .before))
 
 element-write-r : tie.Need-element-write-r Inv-loop μ-loop Inv-sheets μ-sheets
-element-write-r c = due-small c
+element-write-r c = due-small (c .before)
 
 mul-r-2 : tie.Need-mul-r-2 Inv-loop μ-loop Inv-sheets μ-sheets
-mul-r-2 c = omega (arith, due-small c)
+mul-r-2 c = omega (arith, due-small (c .before))
 
 element-write-r-2 : tie.Need-element-write-r-2 Inv-loop μ-loop Inv-sheets μ-sheets
-element-write-r-2 c = due-small c
+element-write-r-2 c = due-small (c .before)
 
 sheets-left-requires : tie.Need-sheets-left-requires Inv-loop μ-loop Inv-sheets μ-sheets
 sheets-left-requires c κs = search needs
 
 add-at : tie.Need-add-at Inv-loop μ-loop Inv-sheets μ-sheets
-add-at c =
-    let a = c .before .before .before .before .before .before .before .before .args in
-    let w : c .before .before .before .before .before .before .sheets .at + 20 + 5 ≤ length (a .s .now) = whole-room 20 (c .before .before .before .before .before .before .sheets .at) (a .s .now) (header-passed format _ _ _ (header-is (c .before) .0) .whole) in
-    omega (arith, c .before .before .before .before .before .before .before .before .good .0 .0)
+add-at c = omega (arith, fits (c .before .before) .width)
+
+add-at-2 : tie.Need-add-at-2 Inv-loop μ-loop Inv-sheets μ-sheets
+add-at-2 c = omega (arith, fits (c .before .before) .width)
+
+add-at-3 : tie.Need-add-at-3 Inv-loop μ-loop Inv-sheets μ-sheets
+add-at-3 c =
+    let f = formatOf (layout (c .before .before)) in
+    let a = c .before .before .before .before .before .before .before .before .before .before .before .args in
+    let w : c .before .before .before .before .before .before .before .before .before .sheets .at + headerDigits f + 5 ≤ length (a .s .now) = whole-room (headerDigits f) (c .before .before .before .before .before .before .before .before .before .sheets .at) (a .s .now) (header-passed f _ _ _ (header-is (c .before .before) .0) .whole) in
+    omega (arith, c .before .before .before .before .before .before .before .before .before .before .before .good .0 .0)
 
 loop-holds : tie.Need-loop-holds Inv-loop μ-loop Inv-sheets μ-sheets
 loop-holds c =
-    let h = c .before .before .line .given .0 .0 in
-    outer-inner (c .before .before .before .before .before .before .sheets .inv) h (lift-pos _ (c .before .before .before .before .before .if1 .left)) (sym (header-is (c .before) .1)) (header-is (c .before) .0) (c .sheets-left .ensures) refl
+    let h = c .before .before .before .line .given .0 .0 in
+    outer-inner (c .before .before .before .before .before .before .before .before .before .sheets .inv) h (lift-pos _ (c .before .before .before .before .before .before .before .before .if1 .left)) (omega arith) (picks (c .before .before)) (sym (header-is (c .before .before) .1)) (header-is (c .before .before) .0) (c .before .unraised .ensures) (c .sheets-left .ensures) refl
 
 add-state : tie.Need-add-state Inv-loop μ-loop Inv-sheets μ-sheets
 add-state c = omega (arith, c .before .loop .inv .states)
@@ -145,7 +199,7 @@ start-of-requires : tie.Need-start-of-requires Inv-loop μ-loop Inv-sheets μ-sh
 start-of-requires c κs = search needs
 
 frame-at-requires : tie.Need-frame-at-requires Inv-loop μ-loop Inv-sheets μ-sheets
-frame-at-requires c κs = c .before .before .loop .inv .cards
+frame-at-requires c κs = (fits (c .before .before .before .before .before), c .before .before .loop .inv .cards)
 
 enum-known-told : tie.Need-enum-known-told Inv-loop μ-loop Inv-sheets μ-sheets
 enum-known-told c = search needs
@@ -186,17 +240,23 @@ mul-store-entries c = omega (arith, c .before .before .before .before .before .b
 store-entries-requires : tie.Need-store-entries-requires Inv-loop μ-loop Inv-sheets μ-sheets
 store-entries-requires c κs = omega (arith, c .before .before .before .before .before .before .before .before .loop .inv .below, c .before .before .before .before .before .before .before .before .loop .inv .cards)
 
+add-at-4 : tie.Need-add-at-4 Inv-loop μ-loop Inv-sheets μ-sheets
+add-at-4 c = omega (arith, fits (of-header (c .before .before .before .before .before .before)) .width)
+
 cast-at : tie.Need-cast-at Inv-loop μ-loop Inv-sheets μ-sheets
 cast-at c = omega (arith, c .before .before .before .before .before .before .before .before .before .loop .inv .cards)
 
 mul-at : tie.Need-mul-at Inv-loop μ-loop Inv-sheets μ-sheets
-mul-at c = omega (arith, c .before .before .before .before .before .before .before .before .before .loop .inv .cards)
+mul-at c = omega (arith, row-small (cards-of (c .before .before .before .before .before .before)) (layout (of-header (c .before .before .before .before .before .before)) .width) (c .before .before .before .before .before .before .before .before .before .loop .inv .cards) (fits (of-header (c .before .before .before .before .before .before)) .width))
 
-add-at-2 : tie.Need-add-at-2 Inv-loop μ-loop Inv-sheets μ-sheets
-add-at-2 c = omega (arith, c .before .before .before .before .before .before .before .before .before .loop .inv .cards)
+add-at-5 : tie.Need-add-at-5 Inv-loop μ-loop Inv-sheets μ-sheets
+add-at-5 c = omega (arith, fits (of-header (c .before .before .before .before .before .before)) .width, row-small (cards-of (c .before .before .before .before .before .before)) (layout (of-header (c .before .before .before .before .before .before)) .width) (c .before .before .before .before .before .before .before .before .before .loop .inv .cards) (fits (of-header (c .before .before .before .before .before .before)) .width))
 
-add-at-3 : tie.Need-add-at-3 Inv-loop μ-loop Inv-sheets μ-sheets
-add-at-3 c = omega (arith, room (c .before .before .before .before .before .before) (frame-is (c .before .before .before .before .before .before) _ (c .before .before .before .before .told .given .1) .0), c .before .before .before .before .before .before .before .before .before .before .before .before .before .before .before .before .before .before .good .0 .0)
+add-at-6 : tie.Need-add-at-6 Inv-loop μ-loop Inv-sheets μ-sheets
+add-at-6 c = omega (arith, fits (of-header (c .before .before .before .before .before .before)) .width, row-small (cards-of (c .before .before .before .before .before .before)) (layout (of-header (c .before .before .before .before .before .before)) .width) (c .before .before .before .before .before .before .before .before .before .loop .inv .cards) (fits (of-header (c .before .before .before .before .before .before)) .width))
+
+add-at-7 : tie.Need-add-at-7 Inv-loop μ-loop Inv-sheets μ-sheets
+add-at-7 c = omega (arith, room (c .before .before .before .before .before .before) (frame-is (c .before .before .before .before .before .before) _ (c .before .before .before .before .told .given .1) .0), c .before .before .before .before .before .before .before .before .before .before .before .before .before .before .before .before .before .before .before .before .before .good .0 .0)
 
 add-k : tie.Need-add-k Inv-loop μ-loop Inv-sheets μ-sheets
 add-k c = omega (arith, c .before .before .before .before .before .before .before .before .before .loop .inv .frames, c .before .before .before .before .before .before .before .before .loop-test .taken)
@@ -217,7 +277,7 @@ sub-left c = omega (arith, c .before .loop .inv .some)
 
 sheets-less : tie.Need-sheets-less Inv-loop μ-loop Inv-sheets μ-sheets
 sheets-less c =
-    sheets-fewer (c .before .before .before .before .before .before .before .before .before .before .args .all) (c .before .before .before .before .before .before .before .before .sheets .first) (c .before .before .before .before .before .before .before .before .sheets .left) (c .before .before .before .before .line .given .0 .0 .cards) (c .before .before .sheets-left .result) (c .before .before .sheets-left .ensures) (c .before .before .before .before .before .before .before .before .sheets .inv .begun) (lift-pos _ (c .before .before .before .before .before .before .before .if1 .left)) (omega (arith, c .before .loop .inv .below)) (c .before .loop .inv .cards)
+    sheets-fewer (c .before .before .before .before .before .before .before .before .before .before .before .before .before .args .all) (c .before .before .before .before .before .before .before .before .before .before .before .sheets .first) (c .before .before .before .before .before .before .before .before .before .before .before .sheets .left) (c .before .before .before .unraised .result) (c .before .before .sheets-left .result) (c .before .before .sheets-left .ensures) (c .before .before .before .before .before .before .before .before .before .before .before .sheets .inv .begun) (lift-pos _ (c .before .before .before .before .before .before .before .before .before .before .if1 .left)) (omega (arith, c .before .loop .inv .below)) (c .before .loop .inv .cards)
 
 sheets-again : tie.Need-sheets-again Inv-loop μ-loop Inv-sheets μ-sheets
 sheets-again c = inner-end (c .before .loop .inv) (c .loop-test .left)
@@ -229,7 +289,7 @@ returns-2 : tie.Need-returns-2 Inv-loop μ-loop Inv-sheets μ-sheets
 returns-2 c =
     let x = c .before .enum-told .given in
     let e = header-fault-is _ _ (x .0 .0) (sym (c .before .before .before .header-at .ensures) ∙ x .1) in
-    rw (c .header-told .ensures, x .1) (outer-fault (c .before .before .before .before .before .sheets .inv) (lift-pos _ (c .before .before .before .before .if1 .left)) e)
+    rw (c .header-told .ensures, x .1) (outer-fault (c .before .before .before .before .before .before .before .sheets .inv) (lift-pos _ (c .before .before .before .before .before .before .if1 .left)) (c .before .before .before .before .layout-of .ensures .0 ∙ ap formats (c .before .before .before .before .before .told-at .ensures)) e)
 
 returns-3 : tie.Need-returns-3 Inv-loop μ-loop Inv-sheets μ-sheets
 returns-3 c =
@@ -247,10 +307,13 @@ read-sheets-spec =
     μ-sheets
     sheets-holds
     end-at-requires
+    told-at-requires
+    layout-of-requires
     header-at-requires
     enum-known-line
     enum-told
     header-told-requires
+    unraised-requires
     cast-i
     mul-r
     element-write-r
@@ -258,6 +321,8 @@ read-sheets-spec =
     element-write-r-2
     sheets-left-requires
     add-at
+    add-at-2
+    add-at-3
     loop-holds
     add-state
     add-state-2
@@ -276,10 +341,12 @@ read-sheets-spec =
     element-write-r-4
     mul-store-entries
     store-entries-requires
+    add-at-4
     cast-at
     mul-at
-    add-at-2
-    add-at-3
+    add-at-5
+    add-at-6
+    add-at-7
     add-k
     loop-less
     loop-again

@@ -7,9 +7,10 @@ use Rattle.sheet_bench.proofs.largest.Statement.{statement}
 use Rattle.sheet_bench.proofs.largest.Tie as tie
 use Rattle.sheet_bench.proofs.largest.Reads as reads
 use Rattle.sheet_bench.proofs.largest.Lts as lts
+use Rattle.sheet_bench.proofs.place_of.Reads as place-of-reads
 
 abbrev Inv-loop : tie.InvT-loop
-Inv-loop card entries₀ changes₀ own k₀ entries changes k = (k ≤ 48) × (own < 16) × (length changes ≡ 48) × (length entries ≡ 768)
+Inv-loop card entries₀ changes₀ own k₀ entries changes k = (k ≤ 48) × (own < 16) × (length changes ≡ 768) × (length entries ≡ 12288)
 
 abbrev μ-loop : tie.MeasureT-loop
 μ-loop card entries₀ changes₀ own k₀ entries changes k = 48 - k
@@ -20,8 +21,11 @@ cast-own c = search needs
 loop-holds : tie.Need-loop-holds Inv-loop μ-loop
 loop-holds c = search needs
 
-cast-i : tie.Need-cast-i Inv-loop μ-loop
-cast-i c = search needs
+cast-place-of : tie.Need-cast-place-of Inv-loop μ-loop
+cast-place-of c = search needs
+
+place-of-requires : tie.Need-place-of-requires Inv-loop μ-loop
+place-of-requires c κs = search needs
 
 add-changes : tie.Need-add-changes Inv-loop μ-loop
 add-changes c = search needs
@@ -73,7 +77,8 @@ largest-spec =
     μ-loop
     cast-own
     loop-holds
-    cast-i
+    cast-place-of
+    place-of-requires
     add-changes
     mul-changes
     add-changes-2

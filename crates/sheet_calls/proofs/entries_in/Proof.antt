@@ -5,16 +5,20 @@ use Rattle.sheet_calls.proofs.entries_in.Statement.{statement}
 use Rattle.sheet_calls.proofs.entries_in.Tie as tie
 use Rattle.sheet_calls.proofs.entries_in.Reads as reads
 use Rattle.sheet_calls.proofs.entries_in.Lts as lts
+use Rattle.sheet_calls.proofs.frame_at.Reads as frame-at-reads
 use Rattle.sheet_calls.proofs.in_row.Reads as in-row-reads
 
 abbrev Inv-loop : tie.InvT-loop
-Inv-loop body rows to₀ i₀ to i = i ≤ 768
+Inv-loop body rows card base to₀ i₀ to i = i ≤ 12288
 
 abbrev μ-loop : tie.MeasureT-loop
-μ-loop body rows to₀ i₀ to i = 768 - i
+μ-loop body rows card base to₀ i₀ to i = 12288 - i
 
 loop-holds : tie.Need-loop-holds Inv-loop μ-loop
 loop-holds c = search needs
+
+frame-at-requires : tie.Need-frame-at-requires Inv-loop μ-loop
+frame-at-requires c κs = search needs
 
 add-in-row : tie.Need-add-in-row Inv-loop μ-loop
 add-in-row c = search needs
@@ -47,6 +51,7 @@ entries-in-spec =
     Inv-loop
     μ-loop
     loop-holds
+    frame-at-requires
     add-in-row
     in-row-requires
     mul-to

@@ -10,10 +10,10 @@ use Rattle.sheet_calls.proofs.one_if.Reads as one-if-reads
 use Rattle.sheet_calls.proofs.outside.Reads as outside-reads
 
 abbrev Inv-loop : tie.InvT-loop
-Inv-loop s row from beside n₀ i₀ n i = (n ≤ i) × (i ≤ 768)
+Inv-loop s row card base count beside n₀ i₀ n i = (n ≤ i) × (i ≤ 12288)
 
 abbrev μ-loop : tie.MeasureT-loop
-μ-loop s row from beside n₀ i₀ n i = 768 - i
+μ-loop s row card base count beside n₀ i₀ n i = 12288 - i
 
 loop-holds : tie.Need-loop-holds Inv-loop μ-loop
 loop-holds c = search needs

@@ -10,10 +10,10 @@ use Rattle.sheet_calls.proofs.say.Reads as say-reads
 use Rattle.sheet_calls.proofs.say_number.Reads as say-number-reads
 
 abbrev Inv-loop : tie.InvT-loop
-Inv-loop entries row n j₀ t5 j = j ≤ n
+Inv-loop entries place n j₀ t5 j = j ≤ n
 
 abbrev μ-loop : tie.MeasureT-loop
-μ-loop entries row n j₀ t5 j = n - j
+μ-loop entries place n j₀ t5 j = n - j
 
 loop-holds : tie.Need-loop-holds Inv-loop μ-loop
 loop-holds c = search needs

@@ -1,4 +1,4 @@
--- `readout::no_sheet` hands back the sheet of zeros. Assumes nothing.
+-- `sheet_reader::no_sheet` hands back the read-out of zeros. Assumes nothing.
 use mathlib.Core.Path.{refl}
 use Rattle.sheet_reader.proofs.no_sheet.Statement.{statement}
 use Rattle.sheet_reader.proofs.no_sheet.Tie as tie

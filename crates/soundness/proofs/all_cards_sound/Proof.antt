@@ -3,7 +3,7 @@ use mathlib.Core.Path.{_≡_, _∙_}
 use mathlib.Core.List.{[]}
 use Rattle.laws.proofs.Fill.{AllSoFar, all-none, all-more, all-done}
 use Rattle.protocol.specs.Sound.{cardSound}
-use Rattle.verdicts.specs.Shape.{limits16, modelOf}
+use Rattle.verdicts.specs.Shape.{limits16, bare, withVectors, withNumbers, withLine, modelOf}
 use Rattle.verdicts.proofs.Limits.{width16}
 use Rattle.soundness.proofs.Hand.{card-whole}
 use borrow.Author.Needs.{needs}
@@ -14,10 +14,10 @@ use Rattle.soundness.proofs.all_cards_sound.Lts as lts
 use Rattle.soundness.proofs.card_sound.Reads as card-sound-reads
 
 abbrev Inv-loop : tie.InvT-loop
-Inv-loop entries makers head last pending base stored held reached line ok₀ c₀ ok c = AllSoFar 16 (cardSound limits16 (modelOf entries makers last pending [] base stored held reached line [] 0 head)) ok c
+Inv-loop entries makers last pending base stored held reached line head ok₀ c₀ ok c = AllSoFar 16 (cardSound limits16 (modelOf entries makers (withLine (withVectors (withNumbers (bare head) base stored held reached) last pending) line 0))) ok c
 
 abbrev μ-loop : tie.MeasureT-loop
-μ-loop entries makers head last pending base stored held reached line ok₀ c₀ ok c = 16 - c
+μ-loop entries makers last pending base stored held reached line head ok₀ c₀ ok c = 16 - c
 
 -- src/lib.rt:184:5
 loop-holds : tie.Need-loop-holds Inv-loop μ-loop
@@ -93,7 +93,7 @@ loop-less c = search needs
 
 -- src/lib.rt:184:5
 loop-again : tie.Need-loop-again Inv-loop μ-loop
-loop-again c = let a : _ = c .before .before .before .before .before .before .before .args in all-more (c .before .before .before .before .before .before .loop .inv) (c .before .before .before .before .before .loop-test .taken) (c .card-sound .ensures ∙ card-whole (a .entries .now) (a .makers .now) (a .t3) (a .t4) (a .t5) (a .t6) (a .t7) (a .t8) (a .t9) (a .head) (c .before .before .before .before .before .before .loop .c) (c .before .before .before .before .before .loop-test .taken))
+loop-again c = let a : _ = c .before .before .before .before .before .before .before .before .before .before .before .before .before .before .before .args in all-more (c .before .before .before .before .before .before .loop .inv) (c .before .before .before .before .before .loop-test .taken) (c .card-sound .ensures ∙ card-whole (a .entries .now) (a .makers .now) (a .core) (c .before .before .before .before .before .before .loop .c) (c .before .before .before .before .before .loop-test .taken))
 
 -- src/lib.rt:168:1
 returns : tie.Need-returns Inv-loop μ-loop

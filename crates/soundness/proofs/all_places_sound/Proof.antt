@@ -1,5 +1,5 @@
 use Rattle.protocol.specs.Sound.{placeSound}
-use Rattle.verdicts.specs.Shape.{limits16, at, presentOf, ring, numbersOf, partOf, openOf, openAt, modelOf, phaseOf}
+use Rattle.verdicts.specs.Shape.{limits16, at, presentOf, ring, numbersOf, partOf, openOf, openAt, numbersModel, phaseOf}
 use Rattle.verdicts.proofs.Limits.{width16, inHand48, places8, greatest60000}
 use Rattle.laws.proofs.Fill.{AllSoFar, all-none, all-more, all-done}
 use Prim.Native.Nat.{ℕ, zero, suc, _+_, _*_, _-_, _/_, _%_, _^_, _≤_, _<_, max}
@@ -19,7 +19,7 @@ use Rattle.soundness.proofs.all_places_sound.Lts as lts
 use Rattle.soundness.proofs.place_sound.Reads as place-sound-reads
 
 abbrev Inv-loop : tie.InvT-loop
-Inv-loop base reached head places ok₀ p₀ ok p = AllSoFar 8 (λ k. placeSound limits16 (modelOf [] [] [] [] [] base [] [] reached [] [] 0 head) (openAt places k)) ok p
+Inv-loop base reached head places ok₀ p₀ ok p = AllSoFar 8 (λ k. placeSound limits16 (numbersModel head base [] [] reached) (openAt places k)) ok p
 
 abbrev μ-loop : tie.MeasureT-loop
 μ-loop base reached head places ok₀ p₀ ok p = 8 - p

@@ -1,34 +1,15 @@
 use Rattle.verdicts.specs.Shape.{trackedOf}
 use Rattle.history.specs.Vector.{share}
 use Rattle.laws.specs.Below.{greatest}
-use Rattle.verdicts.proofs.Held.{own-set, zero-listed, join-step, not-not, all-put, set-put}
-use Rattle.laws.proofs.Logic.{cond-true, cond-false}
-use Rattle.protocol.specs.Model.{isOpen}
-use Rattle.bits.specs.Sets.{either, except, subset}
-use Rattle.bits.specs.Member.{member}
-use borrow.Author.Tests.{eq-eqb, ne-eqb, lt-ltb, le-ltb}
-use Rattle.verdicts.specs.Shape.{limits16, at, listOf, setOf, openOf, openAt, placeFor}
-use Rattle.verdicts.proofs.Held.{list-by, list-known, list-same, at-list, at-list-all, set-by, set-known, put-same, place-by, free-open}
-use Rattle.verdicts.proofs.Limits.{width16, inHand48, places8, greatest60000}
-use Rattle.laws.proofs.Fill.{AllSoFar, all-none, all-more, all-done, NoneSoFar, search-none, search-more, search-done, search-found, FilledSoFar, filled-none, filled-more, filled-done, all-same, any-same}
-use Rattle.laws.specs.Below.{allBelow, anyBelow, firstBelow}
-use Prim.Native.Nat.{ℕ, zero, suc, _+_, _*_, _-_, _/_, _%_, _^_, _≤_, _<_, max}
-use mathlib.Core.Path.{_≡_, refl, sym, _∙_, ap, ap₂}
-use mathlib.Core.Bool.{Bool, true, false, not, _&&_, _||_, cond}
-use mathlib.Core.List.{List, [], _∷_}
-use mathlib.Core.Logic.{⊎-elim, by-cases, inl, inr}
-use native.Mathlib.Numerals.{add-one}
+use Rattle.verdicts.proofs.Held.{zero-listed, join-step}
+use Rattle.verdicts.specs.Shape.{limits16, at, listOf, openOf}
+use Rattle.verdicts.proofs.Limits.{width16}
+use Prim.Native.Nat.{ℕ, _-_, _≤_}
+use mathlib.Core.Path.{_≡_, sym, _∙_, ap}
 use native.Mathlib.Omega.{arith}
-use lib.ListN.{length, getD, set, List·getD-eq-default}
-use lib.Dec.{leb, ltb, eqb}
 use borrow.Author.Needs.{needs}
 use Rattle.vectors.proofs.decision.Statement.{statement}
 use Rattle.vectors.proofs.decision.Tie as tie
-use Rattle.vectors.proofs.decision.Reads as reads
-use Rattle.vectors.proofs.decision.Lts as lts
-use Rattle.bits.proofs.has.Reads as has-reads
-use Rattle.vectors.proofs.join.Reads as join-reads
-use Rattle.vectors.proofs.share_of.Reads as share-of-reads
 
 abbrev Inv-loop : tie.InvT-loop
 Inv-loop o reached last pending out₀ c₀ out c = (c ≤ 16) × (out ≡ listOf (λ j. greatest c (λ i. share (trackedOf reached last pending) (openOf o .change) i j)))

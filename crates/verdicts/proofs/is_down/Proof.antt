@@ -2,8 +2,6 @@
 use borrow.Author.Needs.{needs}
 use Rattle.verdicts.proofs.is_down.Statement.{statement}
 use Rattle.verdicts.proofs.is_down.Tie as tie
-use Rattle.verdicts.proofs.is_down.Reads as reads
-use Rattle.verdicts.proofs.is_down.Lts as lts
 
 enum-told : tie.Need-enum-told
 enum-told c = search needs

@@ -2,8 +2,6 @@
 use borrow.Author.Needs.{needs}
 use Rattle.verdicts.proofs.is_rolling.Statement.{statement}
 use Rattle.verdicts.proofs.is_rolling.Tie as tie
-use Rattle.verdicts.proofs.is_rolling.Reads as reads
-use Rattle.verdicts.proofs.is_rolling.Lts as lts
 
 enum-told : tie.Need-enum-told
 enum-told c = search needs

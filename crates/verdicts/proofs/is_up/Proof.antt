@@ -2,8 +2,6 @@
 use borrow.Author.Needs.{needs}
 use Rattle.verdicts.proofs.is_up.Statement.{statement}
 use Rattle.verdicts.proofs.is_up.Tie as tie
-use Rattle.verdicts.proofs.is_up.Reads as reads
-use Rattle.verdicts.proofs.is_up.Lts as lts
 
 enum-told : tie.Need-enum-told
 enum-told c = search needs

@@ -35,7 +35,7 @@ same-length c = search needs
 returns : tie.Need-returns
 returns c = let z : c .before .before .before .before .before .before .before .before .before .before .lent-places .result - 0 ≡ c .before .before .before .before .before .before .before .before .before .before .lent-places .result = omega arith in
     onward _ (fixed-by (c .before .before .before .before .before .before .before .before .before .before .lent-places .result) _ _ (c .before .before .before .before .before .before .before .before .fix .ensures) (c .before .before .before .before .before .before .before .before .before .list .given .2 ∙ z ∙ c .before .before .before .before .before .before .before .before .before .before .lent-places .ensures)
-    (take-at _ _ _ (c .before .before .before .before .before .before .before .list2 .given ∙ c .before .before .before .before .before .before .before .before .before .list .given .2 ∙ z)) (c .before .before .before .put-fix .ensures))
+    (take-at _ _ _ (c .before .before .before .before .before .before .before .list2 .given ∙ c .before .before .before .before .before .before .before .before .before .list .given .2 ∙ z)) (c .before .before .put-fix .ensures))
 
 pub fix-spec : {M : Type 1} → statement M
 fix-spec =

@@ -6,12 +6,6 @@ use Rattle.lost.proofs.Merged.{Counting, counting-none, counting-more, 
 use borrow.Author.Needs.{needs}
 use Rattle.lost.proofs.listing.count_lost.Statement.{statement}
 use Rattle.lost.proofs.listing.count_lost.Tie as tie
-use Rattle.lost.proofs.listing.count_lost.Reads as reads
-use Rattle.lost.proofs.listing.count_lost.Lts as lts
-use Rattle.merge.proofs.heads.Reads as heads-reads
-use Rattle.merge.proofs.past.Reads as past-reads
-use Rattle.lost.proofs.listing.ends_of.Reads as ends-of-reads
-use Rattle.lost.proofs.listing.next_lost.Reads as next-lost-reads
 
 abbrev Inv-loop : tie.InvT-loop
 Inv-loop makers ended cards ends passed₀ heads₀ count₀ k₀ x₀ passed heads count k x = Counting makers passed₀ ends (lostTo makers passed₀ ends ended) passed heads count k x

@@ -8,9 +8,6 @@ use Rattle.verdicts.specs.Shape.{at}
 use borrow.Author.Needs.{needs}
 use Rattle.lost.proofs.listing.ends_of.Statement.{statement}
 use Rattle.lost.proofs.listing.ends_of.Tie as tie
-use Rattle.lost.proofs.listing.ends_of.Reads as reads
-use Rattle.lost.proofs.listing.ends_of.Lts as lts
-use Rattle.lost.proofs.listing.end_of.Reads as end-of-reads
 
 abbrev Inv-loop : tie.InvT-loop
 Inv-loop cards reached out₀ c₀ out c = FilledSoFar 0 16 (λ i. cond (ltb i cards) (at reached i) 0) out c

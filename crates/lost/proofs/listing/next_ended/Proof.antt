@@ -6,10 +6,6 @@ use Rattle.lost.specs.Lost.{numberAbove}
 use borrow.Author.Needs.{needs}
 use Rattle.lost.proofs.listing.next_ended.Statement.{statement}
 use Rattle.lost.proofs.listing.next_ended.Tie as tie
-use Rattle.lost.proofs.listing.next_ended.Reads as reads
-use Rattle.lost.proofs.listing.next_ended.Lts as lts
-use Rattle.merge.proofs.lesser.Reads as lesser-reads
-use Rattle.lost.proofs.listing.number_above.Reads as number-above-reads
 
 abbrev Inv-loop : tie.InvT-loop
 Inv-loop k ended best₀ p₀ best p = LeastSoFar 8 (λ i. numberAbove (at ended i) k) best p

@@ -4,11 +4,6 @@ use Rattle.merge.specs.Merge.{lesser}
 use borrow.Author.Needs.{needs}
 use Rattle.lost.proofs.listing.next_lost.Statement.{statement}
 use Rattle.lost.proofs.listing.next_lost.Tie as tie
-use Rattle.lost.proofs.listing.next_lost.Reads as reads
-use Rattle.lost.proofs.listing.next_lost.Lts as lts
-use Rattle.merge.proofs.least.Reads as least-reads
-use Rattle.merge.proofs.lesser.Reads as lesser-reads
-use Rattle.lost.proofs.listing.next_ended.Reads as next-ended-reads
 
 least-requires : tie.Need-least-requires
 least-requires c κs = search needs

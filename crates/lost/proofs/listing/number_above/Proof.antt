@@ -1,9 +1,7 @@
-use Prim.Native.Nat.{_-_, _/_}
+use Prim.Native.Nat.{_-_}
 use borrow.Author.Tests.{lt-ltb, le-ltb}
 use Rattle.lost.proofs.listing.number_above.Statement.{statement}
 use Rattle.lost.proofs.listing.number_above.Tie as tie
-use Rattle.lost.proofs.listing.number_above.Reads as reads
-use Rattle.lost.proofs.listing.number_above.Lts as lts
 
 returns : tie.Need-returns
 returns c = let a : _ = c .before .args in rw (lt-ltb (a .k) (a .x) (c .if1 .taken))

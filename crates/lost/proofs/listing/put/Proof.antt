@@ -4,8 +4,6 @@ use lib.Seq.{set-out}
 use borrow.Author.Needs.{needs}
 use Rattle.lost.proofs.listing.put.Statement.{statement}
 use Rattle.lost.proofs.listing.put.Tie as tie
-use Rattle.lost.proofs.listing.put.Reads as reads
-use Rattle.lost.proofs.listing.put.Lts as lts
 
 mul-list : tie.Need-mul-list
 mul-list c = search needs

@@ -6,13 +6,6 @@ use Rattle.lost.proofs.Merged.{Writing, writing-none, writing-more, wri
 use borrow.Author.Needs.{needs}
 use Rattle.lost.proofs.listing.write_lost.Statement.{statement}
 use Rattle.lost.proofs.listing.write_lost.Tie as tie
-use Rattle.lost.proofs.listing.write_lost.Reads as reads
-use Rattle.lost.proofs.listing.write_lost.Lts as lts
-use Rattle.merge.proofs.heads.Reads as heads-reads
-use Rattle.merge.proofs.past.Reads as past-reads
-use Rattle.lost.proofs.listing.ends_of.Reads as ends-of-reads
-use Rattle.lost.proofs.listing.next_lost.Reads as next-lost-reads
-use Rattle.lost.proofs.listing.put.Reads as put-reads
 
 abbrev Inv-loop : tie.InvT-loop
 Inv-loop list₀ makers ended cards ends passed₀ heads₀ n₀ k₀ x₀ list passed heads n k x = Writing makers passed₀ ends (lostTo makers passed₀ ends ended) list₀ list passed heads n k x

@@ -1,0 +1,83 @@
+// Calls 1 to 4 as methods: open, vote, take, withdraw.
+ghost use Rattle.protocol.specs.Calls.{takePlan, votePlan, withdrawPlan};
+ghost use Rattle.verdicts.specs.Shape.{limits16};
+ghost use Rattle.verdicts.specs.Answers.{replyOf, openReplyOf};
+ghost use Rattle.cabinet.specs.View.{view};
+ghost use Rattle.cabinet.specs.Apply.{Carried, OpenCarried};
+use crate::Answer;
+use crate::Cabinet;
+use crate::OpenAnswer;
+
+impl Cabinet {
+    // 1. open. Of the cards that are barred the lowest is named.
+    pub fn open(mut self, reads: u16, writes: u16) -> OpenAnswer
+        ensures { λ r. ⌜ OpenCarried self reads writes (openReplyOf (r .reply)) (r .cabinet) ⌝ }
+    {
+        let core = self.core;
+        let sound = soundness::cabinet_sound(&self.entries, &self.makers, core);
+        let out = voting::open(sound, core, reads, writes);
+        let r = out.reply;
+        let next = out.core;
+        self.core = next;
+        OpenAnswer {
+            cabinet: self,
+            reply: r,
+        }
+    }
+
+    // 2. vote
+    pub fn vote(mut self, change: u32, card: u32, agrees: bool) -> Answer
+        ensures { λ r. ⌜ Carried self (votePlan limits16 (view self) change card agrees) (replyOf (r .reply)) (r .cabinet) ⌝ }
+    {
+        let core = self.core;
+        let sound = soundness::cabinet_sound(&self.entries, &self.makers, core);
+        let out = voting::vote(sound, core, change, card, agrees);
+        let r = out.reply;
+        let next = out.core;
+        self.core = next;
+        Answer {
+            cabinet: self,
+            reply: r,
+        }
+    }
+
+    // 3. take
+    pub fn take(mut self, change: u32, card: u32) -> Answer
+        ensures { λ r. ⌜ Carried self (takePlan limits16 (view self) change card) (replyOf (r .reply)) (r .cabinet) ⌝ }
+    {
+        let core = self.core;
+        let sound = soundness::cabinet_sound(&self.entries, &self.makers, core);
+        let out = taking::take(sound, core, change, card);
+        let r = out.reply;
+        let x = out.state;
+        if x != 0 {
+            let c = card as usize;
+            let k = out.maker;
+            let w = out.vector;
+            parts::put_maker(&mut self.makers, c, x, k);
+            parts::put_vector(&mut self.entries, c, x, w);
+        }
+        let next = out.core;
+        self.core = next;
+        Answer {
+            cabinet: self,
+            reply: r,
+        }
+    }
+
+    // 4. withdraw
+    pub fn withdraw(mut self, change: u32) -> Answer
+        ensures { λ r. ⌜ Carried self (withdrawPlan limits16 (view self) change) (replyOf (r .reply)) (r .cabinet) ⌝ }
+    {
+        let core = self.core;
+        let sound = soundness::cabinet_sound(&self.entries, &self.makers, core);
+        let out = voting::withdraw(sound, core, change);
+        let r = out.reply;
+        let next = out.core;
+        self.core = next;
+        Answer {
+            cabinet: self,
+            reply: r,
+        }
+    }
+}

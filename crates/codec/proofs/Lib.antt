@@ -1,0 +1,6 @@
+pub mod Written
+pub mod Passing
+pub mod Reading
+pub mod Retold
+pub mod Document
+pub mod Worked

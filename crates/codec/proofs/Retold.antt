@@ -1,0 +1,158 @@
+-- The law that lists of calls ask of sheets, met by document 01's: what restarts from the sheets of a cabinet that rolls back has of it all that it must. Assumes nothing.
+use Prim.Native.Nat.{ℕ, suc, _+_, _-_, _≤_, _<_, zero-le}
+use mathlib.Core.Path.{_≡_, refl, sym, _∙_, ap, ap₂, subst}
+use mathlib.Core.Bool.{Bool, true, false, _&&_, cond}
+use mathlib.Core.List.{List, [], _∷_}
+use native.Mathlib.Nat.{le-refl, le-trans}
+use native.Mathlib.Omega.{arith}
+use lib.Dec.{ltb}
+use lib.ListN.{length, getD, List·getD-eq-default}
+use borrow.Author.Tests.{le-leb, lt-ltb, le-ltb, ltb-true, ltb-false}
+use Rattle.laws.specs.Below.{tabulate, selected}
+use Rattle.laws.proofs.Logic.{test, clash, and-intro}
+use Rattle.refusal.specs.declared.Verdict.the-variants.{Accepted}
+use Rattle.frame.specs.declared.Frame.{Frame}
+use Rattle.frame.specs.Format.{formats}
+use Rattle.sheet.specs.Pages.{Page, pagesBytes}
+use Rattle.sheet.specs.Ring.{noPage, pageAt}
+use Rattle.readout.specs.Joint.{lowestSession, PagesRead, pagesRead}
+use Rattle.history.specs.Change.{CardSet, historyOf}
+use Rattle.protocol.specs.Model.{Limits, isUp, isRolling, Model, noCards}
+use Rattle.protocol.specs.Sound.{sound}
+use Rattle.protocol.specs.Edit.{fall, halt, fix, editedAll}
+use Rattle.protocol.specs.Calls.{lines}
+use Rattle.protocol.specs.Journal.{Journal}
+use Rattle.protocol.proofs.Running.{Carded}
+use Rattle.protocol.proofs.Rolling.{AboutLine, Rolling}
+use Rattle.protocol.proofs.Restart.{Recalled, Remade, CodecLaw}
+use Rattle.protocol.proofs.Anywhere.{fallen, fixedModel, Unmoved}
+use Rattle.codec.specs.Sheets.{cardCount, sheetFrame, sheetOf, pageStored, joinedSheets, isOn, frameFor, makerOn, vectorOn, restarted, codec}
+use Rattle.codec.specs.Claims.{SheetLimits}
+use Rattle.codec.proofs.Written.{frame-of, sheets-are, entry-written, entry-absent}
+use Rattle.codec.proofs.Reading as reading
+
+-- a restart while rolling
+module _ (L : Limits) (lim : SheetLimits L) (n : ℕ) (low : 1 ≤ n) (high : n ≤ L .width) (m : Model) (j : Journal) (present-is : (c : ℕ) → m .present c ≡ ltb c n) (r : Rolling L m j) where
+  abbrev page : ℕ → Page
+  page = sheetOf L m
+
+  abbrev ps : List Page
+  ps = tabulate n page
+
+  length-ps : length ps ≡ n
+  length-ps = reading.length-ps L n m j high low (lim .width) (lim .inHand) (lim .greatestState) (lim .greatestNumber) present-is r
+
+  page-at : (c : ℕ) → c < n → pageAt ps c ≡ page c
+  page-at = reading.page-at L n m j high low (lim .width) (lim .inHand) (lim .greatestState) (lim .greatestNumber) present-is r
+
+  lowest-is : lowestSession ps ≡ m .session
+  lowest-is = reading.lowest-is L n m j high low (lim .width) (lim .inHand) (lim .greatestState) (lim .greatestNumber) present-is r
+
+  no-page : (c : ℕ) → m .present c ≡ false → pageAt ps c ≡ noPage
+  no-page c e = List·getD-eq-default ps noPage (omega (arith, length-ps, ltb-false c n (sym (present-is c) ∙ e)))
+
+  -- a card that is there is below n
+  below : (c : ℕ) → m .present c ≡ true → c < n
+  below c e = ltb-true c n (sym (present-is c) ∙ e)
+
+  base-stored : (c : ℕ) → c < L .width → m .numbers .base c ≤ m .numbers .stored c
+  base-stored c l =
+      let a : AboutLine L m (j .start) (length (j .history)) (j .stored) (m .line) (historyOf (j .history)) = r .about (historyOf (j .history)) (λ i h. refl) in
+      le-trans (a .intact .base-line c l) (a .intact .line-stored c l)
+
+  is-on : (c x : ℕ) → c < L .width → m .numbers .base c < x → x ≤ m .numbers .stored c → isOn (page c) x ≡ true
+  is-on c x l a b = and-intro (lt-ltb (m .numbers .base c) x a) (le-leb x (pageStored (page c)) (omega (arith, b, base-stored c l)))
+
+  -- state x of card c is frame x − base − 1 of its sheet
+  frame-for : (c x : ℕ) → m .numbers .base c < x → x ≤ m .numbers .stored c → frameFor (page c) x ≡ sheetFrame L m c x
+  frame-for c x a b = frame-of L m c (x - suc (m .numbers .base c)) (omega arith) ∙ ap (sheetFrame L m c) back
+    where
+      back : suc (m .numbers .base c + (x - suc (m .numbers .base c))) ≡ x
+      back = omega arith
+
+  maker-on : (c x : ℕ) → c < L .width → m .numbers .base c < x → x ≤ m .numbers .stored c → makerOn (page c) x ≡ m .memory .maker c x
+  maker-on c x l a b = rw (is-on c x l a b) (ap (λ (f : Frame). f .change) (frame-for c x a b))
+
+  entry-on : (c x i : ℕ) → c < L .width → m .numbers .base c < x → x ≤ m .numbers .stored c → vectorOn (page c) x i ≡ getD (sheetFrame L m c x .entries) i 0
+  entry-on c x i l a b = rw (is-on c x l a b) (ap (λ (f : Frame). getD (f .entries) i 0) (frame-for c x a b))
+
+  recalled : Recalled L m (restarted L ps)
+  recalled =
+      record {
+        rolls = refl;
+        session = lowest-is;
+        cards = λ c. ap (ltb c) length-ps ∙ sym (present-is c);
+        base = λ c l e. ap (λ (p : Page). p .header .base) (page-at c (below c e));
+        stored = λ c l e. ap pageStored (page-at c (below c e)) ∙ omega (arith, base-stored c l);
+        absent = λ c l e. (ap (λ (p : Page). p .header .base) (no-page c e), ap pageStored (no-page c e));
+        held = refl;
+        reached = refl;
+        maker = λ c x l e a b. ap (λ (p : Page). makerOn p x) (page-at c (below c e)) ∙ maker-on c x l a b;
+        frame = λ c x i l li e f a b. ap (λ (p : Page). vectorOn p x i) (page-at c (below c e)) ∙ entry-on c x i l a b ∙ entry-written L n m high present-is c x i (below i f);
+        no-entry = λ c x i l li e f a b. ap (λ (p : Page). vectorOn p x i) (page-at c (below c e)) ∙ entry-on c x i l a b
+            ∙ entry-absent L n m high present-is c x i (ltb-false i n (sym (present-is i) ∙ f));
+        last = λ c i. test (ltb (pageAt ps c .header .base) (pageStored (pageAt ps c))) (λ e. rw e) (λ e. rw e);
+        pending = refl;
+        none-open = λ p l. refl;
+        rolled = λ c l e. ap₂ ltb lowest-is (reading.session-at L n m j high low (lim .width) (lim .inHand) (lim .greatestState) (lim .greatestNumber) present-is r c (below c e)) ∙ rw (r .is-rolling) (ahead (m .rolled c));
+        none-rolled = λ c l e. ap₂ ltb lowest-is (ap (λ (p : Page). p .header .session) (no-page c e)) ∙ le-ltb (m .session) 0 zero-le;
+        line = λ c l. refl;
+      }
+    where
+      ahead : (b : Bool) → ltb (m .session) (cond (true && b) (suc (m .session)) (m .session)) ≡ b
+      ahead true = lt-ltb (m .session) (suc (m .session)) (le-refl (suc (m .session)))
+      ahead false = le-ltb (m .session) (m .session) (le-refl (m .session))
+
+  joined-back : pagesRead (joinedSheets formats L m) ≡ record { pages = ps; verdict = Accepted }
+  joined-back =
+      ap (λ (q : List Page). pagesRead (pagesBytes formats q)) (sheets-are L n m high present-is)
+      ∙ reading.read-back L n m j high low (lim .width) (lim .inHand) (lim .greatestState) (lim .greatestNumber) present-is r
+
+  remade : Remade codec L m
+  remade =
+      record {
+        accepts = ap (λ (x : PagesRead). x .verdict) joined-back;
+        recalled = subst (λ (x : PagesRead). Recalled L m (restarted L (x .pages))) (sym joined-back) recalled;
+      }
+
+pub sheets-law : (L : Limits) → SheetLimits L → (n : ℕ) → 1 ≤ n → n ≤ L .width → CodecLaw codec L (λ c. ltb c n)
+sheets-law L lim n low high =
+    record { last-stored = λ m c h. omega arith; remade = λ m j v r. remade L lim n low high m j (v .present-is) (r .rolls) }
+
+pub below-carded : (L : Limits) (n : ℕ) → 1 ≤ n → n ≤ L .width → Carded L (λ c. ltb c n)
+below-carded L n low high = record { one = 0; is-card = le-trans low high; is-there = lt-ltb 0 n low; none-beyond = le-ltb (L .width) n high }
+
+-- a loss of no card and a fix change nothing that a sheet says
+module _ (L : Limits) (m : Model) (fine : sound L m ≡ true) (still : isRolling (m .phase) ≡ false) where
+  same-sheet : (c : ℕ) → sheetOf L (fixedModel L m fine still) c ≡ sheetOf L m c
+  same-sheet c = cases (isUp (m .phase)) (isRolling (m .phase)) still
+    where
+      cases : (b a : Bool) → a ≡ false → sheetOf L (editedAll L (fix (lines L (fallen L m fine still)) ∷ []) (editedAll L (fall noCards ∷ cond b (halt ∷ []) []) m)) c
+          ≡ record {
+            header =
+                record {
+                  session = cond (a && m .rolled c) (suc (m .session)) (m .session);
+                  card = c;
+                  cards = cardCount L m;
+                  base = m .numbers .base c;
+                  count = m .numbers .stored c - m .numbers .base c;
+                };
+            frames = sheetOf L m c .frames;
+          }
+      cases true true e = clash refl e
+      cases true false e = refl
+      cases false true e = clash refl e
+      cases false false e = refl
+
+  same-present : (fixedModel L m fine still) .present ≡ m .present
+  same-present = cases (isUp (m .phase))
+    where
+      cases : (b : Bool) → editedAll L (fix (lines L (fallen L m fine still)) ∷ []) (editedAll L (fall noCards ∷ cond b (halt ∷ []) []) m) .present ≡ m .present
+      cases true = refl
+      cases false = refl
+
+  same-bytes : joinedSheets formats L (fixedModel L m fine still) ≡ joinedSheets formats L m
+  same-bytes = ap₂ (λ (p : CardSet) (f : ℕ → Page). pagesBytes formats (selected (L .width) p f)) same-present (λ i c. same-sheet c i)
+
+pub unmoved : (L : Limits) → Unmoved codec L
+unmoved L m fine still = same-bytes L m fine still

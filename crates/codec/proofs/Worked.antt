@@ -1,0 +1,46 @@
+-- The samples and the worked read-out, as lists of calls, come out as document 01 says: computed. Assumes nothing.
+use Prim.Native.Nat.{suc, _-_}
+use lib.Dec.{ltb}
+use mathlib.Core.Path.{_≡_, refl}
+use mathlib.Core.List.{[], _∷_, map}
+use Rattle.refusal.specs.declared.Verdict.the-variants.{Accepted}
+use Rattle.frame.specs.Format.{formats}
+use Rattle.laws.specs.Below.{tabulate}
+use Rattle.digits.specs.Digits.{isNumeral, isLetter, isDigit, digit, digitValue}
+use Rattle.digits.specs.Line.{checkOf, lineOf, shaped, checked, shapeOf}
+use Rattle.frame.specs.Format.{dependency, entryOf}
+use Rattle.frame.specs.Lines.{headerLine, headerIn, headerAllowed, headerVerdict, frameLine, stateIn, entriesIn, frameIn, entriesAllowed, frameAllowed, frameVerdict}
+use Rattle.sheet.specs.Pages.{readSheets}
+use Rattle.sessions.specs.Sessions.{apart}
+use Rattle.two_vectors.specs.Vectors.{twoVectors}
+use Rattle.readout.specs.Joint.{sessionsApart, jointVerdict, pagesRead}
+use Rattle.protocol.specs.Calls.{freshModel}
+use Rattle.codec.specs.Sheets.{joinedSheets, restartReply, restartedFrom}
+use Rattle.codec.specs.Claims.{limits}
+use Rattle.codec.specs.Worked.{followed, fixReply, saidReply, recoveries, workedCalls, workedBytes}
+
+-- each fix of the samples answers what document 01 says
+pub recovered : map fixReply recoveries ≡ map saidReply recoveries
+recovered = refl
+
+-- the sheets that the calls lead to are the worked read-out, byte for byte
+pub worked-written : joinedSheets formats limits (followed (freshModel (λ c. ltb c 2)) workedCalls) ≡ workedBytes
+unfolding isNumeral isLetter isDigit digit digitValue checkOf lineOf dependency entryOf headerLine frameLine
+worked-written = refl
+
+-- it restarts: "0 2 1", "1 0 0", and the session after recovery is 2
+pub worked-accepted : restartReply workedBytes ≡ Accepted
+unfolding isNumeral isLetter isDigit digit digitValue checkOf lineOf shaped checked shapeOf dependency entryOf headerLine headerIn headerAllowed headerVerdict frameLine stateIn entriesIn frameIn entriesAllowed frameAllowed frameVerdict readSheets apart sessionsApart twoVectors jointVerdict pagesRead
+worked-accepted = refl
+
+pub worked-stored : tabulate 2 (restartedFrom limits workedBytes .numbers .stored) ≡ 2 ∷ 0 ∷ []
+unfolding isNumeral isLetter isDigit digit digitValue checkOf lineOf shaped checked shapeOf dependency entryOf headerLine headerIn headerAllowed headerVerdict frameLine stateIn entriesIn frameIn entriesAllowed frameAllowed frameVerdict readSheets apart sessionsApart twoVectors jointVerdict pagesRead
+worked-stored = refl
+
+pub worked-line : tabulate 2 (restartedFrom limits workedBytes .line) ≡ 1 ∷ 0 ∷ []
+unfolding isNumeral isLetter isDigit digit digitValue checkOf lineOf shaped checked shapeOf dependency entryOf headerLine headerIn headerAllowed headerVerdict frameLine stateIn entriesIn frameIn entriesAllowed frameAllowed frameVerdict readSheets apart sessionsApart twoVectors jointVerdict pagesRead
+worked-line = refl
+
+pub worked-session : suc (restartedFrom limits workedBytes .session) ≡ 2
+unfolding isNumeral isLetter isDigit digit digitValue checkOf lineOf shaped checked shapeOf dependency entryOf headerLine headerIn headerAllowed headerVerdict frameLine stateIn entriesIn frameIn entriesAllowed frameAllowed frameVerdict readSheets apart sessionsApart twoVectors jointVerdict pagesRead
+worked-session = refl

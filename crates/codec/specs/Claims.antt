@@ -1,0 +1,31 @@
+-- Demands 2 and 3 of document 01's cabinets, which have the cards 0 to k − 1 and document 01's sheets. Statements alone: the proofs are in proofs/Document.antt.
+use Prim.Native.Nat.{ℕ, _≤_}
+use mathlib.Core.Path.{_≡_}
+use lib.Dec.{ltb}
+use Rattle.protocol.specs.Model.{Limits}
+use Rattle.protocol.specs.Demands as lists
+use Rattle.protocol.specs.Anywhere as lists-anywhere
+use Rattle.codec.specs.Sheets.{codec}
+
+-- the limits for which document 01's sheets have room
+pub record SheetLimits (L : Limits) : Type 0 where
+  pub width : L .width ≡ 16
+  pub inHand : L .inHand ≡ 48
+  pub greatestState : L .greatestState ≡ 60000
+  pub greatestNumber : L .greatestNumber ≡ 4294967295
+
+-- demands 2 and 3, for every list of calls from a fresh cabinet of any allowed size in which every restart stands in phase rolling
+abbrev pub Demands : Limits → Type 0
+Demands L = (k : ℕ) → 1 ≤ k → k ≤ L .width → lists.Demands codec L (λ c. ltb c k)
+
+-- and with restarts in any phase
+abbrev pub Anywhere : Limits → Type 0
+Anywhere L = (k : ℕ) → 1 ≤ k → k ≤ L .width → lists-anywhere.Anywhere codec L (λ c. ltb c k)
+
+-- document 01's limits: 16 cards, 48 states in hand, 8 open changes, states to 60,000, sessions and change numbers to 4,294,967,295
+abbrev pub limits : Limits
+limits = record { width = 16; inHand = 48; places = 8; greatestState = 60000; greatestNumber = 4294967295 }
+
+-- demands 2 and 3 of a cabinet of document 01
+abbrev pub Demands23 : Type 0
+Demands23 = Demands limits

@@ -1,0 +1,15 @@
+-- `frame_reader::follows` compares an entry with the one before it. Assumes nothing.
+use borrow.Author.Needs.{needs}
+use Rattle.frame_reader.proofs.follows.Statement.{statement}
+use Rattle.frame_reader.proofs.follows.Tie as tie
+use Rattle.frame_reader.proofs.follows.Reads as reads
+use Rattle.frame_reader.proofs.follows.Lts as lts
+
+returns : tie.Need-returns
+returns c = rw (c .if1 .taken)
+
+returns-2 : tie.Need-returns-2
+returns-2 c = rw (c .if1 .left)
+
+pub follows-spec : {M : Type 1} → statement M
+follows-spec = tie.close (tie.spec returns returns-2)

@@ -1,0 +1,29 @@
+-- How sheets are written and read: what a list of calls needs to know of it. Document 01's sheets are one such, and any other that meets its law may stand in a list.
+use Prim.Native.Nat.{ℕ}
+use mathlib.Core.Bool.{not}
+use mathlib.Core.List.{List, [], _∷_}
+use lib.Dec.{ltb}
+use lib.ListN.{length}
+use Rattle.refusal.specs.declared.Refusal.the-variants.{NoSuchCard, TooShort, BadCabinet}
+use Rattle.refusal.specs.declared.Verdict.{Verdict}
+use Rattle.protocol.specs.Model.{Limits, Model, isCard}
+use Rattle.protocol.specs.Sound.{sound}
+use Rattle.protocol.specs.Plan.{written, Check, _⇒_, Plan, checked}
+
+pub record Codec : Type 0 where
+  -- the bytes of a card's sheet, and its last state
+  pub sheet : Limits → Model → ℕ → List ℕ
+  pub last : Limits → Model → ℕ → ℕ
+  -- the bytes of the sheets of all cards in card order, joined
+  pub joined : Limits → Model → List ℕ
+  -- the verdict on any bytes, and the cabinet restarted from them
+  pub verdict : List ℕ → Verdict
+  pub restarted : Limits → List ℕ → Model
+
+abbrev pub sheetChecks : Codec → Limits → Model → ℕ → ℕ → List Check
+sheetChecks C L m c places =
+    not (sound L m) ⇒ BadCabinet ∷ not (isCard L m c) ⇒ NoSuchCard ∷ ltb places (length (C .sheet L m c)) ⇒ TooShort ∷ []
+
+-- "A card's sheet may be written in every phase"; places is the length of the buffer lent
+abbrev pub sheetPlan : Codec → Limits → Model → (c places : ℕ) → Plan
+sheetPlan C L m c places = checked (sheetChecks C L m c places) (written (C .sheet L m c)) []

@@ -1,0 +1,129 @@
+-- What a take leaves is what its edits leave. Assumes nothing.
+use Prim.Native.Nat.{ℕ, suc, _*_, _<_}
+use mathlib.Core.Path.{_≡_, refl, sym, _∙_, ap, ap₂}
+use mathlib.Core.Bool.{Bool, true, false, not, cond}
+use mathlib.Core.List.{List, [], _∷_}
+use native.Mathlib.Omega.{arith}
+use lib.Dec.{eqb}
+use lib.ListN.{set}
+use lib.Seq.{sets}
+use borrow.Author.Tests.{ne-eqb}
+use Rattle.bits.specs.Member.{member}
+use Rattle.refusal.specs.declared.Refusal.{Refusal}
+use Rattle.protocol.specs.Model.{placeOf}
+use Rattle.protocol.specs.Edit.{Edit}
+use Rattle.protocol.specs.Edit as edit
+use Rattle.protocol.specs.Plan.{done, Check, Plan, checked, accepted, refused}
+use Rattle.protocol.specs.Calls.{takeChecks, shareEdit, tookShare}
+use Rattle.history.specs.Vector.{joined}
+use Rattle.verdicts.specs.declared.Place.{Place}
+use Rattle.verdicts.specs.declared.Vector.{Vector}
+use Rattle.verdicts.specs.declared.Core.{Core}
+use Rattle.verdicts.specs.declared.Reply.{Reply}
+use Rattle.verdicts.specs.declared.Reply.the-variants.{Done, Refused}
+use Rattle.verdicts.specs.Answers.{replyOf, firstFailing, after28}
+use Rattle.verdicts.specs.Shape.{limits16, at, listOf, vectorAt, vectorFor, ringPlace, openOf, openAt, placeFor, withVectors, withNumbers, withPlaces}
+use Rattle.verdicts.specs.Applied.{appliedAll, entriesAll, makersAll}
+use Rattle.verdicts.proofs.Checks.{done-plan, refused-plan}
+use Rattle.carried.specs.Plans.{alone, TakeCarriedOn}
+use Rattle.carried.proofs.Call.{core-done, core-refused}
+
+-- the edits of a share, where the card is written and where it is only read
+abbrev pub shareEdits : Place → ℕ → ℕ → List Edit
+shareEdits q p c = shareEdit (openOf q) c ∷ edit.place p (tookShare limits16 (openOf q) c) ∷ []
+
+abbrev chosen : Bool → Place → ℕ → ℕ → List Edit
+chosen b q p c = cond b (edit.grow c (q .number) (at (q .vector))) (edit.raise c (at (q .vector))) ∷ edit.place p (tookShare limits16 (openOf q) c) ∷ []
+
+abbrev kept : List ℕ → Vector
+kept l = record { entries = l }
+
+pub share-grown : (s : Core) (c x p : ℕ) (w : Vector) (q sh : Place)
+    → member (q .writes) c ≡ true
+    → x ≡ suc (at (s .reached) c)
+    → w .entries ≡ q .vector
+    → q .vector ≡ listOf (at (q .vector))
+    → sh ≡ placeFor (tookShare limits16 (openOf q) c)
+    → withVectors (withNumbers (withPlaces s (set (s .places) p sh) (s .ended)) (s .base) (s .stored) (set (s .held) c x) (set (s .reached) c x)) (set (s .last) c w) (set (s .pending) c w)
+    ≡ appliedAll (shareEdits q p c) s
+share-grown s c x p w q sh ew ex ev el es =
+    let l : w ≡ vectorFor (at (q .vector)) = ap (λ (y : List ℕ). kept y) (ev ∙ el) in
+    (λ i. withVectors (withNumbers (withPlaces s (set (s .places) p (es i)) (s .ended)) (s .base) (s .stored) (set (s .held) c (ex i)) (set (s .reached) c (ex i))) (set (s .last) c (l i)) (set (s .pending) c (l i)))
+    ∙ ap (λ (b : Bool). appliedAll (chosen b q p c) s) (sym ew)
+
+pub grown-entries : (s : Core) (c x p : ℕ) (w : Vector) (q : Place)
+    → member (q .writes) c ≡ true
+    → x ≡ suc (at (s .reached) c)
+    → w .entries ≡ q .vector
+    → (l : List ℕ)
+    → cond (eqb x 0) l (sets l (ringPlace c x * 16) (listOf (at (w .entries)))) ≡ entriesAll (shareEdits q p c) s l
+grown-entries s c x p w q ew ex ev l =
+    ap (λ (b : Bool). cond b l (sets l (ringPlace c x * 16) (listOf (at (w .entries))))) (ne-eqb x 0 (λ (z : x ≡ 0). absurd (omega (arith, ex, z))))
+    ∙ ap₂ (λ (y : ℕ) (v : List ℕ). sets l (ringPlace c y * 16) (listOf (at v))) ex ev
+    ∙ ap (λ (b : Bool). entriesAll (chosen b q p c) s l) (sym ew)
+
+pub grown-makers : (s : Core) (c x p : ℕ) (q : Place)
+    → member (q .writes) c ≡ true
+    → x ≡ suc (at (s .reached) c)
+    → (l : List ℕ)
+    → cond (eqb x 0) l (set l (ringPlace c x) (q .number)) ≡ makersAll (shareEdits q p c) s l
+grown-makers s c x p q ew ex l =
+    ap (λ (b : Bool). cond b l (set l (ringPlace c x) (q .number))) (ne-eqb x 0 (λ (z : x ≡ 0). absurd (omega (arith, ex, z))))
+    ∙ ap (λ (y : ℕ). set l (ringPlace c y) (q .number)) ex
+    ∙ ap (λ (b : Bool). makersAll (chosen b q p c) s l) (sym ew)
+
+pub share-raised : (s : Core) (c p : ℕ) (w j : Vector) (q sh : Place)
+    → member (q .writes) c ≡ false
+    → w .entries ≡ q .vector
+    → j ≡ vectorFor (joined (vectorAt (s .pending) c) (at (w .entries)))
+    → sh ≡ placeFor (tookShare limits16 (openOf q) c)
+    → withVectors (withPlaces s (set (s .places) p sh) (s .ended)) (s .last) (set (s .pending) c j) ≡ appliedAll (shareEdits q p c) s
+share-raised s c p w j q sh ew ev ej es =
+    let l : j ≡ vectorFor (joined (vectorAt (s .pending) c) (at (q .vector))) = ej ∙ ap (λ (y : List ℕ). vectorFor (joined (vectorAt (s .pending) c) (at y))) ev in
+    (λ i. withVectors (withPlaces s (set (s .places) p (es i)) (s .ended)) (s .last) (set (s .pending) c (l i)))
+    ∙ ap (λ (b : Bool). appliedAll (chosen b q p c) s) (sym ew)
+
+pub raised-entries : (s : Core) (c p : ℕ) (q : Place) → member (q .writes) c ≡ false → (l : List ℕ) → l ≡ entriesAll (shareEdits q p c) s l
+raised-entries s c p q ew l = ap (λ (b : Bool). entriesAll (chosen b q p c) s l) (sym ew)
+
+pub raised-makers : (s : Core) (c p : ℕ) (q : Place) → member (q .writes) c ≡ false → (l : List ℕ) → l ≡ makersAll (shareEdits q p c) s l
+raised-makers s c p q ew l = ap (λ (b : Bool). makersAll (chosen b q p c) s l) (sym ew)
+
+-- ---- the whole answer
+module _ (whole : Bool) (s : Core) (k c : ℕ) where
+  abbrev checks : List Check
+  checks = after28 (not whole) (takeChecks limits16 (alone s) k c)
+
+  abbrev those : ℕ → List Edit
+  those p = shareEdit (openAt (s .places) p) c ∷ edit.place p (tookShare limits16 (openAt (s .places) p) c) ∷ []
+
+  pub take-done : (p : ℕ) (vector : List ℕ) (state maker : ℕ) (r : Reply) (next : Core)
+      → r ≡ firstFailing checks
+      → r ≡ Done
+      → c < 16
+      → p ≡ placeOf limits16 (alone s) k
+      → next ≡ appliedAll (those p) s
+      → ((l : List ℕ) → cond (eqb state 0) l (sets l (ringPlace c state * 16) (listOf (at vector))) ≡ entriesAll (those p) s l)
+      → ((l : List ℕ) → cond (eqb state 0) l (set l (ringPlace c state) maker) ≡ makersAll (those p) s l)
+      → TakeCarriedOn whole s k c vector state maker (replyOf r) next
+  take-done p vector state maker r next e d b ep n fe fm =
+      let P : ℕ = placeOf limits16 (alone s) k in
+      let pl : checked checks done (those P) ≡ record { reply = accepted done; edits = those P } = done-plan checks done (those P) (sym e ∙ d) in
+      record {
+        carried = core-done s next checks (those P) r e d (n ∙ ap (λ (i : ℕ). appliedAll (those i) s) ep);
+        below = λ z. b;
+        entries = λ l. fe l ∙ ap (λ (i : ℕ). entriesAll (those i) s l) ep ∙ sym (ap (λ (x : Plan). entriesAll (x .edits) s l) pl);
+        makers = λ l. fm l ∙ ap (λ (i : ℕ). makersAll (those i) s l) ep ∙ sym (ap (λ (x : Plan). makersAll (x .edits) s l) pl);
+      }
+
+  pub take-refused : (vector : List ℕ) (r : Reply) (q : Refusal) (next : Core) → r ≡ firstFailing checks → r ≡ Refused q → next ≡ s
+      → TakeCarriedOn whole s k c vector 0 0 (replyOf r) next
+  take-refused vector r q next e d n =
+      let P : ℕ = placeOf limits16 (alone s) k in
+      let pl : checked checks done (those P) ≡ record { reply = refused q; edits = [] } = refused-plan checks done (those P) q (sym e ∙ d) in
+      record {
+        carried = core-refused s next checks (those P) r q e d n;
+        below = λ z. absurd (z refl);
+        entries = λ l. sym (ap (λ (x : Plan). entriesAll (x .edits) s l) pl);
+        makers = λ l. sym (ap (λ (x : Plan). makersAll (x .edits) s l) pl);
+      }

@@ -1,0 +1,49 @@
+-- What a take that was accepted shows. Assumes nothing.
+use Prim.Native.Nat.{ℕ, _<_}
+use mathlib.Core.Path.{_≡_}
+use mathlib.Core.Bool.{true, false, not, _&&_}
+use mathlib.Core.List.{List, []}
+use borrow.Author.Tests.{not-false, not-true}
+use Rattle.laws.proofs.Logic.{and-right, and-intro, not-intro}
+use Rattle.protocol.specs.Model.{Model, OpenChange, isCard, isUp, isKnown, isOpen, decided, placeOf}
+use Rattle.protocol.specs.Sound.{sound}
+use Rattle.protocol.specs.Calls.{takeChecks}
+use Rattle.refusal.specs.declared.Refusal.the-variants.{BadCabinet, NoSuchCard, WrongPhase, NotAwaited, NotDecided}
+use Rattle.protocol.specs.Plan.{Check}
+use Rattle.verdicts.specs.declared.Reply.the-variants.{Done}
+use Rattle.verdicts.specs.Answers.{firstFailing, rest}
+use Rattle.verdicts.specs.Shape.{limits16}
+use Rattle.history.specs.Change.{touches}
+use Rattle.carried.proofs.Known.{sound-places, room-known, room-below}
+use Rattle.carried.proofs.Call.{card-below, first-passes, second-passes, two-pass, Found, found}
+
+-- what a take that was accepted shows
+pub record Taken (m : Model) (k c : ℕ) : Type 0 where
+  pub whole : sound limits16 m ≡ true
+  pub card : c < 16
+  pub place : placeOf limits16 m k < 8
+  pub left : m .place (placeOf limits16 m k) .taken c ≡ false
+  pub found : isOpen (m .place (placeOf limits16 m k)) ≡ true
+
+pub taken : (m : Model) (k c : ℕ) → firstFailing (takeChecks limits16 m k c) ≡ Done → Taken m k c
+taken m k c e =
+    let cs : List Check = takeChecks limits16 m k c in
+    let two : firstFailing (rest (rest cs)) ≡ Done = two-pass (not (sound limits16 m)) BadCabinet (not (isCard limits16 m c)) NoSuchCard (rest (rest cs)) e in
+    let known : not (isKnown limits16 m k) ≡ false = second-passes (not (isUp (m .phase))) WrongPhase (not (isKnown limits16 m k)) NotAwaited (rest (rest (rest (rest cs)))) two in
+    let o : OpenChange = m .place (placeOf limits16 m k) in
+    let four : firstFailing (rest (rest (rest (rest cs)))) ≡ Done = two-pass (not (isUp (m .phase))) WrongPhase (not (isKnown limits16 m k)) NotAwaited (rest (rest (rest (rest cs)))) two in
+    let due : not (touches (o .change) c && not (o .taken c)) ≡ false = second-passes (not (decided limits16 o)) NotDecided (not (touches (o .change) c && not (o .taken c))) NotAwaited [] four in
+    let f : Found m k = found m k known in
+    record {
+      whole = not-false (sound limits16 m) (first-passes (not (sound limits16 m)) BadCabinet (not (isCard limits16 m c)) NoSuchCard (rest (rest cs)) e);
+      card = card-below m c (second-passes (not (sound limits16 m)) BadCabinet (not (isCard limits16 m c)) NoSuchCard (rest (rest cs)) e);
+      left = not-true (o .taken c) (and-right (touches (o .change) c) (not (o .taken c)) (not-false (touches (o .change) c && not (o .taken c)) due));
+      found = f .open-there;
+      place = f .place;
+    }
+
+-- a written card that takes its share is below 60,000
+pub take-room : (m : Model) (k c : ℕ) → Taken m k c → m .place (placeOf limits16 m k) .change .writes c ≡ true → m .numbers .reached c < 60000
+take-room m k c t w =
+    room-below m c
+    (room-known m (m .place (placeOf limits16 m k)) (sound-places m (t .whole) (placeOf limits16 m k) (t .place)) (t .found) c (t .card) (and-intro w (not-intro (t .left))))

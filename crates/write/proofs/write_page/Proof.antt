@@ -1,0 +1,32 @@
+-- `write::write_page` writes a sheet in the layout that it picks. Assumes nothing.
+use mathlib.Core.Path.{_∙_, ap}
+use borrow.Author.Needs.{needs}
+use Rattle.frame.specs.Format.{Format, formatOf}
+use Rattle.frame.specs.Lines.{headerAllowed}
+use Rattle.write.proofs.Rows.{told-page}
+use Rattle.write.proofs.write_page.Statement.{statement}
+use Rattle.write.proofs.write_page.Tie as tie
+use Rattle.write.proofs.write_page.Reads as reads
+use Rattle.write.proofs.write_page.Lts as lts
+use Rattle.write.proofs.write_in.Reads as write-in-reads
+use Rattle.frame.proofs.layout_of.Reads as layout-of-reads
+
+layout-of-requires : tie.Need-layout-of-requires
+layout-of-requires c κs = search needs
+
+write-in-requires : tie.Need-write-in-requires
+write-in-requires c κs =
+    let p = c .before .before .before in
+    let h = p .args .h in
+    (c .before .layout-of .ensures .1, ap (λ (f : Format). headerAllowed f (h .card) 0 h) (c .before .layout-of .ensures .0) ∙ p .pre)
+
+same-length : tie.Need-same-length
+same-length c = search needs
+
+returns : tie.Need-returns
+returns c =
+    let a = c .before .before .before .before .before .before .args in
+    told-page (a .changes .now) (a .entries .now) (a .h) (a .b .now) (formatOf (c .before .before .before .before .layout-of .result)) (c .before .before .before .before .layout-of .ensures .0) (c .before .before .before .before .before .before .pre) (c .before .before .write-in .ensures)
+
+pub write-page-spec : {M : Type 1} → statement M
+write-page-spec = tie.close (tie.spec layout-of-requires write-in-requires same-length returns)
