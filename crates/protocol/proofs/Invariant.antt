@@ -30,7 +30,7 @@ pub record RollingBack (L : Limits) (m : Model) (j : Journal) : Type 0 where
   pub rolls : Rolling L m j
   pub notes : LineNoted L m j
 
--- n is the number of cards of the fresh cabinet
+-- n is the set of cards of the fresh cabinet
 pub record Invariant (L : Limits) (n : CardSet) (m : Model) (j : Journal) : Type 0 where
   pub present-is : (c : ℕ) → m .present c ≡ n c
   pub absent-start : (c : ℕ) → c < L .width → n c ≡ false → j .start c ≡ 0
