@@ -17,10 +17,6 @@ use Rattle.sheet.specs.Pages.{Page, Sheets, readSheets}
 abbrev pub placeOf : ℕ → ℕ → ℕ
 placeOf card state = card * 48 + state % 48
 
--- the place of frame a of a card, whose frames begin behind its base
-abbrev pub frameAt : ℕ → ℕ → ℕ → ℕ
-frameAt card base a = placeOf card (base + 1 + a)
-
 -- the read-out of zeros
 abbrev pub noReadout : Readout
 noReadout =
