@@ -1,4 +1,4 @@
--- The sheets of a cabinet that rolls back, joined, are read back and refused with nothing. Assumes nothing.
+-- The sheets of a cabinet, running or rolling back, joined, are read back, and refused with nothing while another session can follow. Assumes nothing.
 use Prim.Native.Nat.{ℕ, suc, _+_, _-_, _^_, _≤_, _<_, zero-le}
 use mathlib.Core.Path.{_≡_, refl, sym, _∙_, ap, ap₂, subst}
 use mathlib.Core.Bool.{Bool, true, false, not, _&&_, _||_, cond}
@@ -14,7 +14,9 @@ use Rattle.laws.specs.Below.{allBelow, tabulate}
 use Rattle.laws.proofs.Logic.{test, clash, fails, and-left, and-right, and-intro, or-left, or-right, not-true, not-intro, cond-case}
 use Rattle.laws.proofs.Below.{Found, all-at, all-intro, search-below}
 use Rattle.laws.proofs.Fill.{length-tabulate, getD-tabulate}
-use Rattle.refusal.specs.declared.Verdict.the-variants.{Accepted}
+use Rattle.refusal.specs.declared.Refusal.the-variants.{LimitReached}
+use Rattle.refusal.specs.declared.Verdict.{Verdict}
+use Rattle.refusal.specs.declared.Verdict.the-variants.{Accepted, Refused}
 use Rattle.frame.specs.declared.Frame.{Frame}
 use Rattle.frame.specs.Format.{format, formats}
 use Rattle.frame.specs.Lines.{frameAllowed, entriesAllowed, entryAllowed, noFrame}
@@ -26,24 +28,24 @@ use Rattle.sheet.proofs.Lay.{zeros}
 use Rattle.sessions.specs.Sessions.{lowestTo, apart}
 use Rattle.sessions.proofs.Laws.{lowest-le, lowest-ge}
 use Rattle.two_vectors.specs.Vectors.{frameOn, differ, twoVectors}
-use Rattle.readout.specs.Joint.{lowestSession, sessionsApart, jointVerdict, pagesRead}
-use Rattle.readout.proofs.Accepted.{pages-accepted}
+use Rattle.readout.specs.Joint.{lowestSession, sessionsApart, jointVerdict, PagesRead, judged, pagesRead}
+use Rattle.readout.proofs.Accepted.{pages-judged}
 use Rattle.history.specs.Change.{History, historyOf}
 use Rattle.history.specs.Vector.{vector}
 use Rattle.history.proofs.Writers.{Maker, maker}
-use Rattle.protocol.specs.Model.{Limits, isRolling, Model}
+use Rattle.protocol.specs.Model.{Limits, isRolling, Model, hasRolled}
 use Rattle.protocol.specs.Sound.{entriesSound, risesSound}
-use Rattle.protocol.specs.Journal.{Journal}
+use Rattle.protocol.specs.Journal.{Journal, greatestLine}
 use Rattle.protocol.proofs.Soundness.{one-frame, two-frames}
-use Rattle.protocol.proofs.Rolling.{AboutLine, Rolling}
+use Rattle.protocol.proofs.Rolling.{AboutLine}
+use Rattle.protocol.proofs.Restart.{Recallable}
 use Rattle.codec.specs.Sheets.{cardCount, sheetSession, sheetFrame, sheetOf}
 use Rattle.codec.proofs.Written.{frames-length, frame-of, count-is, entry-written, length-entries}
 use Rattle.codec.proofs.Passing.{page-bytes, pages-bytes, formed-all, frames-pass, none-below}
 
--- ---- a cabinet that rolls back
 module _ (L : Limits) (n : ℕ) (m : Model) (j : Journal) (few : n ≤ L .width) (some : 1 ≤ n)
     (sixteen : L .width ≡ 16) (forty-eight : L .inHand ≡ 48) (sixty-thousand : L .greatestState ≡ 60000) (top : L .greatestNumber ≡ 4294967295)
-    (present-is : (c : ℕ) → m .present c ≡ ltb c n) (r : Rolling L m j) where
+    (present-is : (c : ℕ) → m .present c ≡ ltb c n) (r : Recallable L m j) where
   abbrev H₀ : History
   H₀ = historyOf (j .history)
 
@@ -53,7 +55,7 @@ module _ (L : Limits) (n : ℕ) (m : Model) (j : Journal) (few : n ≤ L .width)
   abbrev page : ℕ → Page
   page = sheetOf L m
 
-  a₀ : AboutLine L m (j .start) N (j .stored) (m .line) H₀
+  a₀ : AboutLine L m (j .start) N (j .stored) (greatestLine L j) H₀
   a₀ = r .about H₀ (λ i h. refl)
 
   card : (c : ℕ) → c < n → c < L .width
@@ -170,8 +172,8 @@ module _ (L : Limits) (n : ℕ) (m : Model) (j : Journal) (few : n ≤ L .width)
   session-small : (c : ℕ) → (0 < sheetSession m c) × (sheetSession m c < 16 ^ 8)
   session-small c =
       let g = r .session-given in
-      let t = r .session-left in
-      cond-case (λ (s : ℕ). (0 < s) × (s < 16 ^ 8)) (isRolling (m .phase) && m .rolled c) (λ e. (omega arith, omega (arith, top))) (λ e. (g, omega (arith, top)))
+      cond-case (λ (s : ℕ). (0 < s) × (s < 16 ^ 8)) (hasRolled m c)
+      (λ e. (omega arith, omega (arith, top, r .session-left (and-left (isRolling (m .phase)) (m .rolled c) e)))) (λ e. (g, omega (arith, top, r .session-fits)))
 
   short : (c : ℕ) → c < L .width → m .numbers .stored c - m .numbers .base c ≤ 48
   short c l = omega (arith, r .in-hand c l, stored-top c l, forty-eight)
@@ -233,12 +235,12 @@ module _ (L : Limits) (n : ℕ) (m : Model) (j : Journal) (few : n ≤ L .width)
   pub session-at : (c : ℕ) → c < n → pageAt ps c .header .session ≡ sheetSession m c
   session-at c h = ap (λ (p : Page). p .header .session) (page-at c h)
 
-  not-rolled : (c : ℕ) × (c < n) × (m .rolled c ≡ false)
+  not-rolled : (c : ℕ) × (c < n) × (hasRolled m c ≡ false)
   not-rolled =
-      ⊎-elim (λ (f : Found (L .width) (λ c. m .present c && not (m .rolled c))). (f .0, ltb-true (f .0) n (sym (present-is (f .0)) ∙ and-left (m .present (f .0)) (not (m .rolled (f .0))) (f .2)), not-true (m .rolled (f .0)) (and-right (m .present (f .0)) (not (m .rolled (f .0))) (f .2))))
-      (λ (none : (c : ℕ) → c < L .width → m .present c && not (m .rolled c) ≡ false).
-      clash (all-intro (L .width) (λ c. not (m .present c) || m .rolled c) (λ c l. test (m .rolled c) (λ e. or-right (not (m .present c)) e) (λ e. or-left (m .rolled c) (not-intro (fails (m .present c) (λ p. clash (and-intro p (not-intro e)) (none c l))))))) (r .some-left))
-      (search-below (L .width) (λ c. m .present c && not (m .rolled c)))
+      ⊎-elim (λ (f : Found (L .width) (λ c. m .present c && not (hasRolled m c))). (f .0, ltb-true (f .0) n (sym (present-is (f .0)) ∙ and-left (m .present (f .0)) (not (hasRolled m (f .0))) (f .2)), not-true (hasRolled m (f .0)) (and-right (m .present (f .0)) (not (hasRolled m (f .0))) (f .2))))
+      (λ (none : (c : ℕ) → c < L .width → m .present c && not (hasRolled m c) ≡ false).
+      clash (all-intro (L .width) (λ c. not (m .present c) || hasRolled m c) (λ c l. test (hasRolled m c) (λ e. or-right (not (m .present c)) e) (λ e. or-left (hasRolled m c) (not-intro (fails (m .present c) (λ p. clash (and-intro p (not-intro e)) (none c l))))))) (r .some-left))
+      (search-below (L .width) (λ c. m .present c && not (hasRolled m c)))
 
   pub lowest-is : lowestSession ps ≡ m .session
   lowest-is =
@@ -249,24 +251,24 @@ module _ (L : Limits) (n : ℕ) (m : Model) (j : Journal) (few : n ≤ L .width)
       (lowest-ge (λ c. pageAt ps c .header .session) (n - 1) (m .session) (λ i h. omega (arith, session-at i (omega (arith, h, some)), session-from i)))
     where
       unrolled-session : sheetSession m (not-rolled .0) ≡ m .session
-      unrolled-session = rw (r .is-rolling, not-rolled .2)
+      unrolled-session = rw (not-rolled .2)
 
       session-from : (c : ℕ) → m .session ≤ sheetSession m c
-      session-from c = cond-case (λ (s : ℕ). m .session ≤ s) (isRolling (m .phase) && m .rolled c) (λ e. omega arith) (λ e. le-refl (m .session))
+      session-from c = cond-case (λ (s : ℕ). m .session ≤ s) (hasRolled m c) (λ e. omega arith) (λ e. le-refl (m .session))
 
   count-at : (c : ℕ) → c < n → length (pageAt ps c .frames) ≡ m .numbers .stored c - m .numbers .base c
   count-at c h = ap (λ (p : Page). length (p .frames)) (page-at c h) ∙ frames-length L m c
 
   not-apart : sessionsApart ps ≡ false
   unfolding sessionsApart apart
-  not-apart = rw (lowest-is, length-ps) (none-below n _ (λ c h. test (m .rolled c) (λ y. ahead c h y) (λ y. level c h y)))
+  not-apart = rw (lowest-is, length-ps) (none-below n _ (λ c h. test (hasRolled m c) (λ y. ahead c h y) (λ y. level c h y)))
     where
       session : ℕ → ℕ
       session c = pageAt ps c .header .session
 
-      ahead : (c : ℕ) → c < n → m .rolled c ≡ true → ltb (m .session + 1) (pageAt ps c .header .session) || (ltb (m .session) (pageAt ps c .header .session) && ltb 0 (length (pageAt ps c .frames))) ≡ false
+      ahead : (c : ℕ) → c < n → hasRolled m c ≡ true → ltb (m .session + 1) (pageAt ps c .header .session) || (ltb (m .session) (pageAt ps c .header .session) && ltb 0 (length (pageAt ps c .frames))) ≡ false
       ahead c h y =
-          let s : sheetSession m c ≡ suc (m .session) = rw (r .is-rolling, y) in
+          let s : sheetSession m c ≡ suc (m .session) = rw y in
           let q = r .lowered c (card c h) y in
           rw (le-ltb (m .session + 1) (pageAt ps c .header .session) (omega (arith, session-at c h, s)), le-ltb 0 (length (pageAt ps c .frames)) (omega (arith, count-at c h, q .0, q .1)))
           (no-and (ltb (m .session) (pageAt ps c .header .session)))
@@ -275,9 +277,9 @@ module _ (L : Limits) (n : ℕ) (m : Model) (j : Journal) (few : n ≤ L .width)
           no-and true = refl
           no-and false = refl
 
-      level : (c : ℕ) → c < n → m .rolled c ≡ false → ltb (m .session + 1) (pageAt ps c .header .session) || (ltb (m .session) (pageAt ps c .header .session) && ltb 0 (length (pageAt ps c .frames))) ≡ false
+      level : (c : ℕ) → c < n → hasRolled m c ≡ false → ltb (m .session + 1) (pageAt ps c .header .session) || (ltb (m .session) (pageAt ps c .header .session) && ltb 0 (length (pageAt ps c .frames))) ≡ false
       level c h y =
-          let s : sheetSession m c ≡ m .session = rw (r .is-rolling, y) in
+          let s : sheetSession m c ≡ m .session = rw y in
           rw (le-ltb (m .session + 1) (pageAt ps c .header .session) (omega (arith, session-at c h, s)), le-ltb (m .session) (pageAt ps c .header .session) (omega (arith, session-at c h, s)))
 
   -- ---- 10: one change has one vector
@@ -356,9 +358,19 @@ module _ (L : Limits) (n : ℕ) (m : Model) (j : Journal) (few : n ≤ L .width)
       (λ k lk. not-differ c d i k hc (omega (arith, hc, hd)) (omega (arith, li, count-at c hc)) (omega (arith, lk, count-at d (omega (arith, hc, hd)))))))))
 
   -- ---- the whole read-out
-  joint : jointVerdict ps ≡ Accepted
+  joint : m .session < L .greatestNumber → jointVerdict ps ≡ Accepted
   unfolding jointVerdict
-  joint = rw (not-apart, lowest-is, ne-eqb (m .session) 4294967295 (λ (z : m .session ≡ 4294967295). absurd (omega (arith, r .session-left, top, z))), one-vector)
+  joint left = rw (not-apart, lowest-is, ne-eqb (m .session) 4294967295 (λ (z : m .session ≡ 4294967295). absurd (omega (arith, left, top, z))), one-vector)
 
-  pub read-back : pagesRead bytes ≡ record { pages = ps; verdict = Accepted }
-  read-back = pages-accepted ps whole joint bytes-few
+  last-joint : L .greatestNumber ≤ m .session → jointVerdict ps ≡ Refused LimitReached
+  unfolding jointVerdict
+  last-joint z = rw (not-apart, lowest-is, eq-eqb (m .session) 4294967295 (omega (arith, z, top, r .session-fits)))
+
+  read-judged : pagesRead bytes ≡ judged (jointVerdict ps) ps
+  read-judged = pages-judged ps whole bytes-few
+
+  pub read-back : m .session < L .greatestNumber → pagesRead bytes ≡ record { pages = ps; verdict = Accepted }
+  read-back left = read-judged ∙ ap (λ (v : Verdict). judged v ps) (joint left)
+
+  pub read-last : L .greatestNumber ≤ m .session → pagesRead bytes .verdict ≡ Refused LimitReached
+  read-last z = ap (λ (x : PagesRead). x .verdict) (read-judged ∙ ap (λ (v : Verdict). judged v ps) (last-joint z))

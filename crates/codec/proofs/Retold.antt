@@ -1,38 +1,34 @@
--- The law that lists of calls ask of sheets, met by document 01's: what restarts from the sheets of a cabinet that rolls back has of it all that it must. Assumes nothing.
+-- The law that lists of calls ask of sheets, met by document 01's: what restarts from the sheets of a cabinet has of it all that it must. Assumes nothing.
 use Prim.Native.Nat.{ℕ, suc, _+_, _-_, _≤_, _<_, zero-le}
 use mathlib.Core.Path.{_≡_, refl, sym, _∙_, ap, ap₂, subst}
-use mathlib.Core.Bool.{Bool, true, false, _&&_, cond}
-use mathlib.Core.List.{List, [], _∷_}
+use mathlib.Core.Bool.{Bool, true, false, cond}
+use mathlib.Core.List.{List}
 use native.Mathlib.Nat.{le-refl, le-trans}
 use native.Mathlib.Omega.{arith}
 use lib.Dec.{ltb}
 use lib.ListN.{length, getD, List·getD-eq-default}
 use borrow.Author.Tests.{le-leb, lt-ltb, le-ltb, ltb-true, ltb-false}
-use Rattle.laws.specs.Below.{tabulate, selected}
-use Rattle.laws.proofs.Logic.{test, clash, and-intro}
-use Rattle.refusal.specs.declared.Verdict.the-variants.{Accepted}
+use Rattle.laws.specs.Below.{tabulate}
+use Rattle.laws.proofs.Logic.{test, and-intro}
+use Rattle.refusal.specs.declared.Refusal.the-variants.{LimitReached}
+use Rattle.refusal.specs.declared.Verdict.the-variants.{Accepted, Refused}
 use Rattle.frame.specs.declared.Frame.{Frame}
 use Rattle.frame.specs.Format.{formats}
 use Rattle.sheet.specs.Pages.{Page, pagesBytes}
 use Rattle.sheet.specs.Ring.{noPage, pageAt}
 use Rattle.readout.specs.Joint.{lowestSession, PagesRead, pagesRead}
-use Rattle.history.specs.Change.{CardSet, historyOf}
-use Rattle.protocol.specs.Model.{Limits, isUp, isRolling, Model, noCards}
-use Rattle.protocol.specs.Sound.{sound}
-use Rattle.protocol.specs.Edit.{fall, halt, fix, editedAll}
-use Rattle.protocol.specs.Calls.{lines}
-use Rattle.protocol.specs.Journal.{Journal}
+use Rattle.history.specs.Change.{historyOf}
+use Rattle.protocol.specs.Model.{Limits, Model, hasRolled}
+use Rattle.protocol.specs.Journal.{Journal, greatestLine}
 use Rattle.protocol.proofs.Running.{Carded}
-use Rattle.protocol.proofs.Rolling.{AboutLine, Rolling}
-use Rattle.protocol.proofs.Restart.{Recalled, Remade, CodecLaw}
-use Rattle.protocol.proofs.Anywhere.{fallen, fixedModel, Unmoved}
-use Rattle.codec.specs.Sheets.{cardCount, sheetFrame, sheetOf, pageStored, joinedSheets, isOn, frameFor, makerOn, vectorOn, restarted, codec}
+use Rattle.protocol.proofs.Rolling.{AboutLine}
+use Rattle.protocol.proofs.Restart.{Recalled, Recallable, Remade, CodecLaw}
+use Rattle.codec.specs.Sheets.{sheetFrame, sheetOf, pageStored, joinedSheets, isOn, frameFor, makerOn, vectorOn, restarted, codec}
 use Rattle.codec.specs.Claims.{SheetLimits}
 use Rattle.codec.proofs.Written.{frame-of, sheets-are, entry-written, entry-absent}
 use Rattle.codec.proofs.Reading as reading
 
--- a restart while rolling
-module _ (L : Limits) (lim : SheetLimits L) (n : ℕ) (low : 1 ≤ n) (high : n ≤ L .width) (m : Model) (j : Journal) (present-is : (c : ℕ) → m .present c ≡ ltb c n) (r : Rolling L m j) where
+module _ (L : Limits) (lim : SheetLimits L) (n : ℕ) (low : 1 ≤ n) (high : n ≤ L .width) (m : Model) (j : Journal) (present-is : (c : ℕ) → m .present c ≡ ltb c n) (r : Recallable L m j) where
   abbrev page : ℕ → Page
   page = sheetOf L m
 
@@ -57,7 +53,7 @@ module _ (L : Limits) (lim : SheetLimits L) (n : ℕ) (low : 1 ≤ n) (high : n 
 
   base-stored : (c : ℕ) → c < L .width → m .numbers .base c ≤ m .numbers .stored c
   base-stored c l =
-      let a : AboutLine L m (j .start) (length (j .history)) (j .stored) (m .line) (historyOf (j .history)) = r .about (historyOf (j .history)) (λ i h. refl) in
+      let a : AboutLine L m (j .start) (length (j .history)) (j .stored) (greatestLine L j) (historyOf (j .history)) = r .about (historyOf (j .history)) (λ i h. refl) in
       le-trans (a .intact .base-line c l) (a .intact .line-stored c l)
 
   is-on : (c x : ℕ) → c < L .width → m .numbers .base c < x → x ≤ m .numbers .stored c → isOn (page c) x ≡ true
@@ -94,65 +90,36 @@ module _ (L : Limits) (lim : SheetLimits L) (n : ℕ) (low : 1 ≤ n) (high : n 
         last = λ c i. test (ltb (pageAt ps c .header .base) (pageStored (pageAt ps c))) (λ e. rw e) (λ e. rw e);
         pending = refl;
         none-open = λ p l. refl;
-        rolled = λ c l e. ap₂ ltb lowest-is (reading.session-at L n m j high low (lim .width) (lim .inHand) (lim .greatestState) (lim .greatestNumber) present-is r c (below c e)) ∙ rw (r .is-rolling) (ahead (m .rolled c));
+        rolled = λ c l e. ap₂ ltb lowest-is (reading.session-at L n m j high low (lim .width) (lim .inHand) (lim .greatestState) (lim .greatestNumber) present-is r c (below c e)) ∙ ahead (hasRolled m c);
         none-rolled = λ c l e. ap₂ ltb lowest-is (ap (λ (p : Page). p .header .session) (no-page c e)) ∙ le-ltb (m .session) 0 zero-le;
         line = λ c l. refl;
       }
     where
-      ahead : (b : Bool) → ltb (m .session) (cond (true && b) (suc (m .session)) (m .session)) ≡ b
+      ahead : (b : Bool) → ltb (m .session) (cond b (suc (m .session)) (m .session)) ≡ b
       ahead true = lt-ltb (m .session) (suc (m .session)) (le-refl (suc (m .session)))
       ahead false = le-ltb (m .session) (m .session) (le-refl (m .session))
 
-  joined-back : pagesRead (joinedSheets formats L m) ≡ record { pages = ps; verdict = Accepted }
-  joined-back =
-      ap (λ (q : List Page). pagesRead (pagesBytes formats q)) (sheets-are L n m high present-is)
-      ∙ reading.read-back L n m j high low (lim .width) (lim .inHand) (lim .greatestState) (lim .greatestNumber) present-is r
+  own-pages : joinedSheets formats L m ≡ pagesBytes formats ps
+  own-pages = ap (pagesBytes formats) (sheets-are L n m high present-is)
 
-  remade : Remade codec L m
-  remade =
+  joined-back : m .session < L .greatestNumber → pagesRead (joinedSheets formats L m) ≡ record { pages = ps; verdict = Accepted }
+  joined-back left = ap pagesRead own-pages ∙ reading.read-back L n m j high low (lim .width) (lim .inHand) (lim .greatestState) (lim .greatestNumber) present-is r left
+
+  remade : m .session < L .greatestNumber → Remade codec L m
+  remade left =
       record {
-        accepts = ap (λ (x : PagesRead). x .verdict) joined-back;
-        recalled = subst (λ (x : PagesRead). Recalled L m (restarted L (x .pages))) (sym joined-back) recalled;
+        accepts = ap (λ (x : PagesRead). x .verdict) (joined-back left);
+        recalled = subst (λ (x : PagesRead). Recalled L m (restarted L (x .pages))) (sym (joined-back left)) recalled;
       }
+
+  last-session : L .greatestNumber ≤ m .session → codec .verdict (codec .joined L m) ≡ Refused LimitReached
+  last-session z =
+      ap (λ (b : List ℕ). pagesRead b .verdict) own-pages ∙ reading.read-last L n m j high low (lim .width) (lim .inHand) (lim .greatestState) (lim .greatestNumber) present-is r z
 
 pub sheets-law : (L : Limits) → SheetLimits L → (n : ℕ) → 1 ≤ n → n ≤ L .width → CodecLaw codec L (λ c. ltb c n)
 sheets-law L lim n low high =
-    record { last-stored = λ m c h. omega arith; remade = λ m j v r. remade L lim n low high m j (v .present-is) (r .rolls) }
+    record { last-stored = λ m c h. omega arith; remade = λ m j e r. remade L lim n low high m j e r; last-session = λ m j e r. last-session L lim n low high m j e r }
 
-pub below-carded : (L : Limits) (n : ℕ) → 1 ≤ n → n ≤ L .width → Carded L (λ c. ltb c n)
-below-carded L n low high = record { one = 0; is-card = le-trans low high; is-there = lt-ltb 0 n low; none-beyond = le-ltb (L .width) n high }
-
--- a loss of no card and a fix change nothing that a sheet says
-module _ (L : Limits) (m : Model) (fine : sound L m ≡ true) (still : isRolling (m .phase) ≡ false) where
-  same-sheet : (c : ℕ) → sheetOf L (fixedModel L m fine still) c ≡ sheetOf L m c
-  same-sheet c = cases (isUp (m .phase)) (isRolling (m .phase)) still
-    where
-      cases : (b a : Bool) → a ≡ false → sheetOf L (editedAll L (fix (lines L (fallen L m fine still)) ∷ []) (editedAll L (fall noCards ∷ cond b (halt ∷ []) []) m)) c
-          ≡ record {
-            header =
-                record {
-                  session = cond (a && m .rolled c) (suc (m .session)) (m .session);
-                  card = c;
-                  cards = cardCount L m;
-                  base = m .numbers .base c;
-                  count = m .numbers .stored c - m .numbers .base c;
-                };
-            frames = sheetOf L m c .frames;
-          }
-      cases true true e = clash refl e
-      cases true false e = refl
-      cases false true e = clash refl e
-      cases false false e = refl
-
-  same-present : (fixedModel L m fine still) .present ≡ m .present
-  same-present = cases (isUp (m .phase))
-    where
-      cases : (b : Bool) → editedAll L (fix (lines L (fallen L m fine still)) ∷ []) (editedAll L (fall noCards ∷ cond b (halt ∷ []) []) m) .present ≡ m .present
-      cases true = refl
-      cases false = refl
-
-  same-bytes : joinedSheets formats L (fixedModel L m fine still) ≡ joinedSheets formats L m
-  same-bytes = ap₂ (λ (p : CardSet) (f : ℕ → Page). pagesBytes formats (selected (L .width) p f)) same-present (λ i c. same-sheet c i)
-
-pub unmoved : (L : Limits) → Unmoved codec L
-unmoved L m fine still = same-bytes L m fine still
+pub below-carded : (L : Limits) → SheetLimits L → (n : ℕ) → 1 ≤ n → n ≤ L .width → Carded L (λ c. ltb c n)
+below-carded L lim n low high =
+    record { one = 0; is-card = le-trans low high; is-there = lt-ltb 0 n low; none-beyond = le-ltb (L .width) n high; some-session = omega (arith, lim .greatestNumber) }

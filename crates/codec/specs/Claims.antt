@@ -4,7 +4,6 @@ use mathlib.Core.Path.{_≡_}
 use lib.Dec.{ltb}
 use Rattle.protocol.specs.Model.{Limits}
 use Rattle.protocol.specs.Demands as lists
-use Rattle.protocol.specs.Anywhere as lists-anywhere
 use Rattle.codec.specs.Sheets.{codec}
 
 -- the limits for which document 01's sheets have room
@@ -14,13 +13,9 @@ pub record SheetLimits (L : Limits) : Type 0 where
   pub greatestState : L .greatestState ≡ 60000
   pub greatestNumber : L .greatestNumber ≡ 4294967295
 
--- demands 2 and 3, for every list of calls from a fresh cabinet of any allowed size in which every restart stands in phase rolling
+-- demands 2 and 3, for every list of calls from a fresh cabinet of any allowed size, with losses anywhere and restarts in any phase
 abbrev pub Demands : Limits → Type 0
 Demands L = (k : ℕ) → 1 ≤ k → k ≤ L .width → lists.Demands codec L (λ c. ltb c k)
-
--- and with restarts in any phase
-abbrev pub Anywhere : Limits → Type 0
-Anywhere L = (k : ℕ) → 1 ≤ k → k ≤ L .width → lists-anywhere.Anywhere codec L (λ c. ltb c k)
 
 -- document 01's limits: 16 cards, 48 states in hand, 8 open changes, states to 60,000, sessions and change numbers to 4,294,967,295
 abbrev pub limits : Limits

@@ -15,7 +15,7 @@ use Rattle.readout.specs.Joint.{lowestSession, pagesRead}
 use Rattle.history.specs.Change.{Numbers}
 use Rattle.history.specs.Vector.{Vector}
 use Rattle.history.specs.Line.{lineFrom}
-use Rattle.protocol.specs.Model.{Limits, rolling, isRolling, Model, freePlace}
+use Rattle.protocol.specs.Model.{Limits, rolling, Model, hasRolled, freePlace}
 use Rattle.protocol.specs.Codec.{Codec}
 
 -- ---- writing
@@ -25,7 +25,7 @@ cardCount L m = countBelow (L .width) (m .present)
 
 -- "A card already rolled writes the next session's number."
 abbrev pub sheetSession : Model → ℕ → ℕ
-sheetSession m c = cond (isRolling (m .phase) && m .rolled c) (suc (m .session)) (m .session)
+sheetSession m c = cond (hasRolled m c) (suc (m .session)) (m .session)
 
 -- the frame of state x of card c: the change, and one entry per card
 abbrev pub sheetFrame : Limits → Model → ℕ → ℕ → Frame

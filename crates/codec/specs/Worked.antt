@@ -12,7 +12,7 @@ use Rattle.protocol.specs.Calls.{freshModel}
 use Rattle.protocol.specs.Run.{Call, openCall, voteCall, takeCall, storeCall, loseCall, fixCall, planOf, afterCall}
 use Rattle.codec.specs.Sheets.{codec}
 use Rattle.codec.specs.Claims.{limits}
-use Rattle.protocol.specs.Anywhere.{chosen}
+use Rattle.protocol.specs.Choices.{chosen}
 
 -- the cabinet after calls
 abbrev pub followed : Model → List Call → Model

@@ -1,6 +1,6 @@
 -- Demands 1, 2 and 3 of the 16-card cabinet: what it shows runs as the model runs. Assumes nothing.
-use Prim.Native.Nat.{ℕ, zero, suc, _+_, _*_, _≤_, _<_}
-use mathlib.Core.Path.{_≡_, refl, sym, _∙_, ap, ap₂, subst, subst₂}
+use Prim.Native.Nat.{ℕ, _+_, _*_, _≤_, _<_}
+use mathlib.Core.Path.{_≡_, refl, sym, _∙_, ap, subst, subst₂}
 use mathlib.Core.Bool.{Bool, true, false, not, _&&_, _||_, cond}
 use mathlib.Core.List.{List, []}
 use mathlib.Core.Logic.{_⊎_, inl, inr, by-cases}
@@ -8,20 +8,17 @@ use native.Mathlib.Decide.{decLt}
 use native.Mathlib.Omega.{arith}
 use lib.Dec.{leb, ltb}
 use lib.ListN.{length, getD}
-use borrow.Author.Tests.{leb-true, le-ltb}
-use Rattle.laws.specs.Below.{anyBelow}
-use Rattle.laws.proofs.Logic.{test, clash, and-left, and-right, or-elim, not-true}
+use borrow.Author.Tests.{leb-true, lt-ltb, le-ltb}
+use Rattle.laws.proofs.Logic.{test, clash, and-left, and-right, or-elim}
 use Rattle.laws.proofs.Below.{Found, any-elim}
-use Rattle.refusal.specs.declared.Refusal.{Refusal}
 use Rattle.bits.specs.Member.{member}
 use Rattle.bits.proofs.Members.{member-above}
 use Rattle.refusal.specs.declared.Verdict.{Verdict}
 use Rattle.refusal.specs.declared.Verdict.the-variants.{Accepted, Refused}
 use Rattle.frame.specs.Format.{formats}
-use Rattle.history.specs.Change.{CardSet, touches}
+use Rattle.history.specs.Change.{Numbers, touches}
 use Rattle.codec.specs.Sheets.{codec}
-use Rattle.protocol.specs.Model.{Limits, OpenChange, Model, isOpen}
-use Rattle.protocol.specs.Edit.{Edit}
+use Rattle.protocol.specs.Model.{OpenChange, Model, isOpen}
 use Rattle.protocol.specs.Plan.{Answer, done, Reply, accepted, refused, Plan, afterPlan}
 use Rattle.protocol.specs.Calls.{freshRefused, freshModel, bars, barred, openPlan, fixPlan}
 use Rattle.protocol.proofs.Steps.{checked-case, not-not}
@@ -37,21 +34,19 @@ use Rattle.protocol.specs.Run.{Call, Choice, Proper, planOf, afterCall, Calls, 
 use Rattle.protocol.specs.Run as run
 use Rattle.protocol.specs.Demands as model
 use Rattle.codec.specs.Claims.{SheetLimits}
-use Rattle.protocol.specs.Demands.{CallRight, CabinetRight, WhileRolling, Listed}
-use Rattle.protocol.specs.Anywhere as anywhere
-use Rattle.codec.proofs.Document.{demands, sooner}
-use Rattle.verdicts.specs.Shape.{limits16, at}
-use Rattle.verdicts.proofs.Limits.{width16, inHand48, places8, greatest60000, greatestNumber32}
+use Rattle.protocol.specs.Demands.{CallRight, CabinetRight}
+use Rattle.codec.proofs.Document.{demands}
+use Rattle.verdicts.specs.Shape.{limits16}
+use Rattle.verdicts.proofs.Limits.{width16, inHand48, greatest60000, greatestNumber32}
 use Rattle.cabinet.specs.declared.Cabinet.{Cabinet}
 use Rattle.cabinet.specs.View.{view}
-use Rattle.cabinet.specs.Apply.{Carried, OpenCarried, applyAll}
-use Rattle.cabinet.specs.Fixing.{FixCarried}
+use Rattle.cabinet.specs.Apply.{Carried, applyAll}
 use Rattle.cabinet.specs.Fresh.{Freshly, zeroCabinet, freshHead, voidHead}
-use Rattle.demands.specs.Lists.{Asked, opening, vote, take, withdraw, store, trim, safe, lose, fix, roll, sheet, restart, callOf, Typed, lent, Sized, FixAnswered, SheetAnswered, goingOn, RestartAnswered, Answered, List16, start, next}
-use Rattle.demands.specs.Claims.{RestartsRolling, Throughout, Demands23, RestartsLeft, Anywhere}
+use Rattle.demands.specs.Lists.{Asked, opening, vote, take, withdraw, store, trim, safe, lose, fix, roll, sheet, restart, callOf, Typed, Sized, goingOn, Answered, List16, start, next}
+use Rattle.demands.specs.Claims.{RestartGives, CabinetRight16, Throughout, Demands23}
 use Rattle.verdicts.proofs.Held.{free-fits}
 use Rattle.sheet.proofs.Lay as lay
-use Rattle.restart.specs.Restart.{restartedCabinet, cabinetFor}
+use Rattle.restart.specs.Restart.{restartedCabinet, cabinetFor, Restarted}
 use Rattle.restart.proofs.Shows as restarts
 use Rattle.demands.proofs.Narrow.{Narrow}
 use Rattle.demands.proofs.Lengths.{by-card, by-place, set-small}
@@ -193,18 +188,15 @@ step s z w restart y reply t after d =
     }
 
 -- ---- whole lists
--- the model's run of a list, and that its restarts stand where those of the list do
-abbrev Run16 : {n : ℕ} {cs : Calls} {s : Cabinet} → List16 n cs s → Calls → Model → Type 0
-Run16 {n} l cs m = (r : Run codec limits16 (λ c. ltb c n) cs m) × (RestartsRolling l → model.RestartsRolling r) × (RestartsLeft l → anywhere.RestartsLeft r)
-
-pub record Joined {n : ℕ} {cs : Calls} {s : Cabinet} (l : List16 n cs s) : Type 0 where
+-- the model's run of a list, and what the types say of the cabinet that it leads to
+pub record Joined (n : ℕ) (cs : Calls) (s : Cabinet) : Type 0 where
   pub few : n ≤ limits16 .width
   pub some : 1 ≤ n
-  pub made : Run16 l cs (view s)
+  pub made : Run codec limits16 (λ c. ltb c n) cs (view s)
   pub sized : Sized s
   pub narrow : Narrow (view s)
 
-fresh-joined : (n : ℕ) (s : Cabinet) (f : Freshly n (accepted done) s) → Joined (start s f)
+fresh-joined : (n : ℕ) (s : Cabinet) → Freshly n (accepted done) s → Joined n none s
 fresh-joined n s f =
     test (freshRefused limits16 n) (λ e. not-both done CardCount (f .answer ∙ ap (λ (b : Bool). cond b (refused CardCount) (accepted done)) e))
     (λ e.
@@ -214,61 +206,71 @@ fresh-joined n s f =
     record {
       few = leb-true n (limits16 .width) (and-right (leb 1 n) (leb n (limits16 .width)) y);
       some = leb-true 1 n (and-left (leb 1 n) (leb n (limits16 .width)) y);
-      made = subst (Run16 (start s f) none) (sym (h .same)) (run.start, λ w. tt, λ w. tt);
+      made = subst (Run codec limits16 (λ c. ltb c n) none) (sym (h .same)) run.start;
       sized = h .sized;
       narrow = subst Narrow (sym (h .same)) (h .narrow);
     })
 
--- the model's run with one call more, before its cabinet is said to be what the struct shows
-abbrev longer : {n : ℕ} {cs : Calls} {s : Cabinet} (l : List16 n cs s) → Joined l → (asked : Asked) (y : Typed asked) (reply : Reply) (t : Cabinet) (after : List ℕ) (d : Answered s asked reply t after)
-    → (x : Choice) → Proper limits16 (view s) (callOf asked) x
-    → Run16 (next l asked y reply t after d) (further cs (callOf asked) (planOf codec limits16 (view s) (callOf asked) x .reply)) (afterCall codec limits16 (view s) (callOf asked) x)
-longer l j asked y reply t after d x p = (run.next (j .made .0) (callOf asked) x p, λ w. (j .made .1 (w .0), w .1), λ w. (j .made .2 (w .0), w .1))
-
-further-joined : {n : ℕ} {cs : Calls} {s : Cabinet} (l : List16 n cs s) → Joined l → (asked : Asked) (y : Typed asked) (reply : Reply) (t : Cabinet) (after : List ℕ) (d : Answered s asked reply t after)
-    → Step s (callOf asked) reply t → Joined (next l asked y reply t after d)
-further-joined {n} {cs} {s} l j asked y reply t after d e =
+further-joined : (n : ℕ) (cs : Calls) (s : Cabinet) → Joined n cs s → (call : Call) (reply : Reply) (t : Cabinet) → Step s call reply t → Joined n (further cs call reply) t
+further-joined n cs s j call reply t e =
     record {
       few = j .few;
       some = j .some;
-      made = subst₂ (λ (z : Reply) (m : Model). Run16 (next l asked y reply t after d) (further cs (callOf asked) z) m) (sym (e .replied)) (sym (e .after .same)) (longer l j asked y reply t after d (e .choice) (e .proper));
+      made = subst₂ (λ (z : Reply) (m : Model). Run codec limits16 (λ c. ltb c n) (further cs call z) m) (sym (e .replied)) (sym (e .after .same)) (run.next (j .made) call (e .choice) (e .proper));
       sized = e .after .sized;
       narrow = subst Narrow (sym (e .after .same)) (e .after .narrow);
     }
 
-pub joined : {n : ℕ} {cs : Calls} {s : Cabinet} (l : List16 n cs s) → Joined l
+pub joined : {n : ℕ} {cs : Calls} {s : Cabinet} → List16 n cs s → Joined n cs s
 joined {n} (start s f) = fresh-joined n s f
 joined {n} (next {cs} {s} l asked y reply t after d) =
-    let j : Joined l = joined l in
-    further-joined l j asked y reply t after d (step s (j .sized) (j .narrow) asked y reply t after d)
+    let j : Joined n cs s = joined l in
+    further-joined n cs s j (callOf asked) reply t (step s (j .sized) (j .narrow) asked y reply t after d)
 
 -- what holds of the cabinet that a list leads to
 last-right : (n : ℕ) {cs : Calls} {m : Model} (r : Run codec limits16 (λ c. ltb c n) cs m) → model.Throughout r → CabinetRight codec limits16 (λ c. ltb c n) cs m
 last-right n run.start t = t
 last-right n (run.next r call x p) t = t .2
 
+-- what the restart of the code hands back, from sheets that restart to a line
+restart-gives : (n : ℕ) → n ≤ limits16 .width → (s : Cabinet) (line : Numbers) → model.RestartsTo codec limits16 (λ c. ltb c n) (view s) line
+    → (reply : Reply) (handed : Cabinet) → Restarted (joinedSheets formats limits16 (view s)) reply handed → RestartGives n line reply handed
+restart-gives n few s line g reply handed told =
+    record {
+      accepted-so = told .answer ∙ ap verdictReply (g .accepted-so);
+      same-line = λ c l. ap (λ (m : Model). m .line c) shows ∙ g .same-line c (omega (arith, l, few)) (lt-ltb c n l);
+    }
+  where
+    bytes : List ℕ
+    bytes = joinedSheets formats limits16 (view s)
+
+    shows : view handed ≡ restartedFrom limits16 (joinedSheets formats limits16 (view s))
+    shows =
+        ap view (told .cabinet ∙ ap (λ (v : Verdict). cabinetFor v (readoutOf (joinedSheets formats limits16 (view s)) .readout)) (g .accepted-so))
+        ∙ restarts.restarted-shows (joinedSheets formats limits16 (view s)) (g .accepted-so)
+
+cabinet-right : (n : ℕ) {cs : Calls} {s : Cabinet} → Joined n cs s → CabinetRight16 n cs s
+cabinet-right n {cs} {s} j =
+    record { right = r; sheets-give-line = λ line marked e. restart-gives n (j .few) s line (r .sheets-give-line line marked e) }
+  where
+    r : CabinetRight codec limits16 (λ c. ltb c n) cs (view s)
+    r = last-right n (j .made) (demands limits16 limits-fit n (j .some) (j .few) cs (view s) (j .made))
+
+-- what holds of an accepted call
+call-right : (n : ℕ) (cs : Calls) (s : Cabinet) → Joined n cs s → (call : Call) (reply : Reply) (t : Cabinet) → Step s call reply t
+    → (a : Answer) → reply ≡ accepted a → CallRight limits16 (λ c. ltb c n) cs call a (view s) (view t)
+call-right n cs s j call reply t e a q =
+    let more : Run codec limits16 (λ c. ltb c n) (further cs call (planOf codec limits16 (view s) call (e .choice) .reply)) (afterCall codec limits16 (view s) call (e .choice)) = run.next (j .made) call (e .choice) (e .proper) in
+    let right : model.Throughout more = demands limits16 limits-fit n (j .some) (j .few) _ _ more in
+    subst (λ (m : Model). CallRight limits16 (λ c. ltb c n) cs call a (view s) m) (sym (e .after .same)) (right .1 a (sym (e .replied) ∙ q))
+
 -- demands 2 and 3
 pub demands-2-3 : Demands23
-demands-2-3 n cs s l w = whole l w
+demands-2-3 n cs s l = whole l
   where
-    whole : {n : ℕ} {cs : Calls} {s : Cabinet} (l : List16 n cs s) → RestartsRolling l → Throughout l
-    whole {n} (start s f) w =
-        let j : Joined (start s f) = fresh-joined n s f in
-        last-right n (j .made .0) (demands limits16 limits-fit n (j .some) (j .few) none (view s) (j .made .0) (j .made .1 tt))
-    whole {n} (next {cs} {s} l asked y reply t after d) w =
-        let j : Joined l = joined l in
+    whole : {n : ℕ} {cs : Calls} {s : Cabinet} (l : List16 n cs s) → Throughout l
+    whole {n} (start s f) = cabinet-right n (fresh-joined n s f)
+    whole {n} (next {cs} {s} l asked y reply t after d) =
+        let j : Joined n cs s = joined l in
         let e : Step s (callOf asked) reply t = step s (j .sized) (j .narrow) asked y reply t after d in
-        let more : Run16 (next l asked y reply t after d) (further cs (callOf asked) (planOf codec limits16 (view s) (callOf asked) (e .choice) .reply)) (afterCall codec limits16 (view s) (callOf asked) (e .choice)) =
-        longer l j asked y reply t after d (e .choice) (e .proper) in
-        let right : model.Throughout (more .0) = demands limits16 limits-fit n (j .some) (j .few) _ _ (more .0) (more .1 w) in (
-          whole l (w .0),
-          λ a q. subst (λ (m : Model). CallRight limits16 (λ c. ltb c n) cs (callOf asked) a (view s) m) (sym (e .after .same)) (right .1 a (sym (e .replied) ∙ q)),
-          subst₂ (λ (z : Reply) (m : Model). CabinetRight codec limits16 (λ c. ltb c n) (further cs (callOf asked) z) m) (sym (e .replied)) (sym (e .after .same)) (right .2),
-        )
-
--- restarts in any phase
-pub anywhere-16 : Anywhere
-anywhere-16 n cs s l w =
-    let j : Joined l = joined l in
-    let d : anywhere.Sooner codec limits16 (λ c. ltb c n) cs (view s) = sooner limits16 limits-fit n (j .some) (j .few) cs (view s) (j .made .0) (j .made .2 w) in
-    record { calls = d .calls; but-for = d .but-for; right = d .right }
+        (whole l, call-right n cs s j (callOf asked) reply t e, cabinet-right n (further-joined n cs s j (callOf asked) reply t e))

@@ -1,6 +1,6 @@
 -- What accepted calls of a list answer and do: takes, fixes, rolls, losses and safe questions; and with it demands 2 and 3. Assumes nothing.
 use Prim.Native.Nat.{ℕ, zero, suc, _+_, _-_, _≤_, _<_}
-use mathlib.Core.Path.{_≡_, refl, sym, _∙_, ap, ap₂, subst, subst₂}
+use mathlib.Core.Path.{_≡_, refl, sym, _∙_, ap, ap₂, subst}
 use mathlib.Core.Bool.{Bool, true, false, not, _&&_, _||_, cond}
 use mathlib.Core.Logic.{_⊎_, by-cases, ⊎-elim}
 use mathlib.Core.List.{_++_, List, [], _∷_}
@@ -19,26 +19,29 @@ use Rattle.history.proofs.Precedence.{writes-touches}
 use Rattle.history.proofs.Entries.{state-vector-is}
 use Rattle.history.proofs.Lines.{line-cut, cut-below}
 use Rattle.history.proofs.Theorems.{line-whole}
+use Rattle.history.proofs.Reports.{cut-same}
+use Rattle.refusal.specs.declared.Refusal.the-variants.{LimitReached}
 use Rattle.protocol.specs.Codec.{Codec}
-use Rattle.protocol.specs.Model.{Limits, Phase, up, down, rolling, isUp, isDown, isRolling, OpenChange, Model, isCard, isOpen, decided, toWrite, awaitsWrite, placeOf, isKnown, withCard}
+use Rattle.protocol.specs.Model.{Limits, Phase, noCards, up, down, rolling, isUp, isDown, isRolling, OpenChange, Model, isCard, isOpen, decided, toWrite, awaitsWrite, placeOf, isKnown, withCard}
 use Rattle.protocol.specs.Edit.{Edit, place, grow, raise, fall, halt, lower, renew, editedAll}
 use Rattle.protocol.specs.Plan.{CardRow, Answer, safe, unsafe, fixed, accepted, Check, Plan, checked, afterPlan}
 use Rattle.protocol.specs.Calls.{lineOf, cardRows, someFrameAbove, hasFrame, writesLeft, isSafe, isLost, tookShare, takeChecks, safeChecks, loseChecks, fixChecks, rollChecks, allRolled}
-use Rattle.protocol.specs.Journal.{Journal, Fixing, fixing}
-use Rattle.protocol.specs.Run.{Call, openCall, voteCall, takeCall, withdrawCall, storeCall, trimCall, safeCall, loseCall, fixCall, rollCall, sheetCall, restartCall, Choice, Proper, planOf, afterCall, Calls, Run, start, next, journal, lineNoted, lastKept}
-use Rattle.protocol.specs.Demands.{H, decisions, FixRight, RollRight, TakeRight, SafeRight, CallRight, RestartsTo, CabinetRight, Throughout, RestartsRolling, Demands}
+use Rattle.protocol.specs.Journal.{Journal, Fixing, fixing, greatestLine, noteRestartOf}
+use Rattle.protocol.specs.Run.{Call, openCall, voteCall, takeCall, withdrawCall, storeCall, trimCall, safeCall, loseCall, fixCall, rollCall, sheetCall, restartCall, Choice, Proper, planOf, afterCall, Calls, Run, start, next, journal, verdictReply, lastKept}
+use Rattle.protocol.specs.Demands.{H, decisions, GreatestChoice, FixRight, RollRight, RestartRight, TakeRight, SafeRight, CallRight, RestartsTo, CabinetRight, Throughout, Demands}
 use Rattle.protocol.proofs.Taking.{put-same, reached-next}
 use Rattle.protocol.proofs.Intact.{lineAt, line-same}
 use Rattle.protocol.proofs.Places.{Stood}
 use Rattle.protocol.proofs.Running.{About, StandsFor, Running}
-use Rattle.protocol.proofs.Stores.{line-right, start-stored}
+use Rattle.protocol.proofs.Rolling.{AboutLine}
+use Rattle.protocol.proofs.Stores.{line-right}
 use Rattle.protocol.proofs.Lost.{Above, Numbered-as, frames-above, above-frames, lost-right, right-lost}
 use Rattle.protocol.proofs.Steps.{Passed, checked-case, not-not, card-below, known-place, up-only}
 use Rattle.protocol.proofs.Invariant.{RollingBack, Invariant, invariant-sound}
 use Rattle.protocol.proofs.Claims.{not-both}
 use Rattle.protocol.proofs.Lists.{run-invariant, vectors-right, base-stored}
 use Rattle.protocol.proofs.Running.{Carded}
-use Rattle.protocol.proofs.Restart.{line-again, Remade, CodecLaw}
+use Rattle.protocol.proofs.Restart.{Recalled, Recallable, recallable, line-again, Remade, CodecLaw}
 use Rattle.protocol.proofs.Kept.{stored-last}
 
 -- what an accepted plan answers
@@ -57,6 +60,33 @@ lost-same w G s l l' e i =
 selected-same : {A : Type 0} (n : ℕ) (p : ℕ → Bool) (f g : ℕ → A) → ((k : ℕ) → k < n → p k ≡ true → f k ≡ g k) → selected n p f ≡ selected n p g
 selected-same zero p f g e = refl
 selected-same {A = A} (suc n) p f g e = ap₂ (λ (a b : List A). a ++ b) (selected-same n p f g (λ k h t. e k (omega arith) t)) (test (p n) (λ t. ap (λ (x : A). cond (p n) (x ∷ []) []) (e n (omega arith) t)) (λ t. rw t))
+
+-- the line of a journal is a choice, and none is above it
+greatest-choice : (L : Limits) (m : Model) (j : Journal) → Recallable L m j → GreatestChoice L j (greatestLine L j)
+greatest-choice L m j q =
+    record {
+      is-cut = line-cut (L .width) (H j) (j .start) (decisions j) sv sr (j .stored) (λ c l. le-trans (a .intact .from-start c l) (le-trans (a .intact .base-line c l) (le-trans (a .intact .line-stored c l) (a .intact .stored-least c l))));
+      greatest = λ g k c l. cut-below (L .width) (H j) (j .start) (decisions j) sv sr (j .stored) g k c l;
+      whole = λ i c c' h l l' e e' z. line-whole (L .width) (H j) (j .start) (decisions j) sv sr (j .stored) i c c' h l l' e e' z;
+    }
+  where
+    sv : ℕ → ℕ → Vector
+    sv = stateVector (L .width) (H j) (j .start) (decisions j)
+
+    sr : IsVector (L .width) (H j) (j .start) (decisions j) sv
+    sr = state-vector-is (L .width) (H j) (j .start) (decisions j)
+
+    a : AboutLine L m (j .start) (decisions j) (j .stored) (greatestLine L j) (H j)
+    a = q .about (H j) (λ i h. refl)
+
+-- so is one that is the same on every card
+choice-same : (L : Limits) (j : Journal) (l l' : Numbers) → ((c : ℕ) → c < L .width → l' c ≡ l c) → GreatestChoice L j l → GreatestChoice L j l'
+choice-same L j l l' e g =
+    record {
+      is-cut = record { consistent = cut-same (L .width) (H j) (j .start) (decisions j) l l' e (g .is-cut .consistent); within = λ c h. rw (e c h) (g .is-cut .within c h) };
+      greatest = λ x k c h. rw (e c h) (g .greatest x k c h);
+      whole = λ i c c' h lc lc' wc wc' z. rw (e c' lc') (g .whole i c c' h lc lc' wc wc' (rw (e c lc) at z));
+    }
 
 module _ (L : Limits) (n : CardSet) (m : Model) (j : Journal) (v : Invariant L n m j) where
   runs : isRolling (m .phase) ≡ false → Running L m j
@@ -94,22 +124,15 @@ module _ (L : Limits) (n : CardSet) (m : Model) (j : Journal) (v : Invariant L n
         ap (isLost L m) (sym q) ∙ right-lost L m j r (H j) a is-down (f .0) (f .1)
         (lost-same (L .width) (H j) (j .start) (lineOf L m) line line-is (f .0) ∙ and-left (lost (L .width) (H j) (j .start) line (f .0)) (eqb (H j (f .0) .number) k) (f .2)))
 
-    fix-right : (lost-numbers : List ℕ) → ((k : ℕ) → occurs k lost-numbers ≡ one-if (isLost L m k)) → FixRight L n j (cardRows L m) lost-numbers
+    fix-right : (lost-numbers : List ℕ) → ((k : ℕ) → occurs k lost-numbers ≡ one-if (isLost L m k)) → FixRight L n j (fixed (cardRows L m) lost-numbers)
     fix-right lost-numbers proper =
         record {
           line = line;
-          answered = rows-are;
-          is-cut = line-cut (L .width) (H j) (j .start) (decisions j) sv sr (j .stored) (λ c l. rw (r .stored-is c l) (start-stored L m j r (H j) a c l));
-          greatest = λ g k c l. cut-below (L .width) (H j) (j .start) (decisions j) sv sr (j .stored) g k c l;
-          whole = λ i c c' h l l' e e' z. line-whole (L .width) (H j) (j .start) (decisions j) sv sr (j .stored) i c c' h l l' e e' z;
+          numbers = lost-numbers;
+          answered = ap (λ (rows : List CardRow). fixed rows lost-numbers) rows-are;
+          choice = greatest-choice L m j (recallable L n m j v);
           lost-listed = λ k. proper k ∙ ap one-if (lost-is k);
         }
-      where
-        sv : ℕ → ℕ → Vector
-        sv = stateVector (L .width) (H j) (j .start) (decisions j)
-
-        sr : IsVector (L .width) (H j) (j .start) (decisions j) sv
-        sr = state-vector-is (L .width) (H j) (j .start) (decisions j)
 
   -- ---- roll
   roll-right : (c : ℕ) → c < L .width → isRolling (m .phase) ≡ true → RollRight j c (editedAll L (lower c ∷ cond (allRolled L m (withCard (m .rolled) c)) (renew ∷ []) []) m)
@@ -119,26 +142,59 @@ module _ (L : Limits) (n : CardSet) (m : Model) (j : Journal) (v : Invariant L n
       r : RollingBack L m j
       r = rolls e
 
-      noted-line : m .line c ≡ lineNoted (j .fix) c
-      noted-line = sym (ap (λ (f : Fixing). lineNoted f c) (r .notes .is-noted) ∙ r .notes .line-is c l)
+      at-line : m .line c ≡ r .notes .line c
+      at-line = sym (r .notes .line-is c l)
 
       four : RollRight j c (editedAll L (lower c ∷ renew ∷ []) m)
       four =
           record {
-            base = put-same (m .numbers .base) c (m .line c) ∙ noted-line;
-            stored = put-same (m .numbers .stored) c (m .line c) ∙ noted-line;
-            held = put-same (m .numbers .held) c (m .line c) ∙ noted-line;
-            reached = put-same (m .numbers .reached) c (m .line c) ∙ noted-line;
+            line = r .notes .line;
+            marked = r .notes .marked;
+            noted = r .notes .is-noted;
+            base = put-same (m .numbers .base) c (m .line c) ∙ at-line;
+            stored = put-same (m .numbers .stored) c (m .line c) ∙ at-line;
+            held = put-same (m .numbers .held) c (m .line c) ∙ at-line;
+            reached = put-same (m .numbers .reached) c (m .line c) ∙ at-line;
           }
 
       four′ : RollRight j c (editedAll L (lower c ∷ []) m)
       four′ =
+          record { line = four .line; marked = four .marked; noted = four .noted; base = four .base; stored = four .stored; held = four .held; reached = four .reached }
+
+  -- ---- restart
+  restart-right : (m' : Model) → Recalled L m m' → RestartRight L n j m'
+  restart-right m' k = ⊎-elim ran back (v .state)
+    where
+      q : Recallable L m j
+      q = recallable L n m j v
+
+      again : (c : ℕ) → c < L .width → m' .line c ≡ greatestLine L j c
+      again = line-again L n m m' j (v .present-is) (v .absent-start) q k
+
+      ran : Running L m j → RestartRight L n j m'
+      ran r =
           record {
-            base = put-same (m .numbers .base) c (m .line c) ∙ noted-line;
-            stored = put-same (m .numbers .stored) c (m .line c) ∙ noted-line;
-            held = put-same (m .numbers .held) c (m .line c) ∙ noted-line;
-            reached = put-same (m .numbers .reached) c (m .line c) ∙ noted-line;
+            rolls = k .rolls;
+            line = greatestLine L j;
+            marked = noCards;
+            noted = ap (λ (f : Fixing). noteRestartOf L j f .fix) (r .not-fixed);
+            choice = greatest-choice L m j q;
+            fixed-so = λ c l h. again c l;
           }
+
+      back : RollingBack L m j → RestartRight L n j m'
+      back r =
+          record {
+            rolls = k .rolls;
+            line = r .notes .line;
+            marked = r .notes .marked;
+            noted = ap (λ (f : Fixing). noteRestartOf L j f .fix) (r .notes .is-noted) ∙ r .notes .is-noted;
+            choice = choice-same L j (greatestLine L j) (r .notes .line) noted-line (greatest-choice L m j q);
+            fixed-so = λ c l h. again c l ∙ sym (noted-line c l);
+          }
+        where
+          noted-line : (c : ℕ) → c < L .width → r .notes .line c ≡ greatestLine L j c
+          noted-line c l = r .notes .line-is c l ∙ r .rolls .about (H j) (λ i h. refl) .line-right c l
 
   -- ---- take
   module _ (r : Running L m j) (k c : ℕ) (is-place : placeOf L m k < L .places) (is-card : c < L .width) (is-open : isOpen (m .place (placeOf L m k)) ≡ true)
@@ -265,11 +321,11 @@ module _ (L : Limits) (n : CardSet) (m : Model) (j : Journal) (v : Invariant L n
         is-safe e = test (isSafe L m k) (λ y. y) (λ y. let d : unsafe ≡ safe = sym (ap (λ (x : Bool). cond x safe unsafe) y) ∙ e in let u : _≡_ {A = ℕ} 0 1 = cc in absurd (omega arith))
 
 -- ---- each accepted call of a list
-call-right : (C : Codec) (L : Limits) (n : CardSet) → Carded L n → CodecLaw C L n → {cs : Calls} {m : Model} (r : Run C L n cs m) → RestartsRolling r → (call : Call) (x : Choice) → Proper L m call x
+call-right : (C : Codec) (L : Limits) (n : CardSet) → Carded L n → CodecLaw C L n → {cs : Calls} {m : Model} (r : Run C L n cs m) (call : Call) (x : Choice) → Proper L m call x
     → (a : Answer) → planOf C L m call x .reply ≡ accepted a → CallRight L n cs call a m (afterCall C L m call x)
-call-right C L n carded law r w (openCall reads writes) x p a e = tt
-call-right C L n carded law r w (voteCall k c agrees) x p a e = tt
-call-right C L n carded law {cs} {m} r w (takeCall k c) x p a e =
+call-right C L n carded law r (openCall reads writes) x p a e = tt
+call-right C L n carded law r (voteCall k c agrees) x p a e = tt
+call-right C L n carded law {cs} {m} r (takeCall k c) x p a e =
     answered (λ (b : Answer) (q : Plan). TakeRight (journal L n cs) k c m (afterPlan L q m)) (takeChecks L m k c) _ _
     (λ ps.
     let kp : (placeOf L m k < L .places) × (isOpen (m .place (placeOf L m k)) ≡ true) × (m .place (placeOf L m k) .change .number ≡ k) = known-place L m k (not-not (isKnown L m k) (ps .1 .1 .1 .0)) in
@@ -278,77 +334,82 @@ call-right C L n carded law {cs} {m} r w (takeCall k c) x p a e =
     (not-not (decided L (m .place (placeOf L m k))) (ps .1 .1 .1 .1 .0)) (not-true (m .place (placeOf L m k) .taken c) (and-right (touches (m .place (placeOf L m k) .change) c) (not (m .place (placeOf L m k) .taken c)) aw))) a e
   where
     v : Invariant L n m (journal L n cs)
-    v = run-invariant carded law r w
-call-right C L n carded law r w (withdrawCall k) x p a e = tt
-call-right C L n carded law r w (storeCall c s) x p a e = tt
-call-right C L n carded law r w trimCall x p a e = tt
-call-right C L n carded law {cs} {m} r w (safeCall k) x p a e =
+    v = run-invariant carded law r
+call-right C L n carded law r (withdrawCall k) x p a e = tt
+call-right C L n carded law r (storeCall c s) x p a e = tt
+call-right C L n carded law r trimCall x p a e = tt
+call-right C L n carded law {cs} {m} r (safeCall k) x p a e =
     answered (λ (b : Answer) (q : Plan). SafeRight L (journal L n cs) k b) (safeChecks L m k) _ _
     (λ ps. safe-right L n m (journal L n cs) v (runs L n m (journal L n cs) v (up-runs (not-not (isUp (m .phase)) (ps .1 .0)))) (not-not (isUp (m .phase)) (ps .1 .0)) k (not-not (hasFrame L m k) (ps .1 .1 .0))) a e
   where
     v : Invariant L n m (journal L n cs)
-    v = run-invariant carded law r w
+    v = run-invariant carded law r
 
     up-runs : isUp (m .phase) ≡ true → isRolling (m .phase) ≡ false
     up-runs = up-only (m .phase)
-call-right C L n carded law {cs} {m} r w (loseCall cards) x p a e =
+call-right C L n carded law {cs} {m} r (loseCall cards) x p a e =
     answered (λ (b : Answer) (q : Plan). (c : ℕ) → c < L .width → n c ≡ true → cards c ≡ true → afterPlan L q m .numbers .held c ≡ lastKept L n cs c) (loseChecks L m cards) _ _
-    (λ ps c lw h here. held-falls c here ∙ stored-last carded law r w c lw h) a e
+    (λ ps c lw h here. held-falls c here ∙ stored-last carded law r c lw h) a e
   where
     held-falls : (c : ℕ) → cards c ≡ true → editedAll L (fall cards ∷ cond (isUp (m .phase)) (halt ∷ []) []) m .numbers .held c ≡ m .numbers .stored c
     held-falls c here =
         cond-case (λ (es : List Edit). editedAll L (fall cards ∷ es) m .numbers .held c ≡ m .numbers .stored c) (isUp (m .phase)) (λ y. rw here) (λ y. rw here)
-call-right C L n carded law {cs} {m} r w (fixCall u z) x p a e =
-    answered (λ (b : Answer) (q : Plan). (rows : List CardRow) (numbers : List ℕ) → b ≡ fixed rows numbers → FixRight L n (journal L n cs) rows numbers) (fixChecks L m u z (x .lost)) _ _
-    (λ ps rows numbers y.
-    let rows-same : cardRows L m ≡ rows = cc in
-    let numbers-same : x .lost ≡ numbers = cc in
-    subst₂ (FixRight L n (journal L n cs)) rows-same numbers-same
-    (fix-right L n m (journal L n cs) v (runs L n m (journal L n cs) v (down-runs (m .phase) (not-not (isDown (m .phase)) (ps .1 .0)))) (not-not (isDown (m .phase)) (ps .1 .0)) (x .lost) p)) a e
+call-right C L n carded law {cs} {m} r (fixCall u z) x p a e =
+    answered (λ (b : Answer) (q : Plan). FixRight L n (journal L n cs) b) (fixChecks L m u z (x .lost)) _ _
+    (λ ps. fix-right L n m (journal L n cs) v (runs L n m (journal L n cs) v (down-runs (m .phase) (not-not (isDown (m .phase)) (ps .1 .0)))) (not-not (isDown (m .phase)) (ps .1 .0)) (x .lost) p) a e
   where
     v : Invariant L n m (journal L n cs)
-    v = run-invariant carded law r w
+    v = run-invariant carded law r
 
     down-runs : (q : Phase) → isDown q ≡ true → isRolling q ≡ false
     down-runs up z = refl
     down-runs down z = refl
     down-runs rolling z = clash z refl
-call-right C L n carded law {cs} {m} r w (rollCall c) x p a e =
+call-right C L n carded law {cs} {m} r (rollCall c) x p a e =
     answered (λ (b : Answer) (q : Plan). RollRight (journal L n cs) c (afterPlan L q m)) (rollChecks L m c) _ _
-    (λ ps. roll-right L n m (journal L n cs) (run-invariant carded law r w) c (card-below L m c (not-not (isCard L m c) (ps .1 .0))) (not-not (isRolling (m .phase)) (ps .1 .1 .0))) a e
-call-right C L n carded law r w (sheetCall c places) x p a e = tt
-call-right C L n carded law r w restartCall x p a e = tt
+    (λ ps. roll-right L n m (journal L n cs) (run-invariant carded law r) c (card-below L m c (not-not (isCard L m c) (ps .1 .0))) (not-not (isRolling (m .phase)) (ps .1 .1 .0))) a e
+call-right C L n carded law r (sheetCall c places) x p a e = tt
+call-right C L n carded law {cs} {m} r restartCall x p a e =
+    by-cases (decLt (m .session) (L .greatestNumber))
+    (λ z. let q : Remade C L m = law .remade m (journal L n cs) (v .present-is) (recallable L n m (journal L n cs) v) z in
+    rw (q .accepts) (restart-right L n m (journal L n cs) v (C .restarted L (C .joined L m)) (q .recalled)))
+    (λ z. not-both a LimitReached (sym e ∙ ap verdictReply (law .last-session m (journal L n cs) (v .present-is) (recallable L n m (journal L n cs) v) (omega (arith, z)))))
+  where
+    v : Invariant L n m (journal L n cs)
+    v = run-invariant carded law r
 
-cabinet-right : (C : Codec) (L : Limits) (n : CardSet) → Carded L n → CodecLaw C L n → {cs : Calls} {m : Model} (r : Run C L n cs m) → RestartsRolling r → CabinetRight C L n cs m
-cabinet-right C L n carded law {cs} {m} r w =
+cabinet-right : (C : Codec) (L : Limits) (n : CardSet) → Carded L n → CodecLaw C L n → {cs : Calls} {m : Model} → Run C L n cs m → CabinetRight C L n cs m
+cabinet-right C L n carded law {cs} {m} r =
     record {
       never-28 = invariant-sound L n m (journal L n cs) v;
       vectors = vectors-right L n m (journal L n cs) v;
-      stored-kept = stored-last carded law r w;
-      sheet-kept = λ c lw h. law .last-stored m c (base-stored L n m (journal L n cs) v c lw) ∙ stored-last carded law r w c lw h;
+      stored-kept = stored-last carded law r;
+      sheet-kept = λ c lw h. law .last-stored m c (base-stored L n m (journal L n cs) v c lw) ∙ stored-last carded law r c lw h;
       sheets-give-line = λ line marked e. ⊎-elim
           (λ (q : Running L m (journal L n cs)). let z : _≡_ {A = ℕ} 0 1 = cc (e, q .not-fixed) in absurd (omega arith))
           (λ (q : RollingBack L m (journal L n cs)). give-line line marked e q) (v .state);
-      restart-accepted = λ e. law .remade m (journal L n cs) v (rolls L n m (journal L n cs) v e) .accepts;
+      restart-accepted = λ z. law .remade m (journal L n cs) (v .present-is) (recallable L n m (journal L n cs) v) z .accepts;
+      restart-last = λ z. law .last-session m (journal L n cs) (v .present-is) (recallable L n m (journal L n cs) v) z;
     }
   where
     v : Invariant L n m (journal L n cs)
-    v = run-invariant carded law r w
+    v = run-invariant carded law r
 
     give-line : (line : Numbers) (marked : CardSet) → journal L n cs .fix ≡ fixing line marked → RollingBack L m (journal L n cs) → RestartsTo C L n m line
     give-line line marked e q =
         let same : q .notes .line ≡ line = cc (e, q .notes .is-noted) in
-        let e : Remade C L m = law .remade m (journal L n cs) v q in
+        let e : Remade C L m = law .remade m (journal L n cs) (v .present-is) (recallable L n m (journal L n cs) v) (q .rolls .session-left) in
         record {
           accepted-so = e .accepts;
-          same-line = λ c lw h. line-again L n m (C .restarted L (C .joined L m)) (journal L n cs) (v .present-is) (v .absent-start) (q .rolls) (e .recalled) c lw ∙ sym (q .notes .line-is c lw) ∙ ap (λ (f : Numbers). f c) same;
+          same-line = λ c lw h. line-again L n m (C .restarted L (C .joined L m)) (journal L n cs) (v .present-is) (v .absent-start) (recallable L n m (journal L n cs) v) (e .recalled) c lw
+              ∙ sym (q .notes .line-is c lw ∙ q .rolls .about (H (journal L n cs)) (λ i h. refl) .line-right c lw) ∙ ap (λ (f : Numbers). f c) same;
         }
 
--- throughout a list, whatever cards there are and however their sheets are written, so long as a restart while rolling gives the line again
-pub throughout : (C : Codec) (L : Limits) (n : CardSet) → Carded L n → CodecLaw C L n → {cs : Calls} {m : Model} (r : Run C L n cs m) → RestartsRolling r → Throughout r
-throughout C L n carded law start w = cabinet-right C L n carded law start w
-throughout C L n carded law (next r call x p) w = (throughout C L n carded law r (w .0), call-right C L n carded law r (w .0) call x p, cabinet-right C L n carded law (next r call x p) w)
+-- throughout a list, whatever cards there are and however their sheets are written, so long as these say enough
+throughout : (C : Codec) (L : Limits) (n : CardSet) → Carded L n → CodecLaw C L n → {cs : Calls} {m : Model} (r : Run C L n cs m) → Throughout r
+throughout C L n carded law start = cabinet-right C L n carded law start
+throughout C L n carded law (next r call x p) = (throughout C L n carded law r, call-right C L n carded law r call x p, cabinet-right C L n carded law (next r call x p))
 
 -- demands 2 and 3
 pub demands : (C : Codec) (L : Limits) (n : CardSet) → Carded L n → CodecLaw C L n → Demands C L n
-demands C L n carded law cs m r w = throughout C L n carded law r w
+demands C L n carded law cs m r = throughout C L n carded law r

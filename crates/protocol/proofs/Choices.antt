@@ -9,12 +9,12 @@ use native.Mathlib.Omega.{arith}
 use lib.Dec.{eqb}
 use borrow.Author.Tests.{eq-eqb, eqb-true}
 use Rattle.laws.specs.Below.{one-if, anyBelow, countBelow, greatest}
-use Rattle.laws.proofs.Logic.{test, fails, and-right, or-elim}
+use Rattle.laws.proofs.Logic.{fails, and-right, or-elim}
 use Rattle.laws.proofs.Below.{Found, any-elim, first-below, first-passes, greatest-above, count-rest, count-once, occurs-selected}
 use Rattle.protocol.specs.Model.{Limits, Model}
 use Rattle.protocol.specs.Calls.{barred, frameAbove, someFrameAbove, lineOf, isLost}
 use Rattle.protocol.specs.Run.{openCall, voteCall, takeCall, withdrawCall, storeCall, trimCall, safeCall, loseCall, fixCall, rollCall, sheetCall, restartCall}
-use Rattle.protocol.specs.Anywhere.{greatestLost, Choosable}
+use Rattle.protocol.specs.Choices.{greatestLost, Choosable}
 
 -- ---- each number below a bound that passes a test, once
 count-none : (n : ℕ) (q : ℕ → Bool) → ((i : ℕ) → i < n → q i ≡ false) → countBelow n q ≡ 0

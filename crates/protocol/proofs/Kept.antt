@@ -17,9 +17,8 @@ use Rattle.protocol.specs.Model.{Limits, Phase, up, down, rolling, isDow
 use Rattle.protocol.specs.Edit.{put, Edit}
 use Rattle.protocol.specs.Plan.{Answer, accepted, Check, Plan, checked}
 use Rattle.protocol.specs.Calls.{openChecks, voteChecks, takeChecks, withdrawChecks, storeChecks, trimChecks, safeChecks, loseChecks, fixChecks, rollChecks}
-use Rattle.protocol.specs.Journal.{Journal, Noted, struck, asked, noteVoteOn, Fixing, unfixed, fixing, noteVote, noteRollOf}
+use Rattle.protocol.specs.Journal.{Journal, Noted, struck, asked, noteVoteOn, Fixing, unfixed, fixing, noteVote, noteRollOf, noteRestartOf}
 use Rattle.protocol.specs.Run.{Call, openCall, voteCall, takeCall, withdrawCall, storeCall, trimCall, safeCall, loseCall, fixCall, rollCall, sheetCall, restartCall, Choice, planOf, verdictReply, Calls, Run, start, next, note, journal, lineNoted, keptAfter, keptBy, lastKept}
-use Rattle.protocol.specs.Demands.{RestartsRolling}
 use Rattle.protocol.proofs.Taking.{put-same, put-other}
 use Rattle.protocol.proofs.Running.{Running}
 use Rattle.protocol.proofs.Steps.{checked-case, not-not}
@@ -96,6 +95,11 @@ module _ (C : Codec) (L : Limits) (n : CardSet) (m : Model) (j : Journal) (v : I
           (⊎-elim (λ (y : not (n c) ≡ true). clash h (not-true (n c) y)) (λ (y : eqb c d || marked c ≡ true). ⊎-elim (λ (u : eqb c d ≡ true). clash u (ne-eqb c d q)) (λ (u : marked c ≡ true). u) (or-elim (eqb c d) (marked c) y))
           (or-elim (not (n c)) (eqb c d || marked c) (all-at (L .width) (λ i. not (n i) || withCard marked d i) z c lw)))))
 
+  -- a restart notes a line with no card marked
+  restart-kept : (f : Fixing) → j .fix ≡ f → (c : ℕ) → journalKept j c ≡ journalKept (noteRestartOf L j f) c
+  restart-kept unfixed e c = ap (λ (g : Fixing). keptOf (j .stored) g c) e
+  restart-kept (fixing line marked) e c = refl
+
   kept-step : (call : Call) (y : Choice) (c : ℕ) → c < L .width → n c ≡ true → keptBy j call (planOf C L m call y .reply) x c ≡ journalKept (note L n j call (planOf C L m call y .reply)) c
   kept-step (openCall reads writes) y c lw h = quiet (openCall reads writes) (openChecks L m reads writes (y .named)) _ _ (λ c. refl) (λ c. refl) c lw h
   kept-step (voteCall k d agrees) y c lw h = quiet (voteCall k d agrees) (voteChecks L m k d) _ _ (λ c. refl) (vote-kept k d agrees) c lw h
@@ -117,14 +121,14 @@ module _ (C : Codec) (L : Limits) (n : CardSet) (m : Model) (j : Journal) (v : I
   kept-step restartCall y c lw h = by-verdict (C .verdict (C .joined L m))
     where
       by-verdict : (w : Verdict) → keptBy j restartCall (verdictReply w) x c ≡ journalKept (note L n j restartCall (verdictReply w)) c
-      by-verdict Accepted = same c lw h
+      by-verdict Accepted = same c lw h ∙ restart-kept (j .fix) refl c
       by-verdict (Refused q) = same c lw h
 
-kept-journal : {C : Codec} {L : Limits} {n : CardSet} → Carded L n → CodecLaw C L n → {cs : Calls} {m : Model} (r : Run C L n cs m) → RestartsRolling r → (c : ℕ) → c < L .width → n c ≡ true → lastKept L n cs c ≡ journalKept (journal L n cs) c
-kept-journal carded law start w c lw h = refl
-kept-journal {C} {L} {n} carded law (next {cs} {m} r call y p) w c lw h =
-    kept-step C L n m (journal L n cs) (run-invariant carded law r (w .0)) (lastKept L n cs) (λ i l h. kept-journal carded law r (w .0) i l h) call y c lw h
+kept-journal : {C : Codec} {L : Limits} {n : CardSet} → Carded L n → CodecLaw C L n → {cs : Calls} {m : Model} → Run C L n cs m → (c : ℕ) → c < L .width → n c ≡ true → lastKept L n cs c ≡ journalKept (journal L n cs) c
+kept-journal carded law start c lw h = refl
+kept-journal {C} {L} {n} carded law (next {cs} {m} r call y p) c lw h =
+    kept-step C L n m (journal L n cs) (run-invariant carded law r) (lastKept L n cs) (λ i l h. kept-journal carded law r i l h) call y c lw h
 
-pub stored-last : {C : Codec} {L : Limits} {n : CardSet} → Carded L n → CodecLaw C L n → {cs : Calls} {m : Model} (r : Run C L n cs m) → RestartsRolling r → (c : ℕ) → c < L .width → n c ≡ true → m .numbers .stored c ≡ lastKept L n cs c
-stored-last {C} {L} {n} carded law {cs} {m} r w c lw h =
-    stored-is-kept L n m (journal L n cs) (run-invariant carded law r w) c lw h ∙ sym (kept-journal carded law r w c lw h)
+pub stored-last : {C : Codec} {L : Limits} {n : CardSet} → Carded L n → CodecLaw C L n → {cs : Calls} {m : Model} → Run C L n cs m → (c : ℕ) → c < L .width → n c ≡ true → m .numbers .stored c ≡ lastKept L n cs c
+stored-last {C} {L} {n} carded law {cs} {m} r c lw h =
+    stored-is-kept L n m (journal L n cs) (run-invariant carded law r) c lw h ∙ sym (kept-journal carded law r c lw h)

@@ -17,4 +17,3 @@ pub mod Lists
 pub mod Kept
 pub mod Answers
 pub mod Choices
-pub mod Anywhere

@@ -9,7 +9,7 @@ use native.Mathlib.Decide.{decLt, ℕ-discrete}
 use native.Mathlib.Omega.{arith}
 use lib.ListN.{length}
 use Rattle.laws.proofs.Logic.{test, clash}
-use Rattle.history.specs.Change.{CardSet, History, Numbers, writers, made, UpTo, historyOf}
+use Rattle.history.specs.Change.{CardSet, History, Numbers, writers, UpTo, historyOf}
 use Rattle.history.specs.Vector.{vector, entryOf, LastPreceding}
 use Rattle.history.proofs.Writers.{Maker, maker, makers-order}
 use Rattle.history.proofs.Greatest.{Makes, greatest-of}
@@ -24,8 +24,8 @@ use Rattle.protocol.specs.Plan.{Answer, accepted, Check, Plan, checked, 
 use Rattle.protocol.specs.Calls.{cardRows, openChecks, voteChecks, takeChecks, withdrawChecks, storeChecks, trimChecks, safeChecks, loseChecks, fixChecks, rollChecks}
 use Rattle.protocol.specs.Journal.{Journal, Fixing, unfixed, fixing, noteOpen, noteVote, noteStruck, noteStore, noteLose, noteFix, noteRoll}
 use Rattle.protocol.specs.Run.{Call, openCall, voteCall, takeCall, withdrawCall, storeCall, trimCall, safeCall, loseCall, fixCall, rollCall, sheetCall, restartCall, Choice, planOf, afterCall, verdictReply, verdictCabinet, Calls, Run, start, next, note, journal}
-use Rattle.protocol.specs.Demands.{VectorsRight, WhileRolling, RestartsRolling}
-use Rattle.protocol.proofs.Restart.{restart-again, Remade, CodecLaw}
+use Rattle.protocol.specs.Demands.{VectorsRight}
+use Rattle.protocol.proofs.Restart.{recallable, restart-again, Remade, CodecLaw}
 use Rattle.protocol.proofs.Taking.{Framed, ByTakenWriters}
 use Rattle.protocol.proofs.Running.{About, Carded, Running}
 use Rattle.protocol.proofs.Rolling.{AboutLine}
@@ -38,33 +38,36 @@ same-note : (L : Limits) (n : CardSet) (j j' : Journal) (call : Call) (cs : List
 same-note L n j j' call cs a es e =
     checked-case (λ (p : Plan). noted j j' (p .reply) ≡ note L n j call (p .reply)) cs a es (λ r. refl) (λ ps. sym e)
 
-restart-step : (C : Codec) (L : Limits) (n : CardSet) (m : Model) (j : Journal) → Invariant L n m j → RollingBack L m j → Remade C L m
+-- a restart: accepted where another session can follow, and refused in the last one
+restart-step : (C : Codec) (L : Limits) (n : CardSet) → CodecLaw C L n → (m : Model) (j : Journal) → Invariant L n m j
     → Invariant L n (verdictCabinet (C .verdict (C .joined L m)) (C .restarted L (C .joined L m)) m) (note L n j restartCall (verdictReply (C .verdict (C .joined L m))))
-restart-step C L n m j v r e = rw (e .accepts) (restart-again L n m (C .restarted L (C .joined L m)) j v r (e .recalled))
+restart-step C L n law m j v =
+    by-cases (decLt (m .session) (L .greatestNumber))
+    (λ z. let e : Remade C L m = law .remade m j (v .present-is) (recallable L n m j v) z in
+    rw (e .accepts) (restart-again L n m (C .restarted L (C .joined L m)) j v z (e .recalled)))
+    (λ z. rw (law .last-session m j (v .present-is) (recallable L n m j v) (omega (arith, z))) v)
 
-step : (C : Codec) (L : Limits) (n : CardSet) → CodecLaw C L n → (m : Model) (j : Journal) → Invariant L n m j → (call : Call) (x : Choice) → WhileRolling call m
+step : (C : Codec) (L : Limits) (n : CardSet) → CodecLaw C L n → (m : Model) (j : Journal) → Invariant L n m j → (call : Call) (x : Choice)
     → Invariant L n (afterCall C L m call x) (note L n j call (planOf C L m call x .reply))
-step C L n law m j v (openCall reads writes) x w =
+step C L n law m j v (openCall reads writes) x =
     subst (Invariant L n _) (same-note L n j (noteOpen j (suc (m .count)) reads writes) (openCall reads writes) (openChecks L m reads writes (x .named)) _ _ refl) (next-open L n m j v reads writes (x .named))
-step C L n law m j v (voteCall k c agrees) x w = subst (Invariant L n _) (same-note L n j (noteVote L j k c agrees) (voteCall k c agrees) (voteChecks L m k c) _ _ refl) (next-vote L n m j v k c agrees)
-step C L n law m j v (takeCall k c) x w = subst (Invariant L n _) (same-note L n j j (takeCall k c) (takeChecks L m k c) _ _ refl) (next-take L n m j v k c)
-step C L n law m j v (withdrawCall k) x w = subst (Invariant L n _) (same-note L n j (noteStruck j k) (withdrawCall k) (withdrawChecks L m k) _ _ refl) (next-withdraw L n m j v k)
-step C L n law m j v (storeCall c s) x w = subst (Invariant L n _) (same-note L n j (noteStore j c s) (storeCall c s) (storeChecks L m c s) _ _ refl) (next-store L n m j v c s)
-step C L n law m j v trimCall x w = subst (Invariant L n _) (same-note L n j j trimCall (trimChecks L m) _ _ refl) (next-trim L n m j v)
-step C L n law m j v (safeCall k) x w = subst (Invariant L n _) (same-note L n j j (safeCall k) (safeChecks L m k) _ _ refl) (next-safe L n m j v k)
-step C L n law m j v (loseCall cards) x w = subst (Invariant L n _) (same-note L n j (noteLose j) (loseCall cards) (loseChecks L m cards) _ _ refl) (next-lose L n m j v cards)
-step C L n law m j v (fixCall a b) x w = subst (Invariant L n _) (same-note L n j (noteFix j (cardRows L m)) (fixCall a b) (fixChecks L m a b (x .lost)) _ _ refl) (next-fix L n m j v a b (x .lost))
-step C L n law m j v (rollCall c) x w = subst (Invariant L n _) (same-note L n j (noteRoll L n j c) (rollCall c) (rollChecks L m c) _ _ refl) (next-roll L n m j v c)
-step C L n law m j v (sheetCall c places) x w =
+step C L n law m j v (voteCall k c agrees) x = subst (Invariant L n _) (same-note L n j (noteVote L j k c agrees) (voteCall k c agrees) (voteChecks L m k c) _ _ refl) (next-vote L n m j v k c agrees)
+step C L n law m j v (takeCall k c) x = subst (Invariant L n _) (same-note L n j j (takeCall k c) (takeChecks L m k c) _ _ refl) (next-take L n m j v k c)
+step C L n law m j v (withdrawCall k) x = subst (Invariant L n _) (same-note L n j (noteStruck j k) (withdrawCall k) (withdrawChecks L m k) _ _ refl) (next-withdraw L n m j v k)
+step C L n law m j v (storeCall c s) x = subst (Invariant L n _) (same-note L n j (noteStore j c s) (storeCall c s) (storeChecks L m c s) _ _ refl) (next-store L n m j v c s)
+step C L n law m j v trimCall x = subst (Invariant L n _) (same-note L n j j trimCall (trimChecks L m) _ _ refl) (next-trim L n m j v)
+step C L n law m j v (safeCall k) x = subst (Invariant L n _) (same-note L n j j (safeCall k) (safeChecks L m k) _ _ refl) (next-safe L n m j v k)
+step C L n law m j v (loseCall cards) x = subst (Invariant L n _) (same-note L n j (noteLose j) (loseCall cards) (loseChecks L m cards) _ _ refl) (next-lose L n m j v cards)
+step C L n law m j v (fixCall a b) x = subst (Invariant L n _) (same-note L n j (noteFix j (cardRows L m)) (fixCall a b) (fixChecks L m a b (x .lost)) _ _ refl) (next-fix L n m j v a b (x .lost))
+step C L n law m j v (rollCall c) x = subst (Invariant L n _) (same-note L n j (noteRoll L n j c) (rollCall c) (rollChecks L m c) _ _ refl) (next-roll L n m j v c)
+step C L n law m j v (sheetCall c places) x =
     subst (Invariant L n _) (same-note L n j j (sheetCall c places) (sheetChecks C L m c places) _ _ refl)
     (checked-case (λ (p : Plan). Invariant L n (afterPlan L p m) (noted j j (p .reply))) (sheetChecks C L m c places) _ _ (λ r. v) (λ ps. v))
-step C L n law m j v restartCall x w =
-    ⊎-elim (λ (r : Running L m j). clash w (r .not-rolling))
-    (λ (r : RollingBack L m j). restart-step C L n m j v r (law .remade m j v r)) (v .state)
+step C L n law m j v restartCall x = restart-step C L n law m j v
 
-pub run-invariant : {C : Codec} {L : Limits} {n : CardSet} → Carded L n → CodecLaw C L n → {cs : Calls} {m : Model} (r : Run C L n cs m) → RestartsRolling r → Invariant L n m (journal L n cs)
-run-invariant {C} {L} {n} carded law start w = fresh-invariant L n carded
-run-invariant {C} {L} {n} carded law (next {cs} {m} r call x p) w = step C L n law m (journal L n cs) (run-invariant carded law r (w .0)) call x (w .1)
+pub run-invariant : {C : Codec} {L : Limits} {n : CardSet} → Carded L n → CodecLaw C L n → {cs : Calls} {m : Model} → Run C L n cs m → Invariant L n m (journal L n cs)
+run-invariant {C} {L} {n} carded law start = fresh-invariant L n carded
+run-invariant {C} {L} {n} carded law (next {cs} {m} r call x p) = step C L n law m (journal L n cs) (run-invariant carded law r) call x
 
 -- ---- demand 2 of a cabinet that meets the invariant
 module _ (L : Limits) (n : CardSet) (m : Model) (j : Journal) (v : Invariant L n m j) where

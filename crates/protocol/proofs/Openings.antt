@@ -31,6 +31,7 @@ fresh-running L n carded =
       at = λ p. 0;
       not-rolling = refl;
       session-given = le-refl 1;
+      session-fits = carded .some-session;
       count-given = zero-le;
       carded = carded;
       ranges =
@@ -133,6 +134,7 @@ module _ (L : Limits) (m : Model) (j : Journal) (r : Running L m j) (reads write
         at = put (r .at) f 0;
         not-rolling = r .not-rolling;
         session-given = r .session-given;
+        session-fits = r .session-fits;
         count-given = left;
         carded = r .carded;
         ranges = r .ranges;

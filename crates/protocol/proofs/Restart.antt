@@ -1,29 +1,33 @@
--- What a restarted cabinet has of the one that rolled back, and that the invariant follows from that alone: the same line is fixed, and the same cards have rolled. Assumes nothing.
+-- What a restarted cabinet has of the old one, running or rolling back, and that the invariant follows from that alone: the line that the journal notes is fixed, and the same cards have rolled. Assumes nothing.
 use Prim.Native.Nat.{ℕ, _+_, _-_, _≤_, _<_}
 use mathlib.Core.Path.{_≡_, refl, sym, _∙_, ap, ap₂, subst}
 use mathlib.Core.Bool.{Bool, true, false, not, _&&_, _||_, cond}
-use mathlib.Core.Logic.{inr, by-cases}
+use mathlib.Core.Logic.{_⊎_, inr, by-cases, ⊎-elim}
 use native.Mathlib.Nat.{le-refl, le-trans, le-of-eq}
 use native.Mathlib.Decide.{decLt}
 use native.Mathlib.Omega.{arith}
 use lib.Dec.{leb, ltb}
 use lib.ListN.{length}
 use borrow.Author.Tests.{lt-ltb, le-ltb}
-use Rattle.laws.proofs.Logic.{test, clash, and-intro}
-use Rattle.laws.proofs.Below.{all-same, all-intro}
-use Rattle.refusal.specs.declared.Verdict.the-variants.{Accepted}
+use Rattle.laws.proofs.Logic.{test, clash, fails, and-right, and-intro, or-elim, not-true}
+use Rattle.laws.proofs.Below.{all-same, all-at, all-intro}
+use Rattle.refusal.specs.declared.Refusal.the-variants.{LimitReached}
+use Rattle.refusal.specs.declared.Verdict.the-variants.{Accepted, Refused}
 use Rattle.history.specs.Change.{CardSet, History, Numbers, writers, made, historyOf}
 use Rattle.history.specs.Vector.{Vector, vector}
 use Rattle.history.specs.Line.{lineFrom}
 use Rattle.history.proofs.Writers.{Maker, maker}
 use Rattle.history.proofs.Precedence.{writes-touches, up-to-le}
 use Rattle.history.proofs.Vectors.{vector-greatest}
-use Rattle.protocol.specs.Model.{Limits, isRolling, Model, isOpen}
+use Rattle.history.proofs.Appending.{Agree}
+use Rattle.protocol.specs.Model.{Limits, isRolling, Model, noCards, hasRolled, isOpen, within}
 use Rattle.protocol.specs.Sound.{entriesSound}
 use Rattle.protocol.specs.Codec.{Codec}
-use Rattle.protocol.specs.Journal.{Journal}
-use Rattle.protocol.proofs.Intact.{Intact, bridge, intact-lower}
-use Rattle.protocol.proofs.Stores.{absent-still}
+use Rattle.protocol.specs.Calls.{lines}
+use Rattle.protocol.specs.Journal.{Journal, Noted, struck, Fixing, fixing, greatestLine, noteRestartOf, noteRestart}
+use Rattle.protocol.proofs.Intact.{Intact, lineAt, bridge, line-same, intact-same, intact-lower}
+use Rattle.protocol.proofs.Running.{About, Carded, Running}
+use Rattle.protocol.proofs.Stores.{intact, lines-right, absent-still}
 use Rattle.protocol.proofs.Soundness.{entry-sound, greatest-sound}
 use Rattle.protocol.proofs.Rolling.{AboutLine, Rolling, LineNoted}
 use Rattle.protocol.proofs.Invariant.{RollingBack, Invariant}
@@ -51,20 +55,104 @@ pub record Recalled (L : Limits) (m m' : Model) : Type 0 where
   -- "no change is open"
   pub none-open : (p : ℕ) → p < L .places → isOpen (m' .place p) ≡ false
   -- "cards one session ahead count as rolled"
-  pub rolled : (c : ℕ) → c < L .width → m .present c ≡ true → m' .rolled c ≡ m .rolled c
+  pub rolled : (c : ℕ) → c < L .width → m .present c ≡ true → m' .rolled c ≡ hasRolled m c
   pub none-rolled : (c : ℕ) → c < L .width → m .present c ≡ false → m' .rolled c ≡ false
   -- "with the line fixed"
   pub line : (c : ℕ) → c < L .width → m' .line c ≡ lineFrom (L .width) (m' .numbers .stored) (m' .memory .frame c) (m' .numbers .base c) (m' .numbers .stored c)
 
+-- what is known of a cabinet, running or rolling back, whose sheets are read again: its line is the greatest choice of the journal's stored numbers
+pub record Recallable (L : Limits) (m : Model) (j : Journal) : Type 0 where
+  pub session-given : 0 < m .session
+  pub session-fits : m .session ≤ L .greatestNumber
+  pub session-left : isRolling (m .phase) ≡ true → m .session < L .greatestNumber
+  pub carded : Carded L (m .present)
+  pub in-hand : (c : ℕ) → c < L .width → m .numbers .reached c ≤ m .numbers .base c + L .inHand
+  -- a card already rolled stands at the line, another at its stored number
+  pub lowered : (c : ℕ) → c < L .width → hasRolled m c ≡ true → (m .numbers .base c ≡ greatestLine L j c) × (m .numbers .stored c ≡ greatestLine L j c)
+  pub kept : (c : ℕ) → c < L .width → m .present c ≡ true → hasRolled m c ≡ false → m .numbers .stored c ≡ j .stored c
+  pub some-left : within L (m .present) (hasRolled m) ≡ false
+  pub about : (H : History) → Agree (historyOf (j .history)) H (length (j .history)) → AboutLine L m (j .start) (length (j .history)) (j .stored) (greatestLine L j) H
+
+-- a cabinet that rolls back
+pub rolling-recallable : (L : Limits) (m : Model) (j : Journal) → Rolling L m j → Recallable L m j
+rolling-recallable L m j r =
+    record {
+      session-given = r .session-given;
+      session-fits = omega (arith, r .session-left);
+      session-left = λ e. r .session-left;
+      carded = r .carded;
+      in-hand = r .in-hand;
+      lowered = λ c l e. let q = r .lowered c l (and-right (isRolling (m .phase)) (m .rolled c) e) in
+          (q .0 ∙ at-line c l, q .1 ∙ at-line c l);
+      kept = λ c l here e. r .kept c l here (sym (same c) ∙ e);
+      some-left = all-same (L .width) (λ c. not (m .present c) || hasRolled m c) (λ c. not (m .present c) || m .rolled c) (λ c l. ap (λ (b : Bool). not (m .present c) || b) (same c)) ∙ r .some-left;
+      about = λ H agree. let a : AboutLine L m (j .start) (length (j .history)) (j .stored) (m .line) H = r .about H agree in
+          record {
+            line-right = λ c l. sym (at-line c l) ∙ a .line-right c l;
+            intact = a .intact;
+            framed = a .framed;
+            count = a .count;
+            count-given = a .count-given;
+            numbered = a .numbered;
+            bounded = a .bounded;
+            there = a .there;
+          };
+    }
+  where
+    at-line : (c : ℕ) → c < L .width → m .line c ≡ greatestLine L j c
+    at-line c l = r .about (historyOf (j .history)) (λ i h. refl) .line-right c l
+
+    same : (c : ℕ) → hasRolled m c ≡ m .rolled c
+    same c = ap (λ (b : Bool). b && m .rolled c) (r .is-rolling)
+
+-- a cabinet that runs, whatever the journal notes of its undecided changes and its line
+pub running-recallable : (L : Limits) (m : Model) (j : Journal) (u : ℕ → Noted) (f : Fixing) → Running L m j
+    → Recallable L m (record { start = j .start; stored = j .stored; undecided = u; history = j .history; fix = f })
+running-recallable L m j u f r =
+    record {
+      session-given = r .session-given;
+      session-fits = r .session-fits;
+      session-left = λ e. clash e (r .not-rolling);
+      carded = r .carded;
+      in-hand = r .ranges .in-hand;
+      lowered = λ c l e. clash e (none-rolled c);
+      kept = λ c l here e. same-stored c l;
+      some-left =
+          fails (within L (m .present) (hasRolled m))
+          (λ e. ⊎-elim (λ (z : not (m .present (r .carded .one)) ≡ true). clash (r .carded .is-there) (not-true (m .present (r .carded .one)) z))
+          (λ (z : hasRolled m (r .carded .one) ≡ true). clash z (none-rolled (r .carded .one)))
+          (or-elim (not (m .present (r .carded .one))) (hasRolled m (r .carded .one)) (all-at (L .width) (λ c. not (m .present c) || hasRolled m c) e (r .carded .one) (r .carded .is-card))));
+      about = λ H agree. let a : About L m (j .start) (length (j .history)) (r .took) (r .at) H = r .about H agree in
+          record {
+            line-right = λ c l. sym (right (historyOf (j .history)) (r .about (historyOf (j .history)) (λ i h. refl)) c l) ∙ right H a c l;
+            intact = intact-same (L .width) H (j .start) (length (j .history)) same-stored (intact L m j r H a);
+            framed = a .framed;
+            count = m .count;
+            count-given = r .count-given;
+            numbered = a .numbered;
+            bounded = a .bounded;
+            there = a .there;
+          };
+    }
+  where
+    none-rolled : (c : ℕ) → hasRolled m c ≡ false
+    none-rolled c = ap (λ (b : Bool). b && m .rolled c) (r .not-rolling)
+
+    same-stored : (c : ℕ) → c < L .width → m .numbers .stored c ≡ j .stored c
+    same-stored c l = sym (r .stored-is c l)
+
+    right : (H : History) → About L m (j .start) (length (j .history)) (r .took) (r .at) H → (c : ℕ) → c < L .width → lines L m c ≡ lineAt (L .width) H (j .start) (length (j .history)) (j .stored) c
+    right H a c l = lines-right L m j r H a c l ∙ line-same (L .width) H (j .start) (length (j .history)) (m .numbers .stored) (j .stored) same-stored c l
+
 module _ (L : Limits) (n : CardSet) (m m' : Model) (j : Journal) (present-is : (c : ℕ) → m .present c ≡ n c) (absent-start : (c : ℕ) → c < L .width → n c ≡ false → j .start c ≡ 0)
-    (r : Rolling L m j) (k : Recalled L m m') where
+    (r : Recallable L m j) (k : Recalled L m m') where
   abbrev H₀ : History
   H₀ = historyOf (j .history)
 
   abbrev N : ℕ
   N = length (j .history)
 
-  a₀ : AboutLine L m (j .start) N (j .stored) (m .line) H₀
+  a₀ : AboutLine L m (j .start) N (j .stored) (greatestLine L j) H₀
   a₀ = r .about H₀ (λ i h. refl)
 
   -- a card that is not there stands at 0
@@ -107,7 +195,7 @@ module _ (L : Limits) (n : CardSet) (m m' : Model) (j : Journal) (present-is : (
       (λ e. k .no-entry c x i l li (stored-there c x l a b) e a b ∙ sym (entry-none c x i l li e a b))
 
   -- by stored numbers, which are those reached
-  intact-stored : (H : History) → AboutLine L m (j .start) N (j .stored) (m .line) H
+  intact-stored : (H : History) → AboutLine L m (j .start) N (j .stored) (greatestLine L j) H
       → Intact (L .width) H (j .start) N (j .stored) (m' .numbers .base) (m' .numbers .stored) (m' .numbers .stored) (m' .memory .frame)
   intact-stored H a =
       intact-lower (L .width) H (j .start) N (a .intact)
@@ -119,14 +207,14 @@ module _ (L : Limits) (n : CardSet) (m m' : Model) (j : Journal) (present-is : (
       (λ c l. rw (stored-same c l) (a .intact .stored-reached c l))
       (λ c x i l li y z. frame-same c x i l li (rw (base-same c l) at y) (rw (stored-same c l) at z))
 
-  intact-again : (H : History) → AboutLine L m (j .start) N (j .stored) (m .line) H
+  intact-again : (H : History) → AboutLine L m (j .start) N (j .stored) (greatestLine L j) H
       → Intact (L .width) H (j .start) N (j .stored) (m' .numbers .base) (m' .numbers .stored) (m' .numbers .reached) (m' .memory .frame)
   intact-again H a =
       subst (λ (q : Numbers). Intact (L .width) H (j .start) N (j .stored) (m' .numbers .base) (m' .numbers .stored) q (m' .memory .frame)) (sym (k .reached)) (intact-stored H a)
 
   -- the line is fixed again
-  pub line-again : (c : ℕ) → c < L .width → m' .line c ≡ m .line c
-  line-again c l = k .line c l ∙ bridge (L .width) H₀ (j .start) N (intact-stored H₀ a₀) c l ∙ sym (a₀ .line-right c l)
+  pub line-again : (c : ℕ) → c < L .width → m' .line c ≡ greatestLine L j c
+  line-again c l = k .line c l ∙ bridge (L .width) H₀ (j .start) N (intact-stored H₀ a₀) c l
 
   held-is : (c : ℕ) → m' .numbers .held c ≡ m' .numbers .stored c
   held-is c = ap (λ (f : Numbers). f c) (k .held)
@@ -163,22 +251,23 @@ module _ (L : Limits) (n : CardSet) (m m' : Model) (j : Journal) (present-is : (
   rolled-there : (c : ℕ) → c < L .width → m' .rolled c ≡ true → m .present c ≡ true
   rolled-there c l e = test (m .present c) (λ y. y) (λ y. clash e (k .none-rolled c l y))
 
-  restart-rolls : Rolling L m' j
-  restart-rolls =
+  restart-rolls : m .session < L .greatestNumber → Rolling L m' j
+  restart-rolls left =
       record {
         is-rolling = k .rolls;
         session-given = rw (k .session) (r .session-given);
-        session-left = rw (k .session) (r .session-left);
+        session-left = rw (k .session) left;
         carded =
             record {
               one = r .carded .one;
               is-card = r .carded .is-card;
               is-there = k .cards (r .carded .one) ∙ r .carded .is-there;
               none-beyond = k .cards (L .width) ∙ r .carded .none-beyond;
+              some-session = r .carded .some-session;
             };
         stored-held = λ c l. le-of-eq (sym (held-is c));
         held-reached = λ c l. le-of-eq (held-is c ∙ sym (reached-is c));
-        in-hand = λ c l. omega (arith, reached-is c, base-same c l, stored-same c l, r .in-hand c l, r .stored-held c l, r .held-reached c l);
+        in-hand = λ c l. omega (arith, reached-is c, base-same c l, stored-same c l, r .in-hand c l, a₀ .intact .stored-reached c l);
         entries = λ c l. (entries-again c l, entries-pending c l);
         none-open = k .none-open;
         lowered = λ c l e. let q = r .lowered c l (sym (k .rolled c l (rolled-there c l e)) ∙ e) in
@@ -186,8 +275,8 @@ module _ (L : Limits) (n : CardSet) (m m' : Model) (j : Journal) (present-is : (
             let s : m' .numbers .stored c ≡ m' .line c = stored-same c l ∙ q .1 ∙ sym (line-again c l) in
             (b, s, held-is c ∙ s, reached-is c ∙ s);
         kept = λ c l here e. let h : m .present c ≡ true = sym (k .cards c) ∙ here in stored-same c l ∙ r .kept c l h (sym (k .rolled c l h) ∙ e);
-        some-left = all-same (L .width) (λ c. not (m' .present c) || m' .rolled c) (λ c. not (m .present c) || m .rolled c) left-same ∙ r .some-left;
-        about = λ H agree. let a : AboutLine L m (j .start) N (j .stored) (m .line) H = r .about H agree in
+        some-left = all-same (L .width) (λ c. not (m' .present c) || m' .rolled c) (λ c. not (m .present c) || hasRolled m c) left-same ∙ r .some-left;
+        about = λ H agree. let a : AboutLine L m (j .start) N (j .stored) (greatestLine L j) H = r .about H agree in
             record {
               line-right = λ c l. line-again c l ∙ a .line-right c l;
               intact = intact-again H a;
@@ -206,33 +295,67 @@ module _ (L : Limits) (n : CardSet) (m m' : Model) (j : Journal) (present-is : (
             };
       }
     where
-      left-same : (c : ℕ) → c < L .width → not (m' .present c) || m' .rolled c ≡ not (m .present c) || m .rolled c
+      left-same : (c : ℕ) → c < L .width → not (m' .present c) || m' .rolled c ≡ not (m .present c) || hasRolled m c
       left-same c l =
           test (m .present c) (λ e. ap₂ (λ (x y : Bool). not x || y) (k .cards c) (k .rolled c l e)) (λ e. rw (k .cards c ∙ e, e))
 
-  restart-notes : LineNoted L m j → LineNoted L m' j
-  restart-notes t =
+  -- the journal has noted that line, and marked those cards
+  restart-notes : (line : Numbers) (marked : CardSet) → j .fix ≡ fixing line marked → ((c : ℕ) → c < L .width → line c ≡ greatestLine L j c) → ((c : ℕ) → c < L .width → m .present c ≡ true → marked c ≡ hasRolled m c) → LineNoted L m' j
+  restart-notes line marked noted line-is marked-is =
       record {
-        line = t .line;
-        marked = t .marked;
-        is-noted = t .is-noted;
-        line-is = λ c l. t .line-is c l ∙ sym (line-again c l);
-        marked-is = λ c l here. let h : m .present c ≡ true = sym (k .cards c) ∙ here in t .marked-is c l h ∙ sym (k .rolled c l h);
+        line = line;
+        marked = marked;
+        is-noted = noted;
+        line-is = λ c l. line-is c l ∙ sym (line-again c l);
+        marked-is = λ c l here. let h : m .present c ≡ true = sym (k .cards c) ∙ here in marked-is c l h ∙ sym (k .rolled c l h);
       }
 
--- a cabinet restarted meets the invariant
-pub restart-again : (L : Limits) (n : CardSet) (m m' : Model) (j : Journal) → Invariant L n m j → RollingBack L m j → Recalled L m m' → Invariant L n m' j
-restart-again L n m m' j v r k =
-    record {
-      present-is = λ c. k .cards c ∙ v .present-is c;
-      absent-start = v .absent-start;
-      state =
-          inr
-          (record {
-            rolls = restart-rolls L n m m' j (v .present-is) (v .absent-start) (r .rolls) k;
-            notes = restart-notes L n m m' j (v .present-is) (v .absent-start) (r .rolls) k (r .notes);
-          });
-    }
+-- a cabinet restarted meets the invariant, with what the journal notes
+pub restart-again : (L : Limits) (n : CardSet) (m m' : Model) (j : Journal) → Invariant L n m j → m .session < L .greatestNumber → Recalled L m m' → Invariant L n m' (noteRestart L j)
+restart-again L n m m' j v left k = ⊎-elim ran rolled (v .state)
+  where
+    ran : Running L m j → Invariant L n m' (noteRestart L j)
+    ran r =
+        rw (r .not-fixed)
+        (record {
+          present-is = λ c. k .cards c ∙ v .present-is c;
+          absent-start = v .absent-start;
+          state =
+              inr
+              (record {
+                rolls = restart-rolls L n m m' fresh (v .present-is) (v .absent-start) q k left;
+                notes = restart-notes L n m m' fresh (v .present-is) (v .absent-start) q k (greatestLine L j) noCards refl (λ c l. refl) (λ c l here. sym (ap (λ (b : Bool). b && m .rolled c) (r .not-rolling)));
+              });
+        })
+      where
+        fresh : Journal
+        fresh = record { start = j .start; stored = j .stored; undecided = λ i. struck; history = j .history; fix = fixing (greatestLine L j) noCards }
+
+        q : Recallable L m (record { start = j .start; stored = j .stored; undecided = λ i. struck; history = j .history; fix = fixing (greatestLine L j) noCards })
+        q = running-recallable L m j (λ i. struck) (fixing (greatestLine L j) noCards) r
+
+    rolled : RollingBack L m j → Invariant L n m' (noteRestart L j)
+    rolled r =
+        subst (Invariant L n m') (sym (ap (noteRestartOf L j) (r .notes .is-noted)))
+        (record {
+          present-is = λ c. k .cards c ∙ v .present-is c;
+          absent-start = v .absent-start;
+          state =
+              inr
+              (record {
+                rolls = restart-rolls L n m m' j (v .present-is) (v .absent-start) q k left;
+                notes = restart-notes L n m m' j (v .present-is) (v .absent-start) q k (r .notes .line) (r .notes .marked) (r .notes .is-noted)
+                    (λ c l. r .notes .line-is c l ∙ r .rolls .about (historyOf (j .history)) (λ i h. refl) .line-right c l)
+                    (λ c l here. r .notes .marked-is c l here ∙ sym (ap (λ (b : Bool). b && m .rolled c) (r .rolls .is-rolling)));
+              });
+        })
+      where
+        q : Recallable L m j
+        q = rolling-recallable L m j (r .rolls)
+
+-- a cabinet of a list
+pub recallable : (L : Limits) (n : CardSet) (m : Model) (j : Journal) → Invariant L n m j → Recallable L m j
+recallable L n m j v = ⊎-elim (λ (r : Running L m j). running-recallable L m j (j .undecided) (j .fix) r) (λ (r : RollingBack L m j). rolling-recallable L m j (r .rolls)) (v .state)
 
 -- ---- what a list of calls asks of sheets
 -- a cabinet's sheets, joined, are accepted, and what restarts from them has of it what it must
@@ -243,5 +366,7 @@ pub record Remade (C : Codec) (L : Limits) (m : Model) : Type 0 where
 pub record CodecLaw (C : Codec) (L : Limits) (n : CardSet) : Type 0 where
   -- the last state of a sheet is the stored one
   pub last-stored : (m : Model) (c : ℕ) → m .numbers .base c ≤ m .numbers .stored c → C .last L m c ≡ m .numbers .stored c
-  -- while rolling the sheets of all cards say enough
-  pub remade : (m : Model) (j : Journal) → Invariant L n m j → RollingBack L m j → Remade C L m
+  -- the sheets of all cards say enough, where another session can follow
+  pub remade : (m : Model) (j : Journal) → ((c : ℕ) → m .present c ≡ n c) → Recallable L m j → m .session < L .greatestNumber → Remade C L m
+  -- and are refused with 24 in the last session
+  pub last-session : (m : Model) (j : Journal) → ((c : ℕ) → m .present c ≡ n c) → Recallable L m j → L .greatestNumber ≤ m .session → C .verdict (C .joined L m) ≡ Refused LimitReached

@@ -18,7 +18,7 @@ use Rattle.history.specs.Vector.{Vector, noEntries}
 use Rattle.history.proofs.Greatest.{greatest-none}
 use Rattle.history.proofs.Appending.{Agree}
 use Rattle.history.proofs.Lines.{line-is}
-use Rattle.protocol.specs.Model.{Limits, rolling, isDown, isRolling, Model, noCards, isOpen, within, withCard}
+use Rattle.protocol.specs.Model.{Limits, isDown, isRolling, Model, noCards, isOpen, within, withCard}
 use Rattle.protocol.specs.Sound.{cardSound, placeSound, entriesSound, sound}
 use Rattle.protocol.specs.Edit.{put, fall, fix, lower, renew, editedAll}
 use Rattle.protocol.specs.Plan.{CardRow}
@@ -338,6 +338,7 @@ module _ (L : Limits) (m : Model) (j : Journal) (r : Rolling L m j) where
             at = λ p. 0;
             not-rolling = refl;
             session-given = omega arith;
+            session-fits = r .session-left;
             count-given = zero-le;
             carded = r .carded;
             ranges =

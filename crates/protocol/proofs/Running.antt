@@ -65,18 +65,20 @@ pub record Ranges (L : Limits) (phase : Phase) (start : Numbers) (x : StateNumbe
   pub in-hand : (c : ℕ) → c < L .width → x .reached c ≤ x .base c + L .inHand
   pub all-held : isUp phase ≡ true → (c : ℕ) → c < L .width → x .held c ≡ x .reached c
 
--- the cabinet has a card, and none beyond the width
+-- the cabinet has a card, and none beyond the width; and there is a session
 pub record Carded (L : Limits) (present : CardSet) : Type 0 where
   pub one : ℕ
   pub is-card : one < L .width
   pub is-there : present one ≡ true
   pub none-beyond : present (L .width) ≡ false
+  pub some-session : 0 < L .greatestNumber
 
 pub record Running (L : Limits) (m : Model) (j : Journal) : Type 0 where
   pub took : Took
   pub at : ℕ → ℕ
   pub not-rolling : isRolling (m .phase) ≡ false
   pub session-given : 0 < m .session
+  pub session-fits : m .session ≤ L .greatestNumber
   pub count-given : m .count ≤ L .greatestNumber
   pub carded : Carded L (m .present)
   pub ranges : Ranges L (m .phase) (j .start) (m .numbers)

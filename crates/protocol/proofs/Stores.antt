@@ -35,6 +35,7 @@ store-keeps L m j r c s l low high =
       at = r .at;
       not-rolling = r .not-rolling;
       session-given = r .session-given;
+      session-fits = r .session-fits;
       count-given = r .count-given;
       carded = r .carded;
       ranges =
@@ -146,6 +147,7 @@ module _ (L : Limits) (m : Model) (j : Journal) (r : Running L m j) where
         at = r .at;
         not-rolling = r .not-rolling;
         session-given = r .session-given;
+        session-fits = r .session-fits;
         count-given = r .count-given;
         carded = r .carded;
         ranges =
@@ -220,6 +222,7 @@ module _ (L : Limits) (m : Model) (j : Journal) (r : Running L m j) (cards : Car
         at = r .at;
         not-rolling = r .not-rolling;
         session-given = r .session-given;
+        session-fits = r .session-fits;
         count-given = r .count-given;
         carded = r .carded;
         ranges =
@@ -296,6 +299,7 @@ module _ (L : Limits) (m : Model) (j : Journal) (r : Running L m j) (cards : Car
         at = r .at;
         not-rolling = refl;
         session-given = r .session-given;
+        session-fits = r .session-fits;
         count-given = r .count-given;
         carded = r .carded;
         ranges =

@@ -224,6 +224,7 @@ module _ (L : Limits) (m : Model) (j : Journal) (r : Running L m j) (p c : ℕ) 
         at = put (r .at) p (r .at p);
         not-rolling = r .not-rolling;
         session-given = r .session-given;
+        session-fits = r .session-fits;
         count-given = r .count-given;
         carded = r .carded;
         ranges =
@@ -299,6 +300,7 @@ module _ (L : Limits) (m : Model) (j : Journal) (r : Running L m j) (p c : ℕ) 
         at = put (r .at) p (r .at p);
         not-rolling = r .not-rolling;
         session-given = r .session-given;
+        session-fits = r .session-fits;
         count-given = r .count-given;
         carded = r .carded;
         ranges = r .ranges;

@@ -65,6 +65,7 @@ module _ (L : Limits) (m : Model) (j : Journal) (r : Running L m j) (p : ℕ) (i
           at = put (r .at) p 0;
           not-rolling = r .not-rolling;
           session-given = r .session-given;
+          session-fits = r .session-fits;
           count-given = r .count-given;
           carded = r .carded;
           ranges = r .ranges;
@@ -222,6 +223,7 @@ module _ (L : Limits) (m : Model) (j : Journal) (r : Running L m j) (p : ℕ) (i
           at = put (r .at) p (length (j .history));
           not-rolling = r .not-rolling;
           session-given = r .session-given;
+          session-fits = r .session-fits;
           count-given = r .count-given;
           carded = r .carded;
           ranges = r .ranges;

@@ -1,7 +1,7 @@
 -- Demands 1 to 3 over whole lists of calls, and what belongs to them, whatever cards there are and however their sheets are written. Statements alone: the proofs are in proofs/Claims.antt (demand 1) and proofs/Answers.antt.
 use Prim.Native.Nat.{ℕ, _≤_, _<_}
 use mathlib.Core.Path.{_≡_}
-use mathlib.Core.Bool.{true, false, not, _&&_}
+use mathlib.Core.Bool.{true, false, _&&_}
 use mathlib.Core.Logic.{_⊎_, _↔_}
 use mathlib.Core.List.{List}
 use lib.Dec.{eqb}
@@ -9,17 +9,18 @@ use lib.ListN.{length}
 use Rattle.laws.specs.Below.{one-if, anyBelow, selected, occurs}
 use Rattle.refusal.specs.declared.Refusal.{Refusal}
 use Rattle.refusal.specs.Number.{numberOf}
-use Rattle.refusal.specs.declared.Verdict.the-variants.{Accepted}
+use Rattle.refusal.specs.declared.Refusal.the-variants.{LimitReached}
+use Rattle.refusal.specs.declared.Verdict.the-variants.{Accepted, Refused}
 use Rattle.history.specs.Change.{CardSet, History, Numbers, made, Cut, On, historyOf}
 use Rattle.history.specs.Vector.{entryOf, LastPreceding}
 use Rattle.history.specs.Line.{lost}
 use Rattle.protocol.specs.Model.{Limits, isUp, isRolling, Model}
 use Rattle.protocol.specs.Sound.{sound}
-use Rattle.protocol.specs.Plan.{CardRow, Answer, safe, fixed, accepted, refused}
+use Rattle.protocol.specs.Plan.{Answer, safe, fixed, accepted, refused}
 use Rattle.protocol.specs.Calls.{freshModel}
 use Rattle.protocol.specs.Codec.{Codec}
-use Rattle.protocol.specs.Journal.{Journal, fixing}
-use Rattle.protocol.specs.Run.{Call, voteCall, takeCall, withdrawCall, openCall, storeCall, trimCall, safeCall, loseCall, fixCall, rollCall, sheetCall, restartCall, Choice, planOf, afterCall, Calls, none, further, Run, start, next, journal, lineNoted, lastKept}
+use Rattle.protocol.specs.Journal.{Journal, fixing, noteRestart}
+use Rattle.protocol.specs.Run.{Call, voteCall, takeCall, withdrawCall, openCall, storeCall, trimCall, safeCall, loseCall, fixCall, rollCall, sheetCall, restartCall, Choice, planOf, afterCall, Calls, none, further, Run, start, next, journal, lastKept}
 
 -- ---- Demand 1, for any cabinet, a forged one too, and any arguments: "gets an answer or a refusal from document 01. A refusal changes neither the cabinet nor any lent list or buffer."
 -- (The lent lists and buffers are in the contracts of the calls.)
@@ -53,28 +54,45 @@ pub record VectorsRight (L : Limits) (m : Model) (j : Journal) : Type 0 where
   -- and none at the session's start
   pub none-yet : isUp (m .phase) ≡ true → (c i : ℕ) → c < L .width → i < L .width → m .numbers .reached c ≡ j .start c → m .memory .last c i ≡ 0
 
--- ---- Demand 3: "at each accepted fixing"
-pub record FixRight (L : Limits) (n : CardSet) (j : Journal) (rows : List CardRow) (numbers : List ℕ) : Type 0 where
-  -- the line answered, by card
-  pub line : Numbers
-  -- "the stored numbers answered are the book's"
-  pub answered : rows ≡ selected (L .width) n (λ c. record { card = c; stored = j .stored c; line = line c })
-  -- "the line answered is a choice"
+-- ---- Demand 3
+-- "the line answered is a choice", and the greatest one
+pub record GreatestChoice (L : Limits) (j : Journal) (line : Numbers) : Type 0 where
   pub is-cut : Cut (L .width) (H j) (j .start) (decisions j) (j .stored) line
   -- "and every other choice is on no card above it"
   pub greatest : (g : Numbers) → Cut (L .width) (H j) (j .start) (decisions j) (j .stored) g → (c : ℕ) → c < L .width → g c ≤ line c
   -- "a change is on every card it wrote or on none"
   pub whole : (i c c' : ℕ) → i < decisions j → c < L .width → c' < L .width → H j i .writes c ≡ true → H j i .writes c' ≡ true
       → On (H j) (j .start) line i c → On (H j) (j .start) line i c'
+
+-- "at each accepted fixing", by its answer
+pub record FixRight (L : Limits) (n : CardSet) (j : Journal) (a : Answer) : Type 0 where
+  -- the line answered, by card, and the numbers of the changes lost
+  pub line : Numbers
+  pub numbers : List ℕ
+  -- "the stored numbers answered are the book's"
+  pub answered : a ≡ fixed (selected (L .width) n (λ c. record { card = c; stored = j .stored c; line = line c })) numbers
+  pub choice : GreatestChoice L j line
   -- "Lost: decided in this session, wrote a card, not in the line. Each is listed once"
   pub lost-listed : (k : ℕ) → occurs k numbers ≡ one-if (anyBelow (decisions j) (λ i. lost (L .width) (H j) (j .start) line i && eqb (H j i .number) k))
 
--- "each roll sets its card's four numbers to that card's number in it"
+-- "each roll sets its card's four numbers to that card's number in it": a line is noted, and it is that one
 pub record RollRight (j : Journal) (c : ℕ) (m : Model) : Type 0 where
-  pub base : m .numbers .base c ≡ lineNoted (j .fix) c
-  pub stored : m .numbers .stored c ≡ lineNoted (j .fix) c
-  pub held : m .numbers .held c ≡ lineNoted (j .fix) c
-  pub reached : m .numbers .reached c ≡ lineNoted (j .fix) c
+  pub line : Numbers
+  pub marked : CardSet
+  pub noted : j .fix ≡ fixing line marked
+  pub base : m .numbers .base c ≡ line c
+  pub stored : m .numbers .stored c ≡ line c
+  pub held : m .numbers .held c ≡ line c
+  pub reached : m .numbers .reached c ≡ line c
+
+-- A restart gives a cabinet that rolls back to the line noted: the greatest choice of the journal's stored numbers, whichever phase it is made in.
+pub record RestartRight (L : Limits) (n : CardSet) (j : Journal) (m : Model) : Type 0 where
+  pub rolls : isRolling (m .phase) ≡ true
+  pub line : Numbers
+  pub marked : CardSet
+  pub noted : noteRestart L j .fix ≡ fixing line marked
+  pub choice : GreatestChoice L j line
+  pub fixed-so : (c : ℕ) → c < L .width → n c ≡ true → m .line c ≡ line c
 
 -- Call 3: the change of number k is in the history; a card that it wrote is brought to the state that it made there, and a card only read stays at its state
 pub record TakeRight (j : Journal) (k c : ℕ) (m m' : Model) : Type 0 where
@@ -103,10 +121,10 @@ CallRight L n cs trimCall a m m' = Unit {0}
 CallRight L n cs (safeCall k) a m m' = SafeRight L (journal L n cs) k a
 -- "on a lost card its last accepted store or roll stands .. and nothing above"
 CallRight L n cs (loseCall cards) a m m' = (c : ℕ) → c < L .width → n c ≡ true → cards c ≡ true → m' .numbers .held c ≡ lastKept L n cs c
-CallRight L n cs (fixCall x y) a m m' = (rows : List CardRow) (numbers : List ℕ) → a ≡ fixed rows numbers → FixRight L n (journal L n cs) rows numbers
+CallRight L n cs (fixCall x y) a m m' = FixRight L n (journal L n cs) a
 CallRight L n cs (rollCall c) a m m' = RollRight (journal L n cs) c m'
 CallRight L n cs (sheetCall c places) a m m' = Unit {0}
-CallRight L n cs restartCall a m m' = Unit {0}
+CallRight L n cs restartCall a m m' = RestartRight L n (journal L n cs) m'
 
 -- the sheets of the cabinet m, joined, restart to the line
 pub record RestartsTo (C : Codec) (L : Limits) (n : CardSet) (m : Model) (line : Numbers) : Type 0 where
@@ -122,10 +140,11 @@ pub record CabinetRight (C : Codec) (L : Limits) (n : CardSet) (cs : Calls) (m :
   -- cuts: the stored number of each card, and the last state of its sheet, is its last accepted store or roll
   pub stored-kept : (c : ℕ) → c < L .width → n c ≡ true → m .numbers .stored c ≡ lastKept L n cs c
   pub sheet-kept : (c : ℕ) → c < L .width → n c ≡ true → C .last L m c ≡ lastKept L n cs c
-  -- "After an accepted fix, and after each later call short of the last roll, the sheets of all cards, joined, restart to the line answered": the engine's memory is gone
+  -- "After an accepted fix, and after each later call short of the last roll, the sheets of all cards, joined, restart to the line answered": the engine's memory is gone; so after a restart too
   pub sheets-give-line : (line : Numbers) (marked : CardSet) → journal L n cs .fix ≡ fixing line marked → RestartsTo C L n m line
-  -- while rolling a restart is never refused
-  pub restart-accepted : isRolling (m .phase) ≡ true → C .verdict (C .joined L m) ≡ Accepted
+  -- a restart is accepted in every phase while another session can follow, and in the last session it is refused with 24
+  pub restart-accepted : m .session < L .greatestNumber → C .verdict (C .joined L m) ≡ Accepted
+  pub restart-last : L .greatestNumber ≤ m .session → C .verdict (C .joined L m) ≡ Refused LimitReached
 
 -- throughout a list: of each call, and of the cabinet after it
 abbrev pub Throughout : {C : Codec} {L : Limits} {n : CardSet} {cs : Calls} {m : Model} → Run C L n cs m → Type 0
@@ -135,26 +154,6 @@ Throughout {C} {L} {n} (next {cs} {m} r call x p) =
     × ((a : Answer) → planOf C L m call x .reply ≡ accepted a → CallRight L n cs call a m (afterCall C L m call x))
     × CabinetRight C L n (further cs call (planOf C L m call x .reply)) (afterCall C L m call x)
 
--- "While rolling, the list may also hold a restart"
-abbrev pub WhileRolling : Call → Model → Type 0
-WhileRolling (openCall reads writes) m = Unit {0}
-WhileRolling (voteCall k c agrees) m = Unit {0}
-WhileRolling (takeCall k c) m = Unit {0}
-WhileRolling (withdrawCall k) m = Unit {0}
-WhileRolling (storeCall c s) m = Unit {0}
-WhileRolling trimCall m = Unit {0}
-WhileRolling (safeCall k) m = Unit {0}
-WhileRolling (loseCall cards) m = Unit {0}
-WhileRolling (fixCall a b) m = Unit {0}
-WhileRolling (rollCall c) m = Unit {0}
-WhileRolling (sheetCall c places) m = Unit {0}
-WhileRolling restartCall m = isRolling (m .phase) ≡ true
-
--- every restart of a list stands in phase rolling
-abbrev pub RestartsRolling : {C : Codec} {L : Limits} {n : CardSet} {cs : Calls} {m : Model} → Run C L n cs m → Type 0
-RestartsRolling start = Unit {0}
-RestartsRolling (next {cs} {m} r call x p) = RestartsRolling r × WhileRolling call m
-
--- demands 2 and 3, for every list of calls from a fresh cabinet of the cards n in which every restart stands in phase rolling
+-- demands 2 and 3, for every list of calls from a fresh cabinet of the cards n, with losses anywhere and restarts in any phase
 abbrev pub Demands : Codec → Limits → CardSet → Type 0
-Demands C L n = (cs : Calls) (m : Model) (r : Run C L n cs m) → RestartsRolling r → Throughout r
+Demands C L n = (cs : Calls) (m : Model) (r : Run C L n cs m) → Throughout r

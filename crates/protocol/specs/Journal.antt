@@ -3,7 +3,10 @@ use Prim.Native.Nat.{ℕ}
 use mathlib.Core.Bool.{Bool, cond}
 use mathlib.Core.List.{List, [], _∷_, _++_}
 use lib.Dec.{eqb}
-use Rattle.history.specs.Change.{CardSet, Change, Numbers, touches}
+use lib.ListN.{length}
+use Rattle.history.specs.Change.{CardSet, Change, Numbers, touches, historyOf}
+use Rattle.history.specs.Vector.{stateVector}
+use Rattle.history.specs.Line.{line}
 use Rattle.protocol.specs.Model.{Limits, noCards, within, withCard}
 use Rattle.protocol.specs.Edit.{put}
 use Rattle.protocol.specs.Plan.{CardRow}
@@ -85,3 +88,18 @@ noteRollOf L cards j c (fixing line marked) =
 
 abbrev pub noteRoll : Limits → CardSet → Journal → ℕ → Journal
 noteRoll L cards j c = noteRollOf L cards j c (j .fix)
+
+-- the greatest choice of the stored numbers, by the history
+abbrev pub greatestLine : Limits → Journal → Numbers
+greatestLine L j =
+    line (L .width) (historyOf (j .history)) (j .start) (length (j .history)) (stateVector (L .width) (historyOf (j .history)) (j .start) (length (j .history))) (j .stored)
+
+-- A restart while rolling notes nothing: "the engine's memory is gone", and the line stands. In the other phases, where no line is noted yet, it strikes the undecided changes,
+-- and the greatest choice of the stored numbers is the line, with no card rolled.
+abbrev pub noteRestartOf : Limits → Journal → Fixing → Journal
+noteRestartOf L j unfixed =
+    record { start = j .start; stored = j .stored; undecided = λ k. struck; history = j .history; fix = fixing (greatestLine L j) noCards }
+noteRestartOf L j (fixing line marked) = j
+
+abbrev pub noteRestart : Limits → Journal → Journal
+noteRestart L j = noteRestartOf L j (j .fix)

@@ -7,4 +7,4 @@ pub mod Journal
 pub mod Codec
 pub mod Run
 pub mod Demands
-pub mod Anywhere
+pub mod Choices

@@ -74,6 +74,10 @@ pub record Model : Type 0 where
 abbrev pub noCards : CardSet
 noCards c = false
 
+-- "cards already rolled", in phase rolling alone
+abbrev pub hasRolled : Model → CardSet
+hasRolled m c = isRolling (m .phase) && m .rolled c
+
 abbrev pub freePlace : OpenChange
 freePlace = record { change = noChange; yes = noCards; taken = noCards; vector = noEntries }
 

@@ -12,7 +12,7 @@ use Rattle.protocol.specs.Edit.{put}
 use Rattle.protocol.specs.Plan.{CardRow, Answer, done, opened, safe, unsafe, fixed, written, Reply, accepted, refused, Plan, afterPlan}
 use Rattle.protocol.specs.Calls.{freshModel, barred, isLost, openPlan, votePlan, takePlan, withdrawPlan, storePlan, trimPlan, safePlan, losePlan, fixPlan, rollPlan}
 use Rattle.protocol.specs.Codec.{Codec, sheetPlan}
-use Rattle.protocol.specs.Journal.{Journal, Fixing, unfixed, fixing, emptyJournal, noteOpen, noteVote, noteStruck, noteStore, noteLose, noteFix, noteRoll}
+use Rattle.protocol.specs.Journal.{Journal, Fixing, unfixed, fixing, emptyJournal, noteOpen, noteVote, noteStruck, noteStore, noteLose, noteFix, noteRoll, noteRestart}
 
 -- calls 1 to 10 with the lengths of the lists lent, sheet writing with the buffer's, and restart
 pub data Call : Type 0 where
@@ -133,7 +133,7 @@ noteAccepted L n j (loseCall cards) a = noteLose j
 noteAccepted L n j (fixCall x y) a = noteFix j (rowsIn a)
 noteAccepted L n j (rollCall c) a = noteRoll L n j c
 noteAccepted L n j (sheetCall c places) a = j
-noteAccepted L n j restartCall a = j
+noteAccepted L n j restartCall a = noteRestart L j
 
 -- "Refused call .. : nothing."
 abbrev pub note : Limits → CardSet → Journal → Call → Reply → Journal

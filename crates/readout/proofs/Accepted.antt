@@ -81,10 +81,10 @@ readout-pages input =
     ⊎-elim (λ (e : pagesRead input .verdict ≡ Accepted). pages-back (pagesRead input .pages) (accepted-pages input e .whole))
     (λ (e : pagesRead input .pages ≡ []). rw e) (read-or input)
 
--- and such sheets, written, are read back and accepted
-pub pages-accepted : (ps : List Page) → Whole formats ps → jointVerdict ps ≡ Accepted → length (pagesBytes formats ps) ≤ 65536 → pagesRead (pagesBytes formats ps) ≡ record { pages = ps; verdict = Accepted }
+-- and whole sheets, written, are read back and judged
+pub pages-judged : (ps : List Page) → Whole formats ps → length (pagesBytes formats ps) ≤ 65536 → pagesRead (pagesBytes formats ps) ≡ judged (jointVerdict ps) ps
 unfolding pagesRead
-pages-accepted ps w j h = rw (le-ltb 65536 (length (pagesBytes formats ps)) h, whole-back ps w, j)
+pages-judged ps w h = rw (le-ltb 65536 (length (pagesBytes formats ps)) h, whole-back ps w)
 
 -- ---- sheets that 11, 24 and 10 let pass
 pub record Joint (ps : List Page) : Type 0 where
