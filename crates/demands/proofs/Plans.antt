@@ -20,9 +20,9 @@ use Rattle.protocol.specs.Model.{OpenChange, Model, freePlace, isUp, isCard, is
 use Rattle.protocol.specs.Sound.{sound, numbersSound, roomToWrite}
 use Rattle.protocol.specs.Edit.{Edit}
 use Rattle.protocol.specs.Edit as edit
-use Rattle.protocol.specs.Plan.{Plan, Check}
+use Rattle.protocol.specs.Plan.{Plan, Check, Passed}
 use Rattle.protocol.specs.Calls.{openedChange, openChecks, openPlan, votedYes, voted, voteChecks, votePlan, tookShare, shareEdit, takeChecks, takePlan, withdrawChecks, withdrawPlan, storeChecks, storePlan, lineOf, lines, safeChecks, safePlan, trimChecks, trimPlan, loseChecks, losePlan, fixChecks, fixPlan, rollChecks, rollPlan, allRolled}
-use Rattle.protocol.proofs.Steps.{Passed, checked-case, not-not, card-below, known-place}
+use Rattle.protocol.proofs.Steps.{checked-case, not-not, card-below, known-place}
 use Rattle.verdicts.specs.Shape.{limits16, at}
 use Rattle.verdicts.proofs.Limits.{width16, inHand48, places8}
 use Rattle.cabinet.specs.declared.Cabinet.{Cabinet}

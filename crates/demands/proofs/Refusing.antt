@@ -22,6 +22,10 @@ use Rattle.card_sheet.specs.Card.{bufferAfter}
 use Rattle.cabinet.specs.declared.Cabinet.{Cabinet}
 use Rattle.cabinet.specs.View.{view}
 use Rattle.cabinet.specs.Apply.{Carried, applyAll}
+use Rattle.codec.specs.Sheets.{restartReply}
+use Rattle.readout.specs.Joint.{readoutOf}
+use Rattle.restart.specs.Restart.{cabinetFor}
+use Rattle.joined.specs.Joined.{ownSheets, goingOn}
 use Rattle.demands.specs.Lists.{Asked, opening, vote, take, withdraw, store, trim, safe, lose, fix, roll, sheet, restart, callOf, lent, Answered}
 use Rattle.demands.specs.Claims.{Refuses16, Demand1}
 
@@ -73,7 +77,7 @@ demand-1-holds s asked t after r d = refuses asked d
         }
     refuses restart d =
         record {
-          listed = demand-1 codec limits16 (view s) run.restartCall no-choice .listed r (sym (d .0 .told .answer));
-          cabinet = d .0 .cabinet;
+          listed = demand-1 codec limits16 (view s) run.restartCall no-choice .listed r (sym (d .0 .answer));
+          cabinet = d .0 .cabinet ∙ ap (λ (y : Reply). goingOn y (cabinetFor (restartReply (ownSheets s)) (readoutOf (ownSheets s) .readout)) s) (sym (d .0 .answer));
           lists = d .1;
         }

@@ -2,7 +2,7 @@
 use Prim.Native.Nat.{ℕ, _+_, _*_, _≤_, _<_}
 use mathlib.Core.Path.{_≡_, refl, sym, _∙_, ap, subst, subst₂}
 use mathlib.Core.Bool.{Bool, true, false, not, _&&_, _||_, cond}
-use mathlib.Core.List.{List, []}
+use mathlib.Core.List.{List, [], _∷_}
 use mathlib.Core.Logic.{_⊎_, inl, inr, by-cases}
 use native.Mathlib.Decide.{decLt}
 use native.Mathlib.Omega.{arith}
@@ -19,18 +19,19 @@ use Rattle.frame.specs.Format.{formats}
 use Rattle.history.specs.Change.{Numbers, touches}
 use Rattle.codec.specs.Sheets.{codec}
 use Rattle.protocol.specs.Model.{OpenChange, Model, isOpen}
-use Rattle.protocol.specs.Plan.{Answer, done, Reply, accepted, refused, Plan, afterPlan}
+use Rattle.protocol.specs.Plan.{Answer, done, Reply, accepted, refused, _⇒_, Plan, checked, afterPlan}
 use Rattle.protocol.specs.Calls.{freshRefused, freshModel, bars, barred, openPlan, fixPlan}
 use Rattle.protocol.proofs.Steps.{checked-case, not-not}
 use Rattle.protocol.proofs.Claims.{not-both}
-use Rattle.refusal.specs.declared.Refusal.the-variants.{CardCount}
+use Rattle.refusal.specs.declared.Refusal.the-variants.{CardCount, BadCabinet}
 use Rattle.sheet.specs.declared.Readout.{Readout}
 use Rattle.sheet.specs.Walk.{placeOf}
 use Rattle.readout.specs.Joint.{readoutOf}
-use Rattle.protocol.specs.Codec.{sheetChecks, sheetPlan}
+use Rattle.protocol.specs.Sound.{sound}
+use Rattle.protocol.specs.Codec.{sheetChecks, sheetPlan, verdictChecks}
 use Rattle.codec.specs.Sheets.{joinedSheets, restartReply, restartedFrom}
 use Rattle.restart.proofs.Ring.{storedIn, isIn, vectorIn, ringModel}
-use Rattle.protocol.specs.Run.{Call, Choice, Proper, planOf, afterCall, Calls, none, further, Run, verdictReply, verdictCabinet}
+use Rattle.protocol.specs.Run.{Call, Choice, Proper, planOf, afterCall, Calls, none, further, Run, verdictReply, afterRestart}
 use Rattle.protocol.specs.Run as run
 use Rattle.protocol.specs.Demands as model
 use Rattle.codec.specs.Claims.{SheetLimits}
@@ -42,7 +43,8 @@ use Rattle.cabinet.specs.declared.Cabinet.{Cabinet}
 use Rattle.cabinet.specs.View.{view}
 use Rattle.cabinet.specs.Apply.{Carried, applyAll}
 use Rattle.cabinet.specs.Fresh.{Freshly, zeroCabinet, freshHead, voidHead}
-use Rattle.demands.specs.Lists.{Asked, opening, vote, take, withdraw, store, trim, safe, lose, fix, roll, sheet, restart, callOf, Typed, Sized, goingOn, Answered, List16, start, next}
+use Rattle.joined.specs.Joined.{ownSheets, goingOn}
+use Rattle.demands.specs.Lists.{Asked, opening, vote, take, withdraw, store, trim, safe, lose, fix, roll, sheet, restart, callOf, Typed, Sized, Answered, List16, start, next}
 use Rattle.demands.specs.Claims.{RestartGives, CabinetRight16, Throughout, Demands23}
 use Rattle.verdicts.proofs.Held.{free-fits}
 use Rattle.sheet.proofs.Lay as lay
@@ -135,16 +137,19 @@ restarted-sized r z =
       };
     }
 
-restarted-shows : (v : Verdict) (bytes : List ℕ) (s handed t : Cabinet) → Sized s → Narrow (view s) → restartReply bytes ≡ v → handed ≡ cabinetFor v (readoutOf bytes .readout)
-    → t ≡ goingOn (verdictReply v) handed s → Shows (verdictCabinet v (restartedFrom limits16 bytes) (view s)) t
-restarted-shows Accepted bytes s handed t z w v h e =
-    subst (Shows (restartedFrom limits16 bytes)) (sym (e ∙ h))
+-- the cabinet after a restart, by whether 28 lets the old one pass and by the verdict on its sheets
+restarted-shows : (b : Bool) (v : Verdict) (bytes : List ℕ) (s t : Cabinet) → Sized s → Narrow (view s) → restartReply bytes ≡ v
+    → t ≡ goingOn (checked (not b ⇒ BadCabinet ∷ verdictChecks v) done [] .reply) (cabinetFor v (readoutOf bytes .readout)) s
+    → Shows (afterRestart (checked (not b ⇒ BadCabinet ∷ verdictChecks v) done [] .reply) (restartedFrom limits16 bytes) (view s)) t
+restarted-shows true Accepted bytes s t z w v e =
+    subst (Shows (restartedFrom limits16 bytes)) (sym e)
     (record {
       same = restarts.restarted-shows bytes v;
       sized = restarted-sized (readoutOf bytes .readout) (restarts.readout-sized bytes v);
       narrow = subst Narrow (restarts.ring-shows bytes v) (restarted-narrow (readoutOf bytes .readout));
     })
-restarted-shows (Refused r) bytes s handed t z w v h e = subst (Shows (view s)) (sym e) (shown s z w)
+restarted-shows true (Refused r) bytes s t z w v e = subst (Shows (view s)) (sym e) (shown s z w)
+restarted-shows false v bytes s t z w q e = subst (Shows (view s)) (sym e) (shown s z w)
 
 pub step : (s : Cabinet) → Sized s → Narrow (view s) → (asked : Asked) → Typed asked → (reply : Reply) (t : Cabinet) (after : List ℕ) → Answered s asked reply t after → Step s (callOf asked) reply t
 step s z w (opening reads writes) y reply t after d =
@@ -177,14 +182,11 @@ step s z w (sheet c buffer) y reply t after d =
       after = planned s z w (sheetPlan codec limits16 (view s) c (length buffer)) t (sheet-fits s c (length buffer)) (d .carried .cabinet);
     }
 step s z w restart y reply t after d =
-    let bytes : List ℕ = joinedSheets formats limits16 (view s) in
     record {
       choice = no-choice;
       proper = tt;
-      replied = d .0 .told .answer;
-      after =
-          restarted-shows (restartReply bytes) bytes s (d .0 .handed) t z w refl (d .0 .told .cabinet)
-          (d .0 .cabinet ∙ ap (λ (x : Reply). goingOn x (d .0 .handed) s) (d .0 .told .answer));
+      replied = d .0 .answer;
+      after = restarted-shows (sound limits16 (view s)) (restartReply (ownSheets s)) (ownSheets s) s t z w refl (d .0 .cabinet);
     }
 
 -- ---- whole lists

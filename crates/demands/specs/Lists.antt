@@ -5,10 +5,8 @@ use mathlib.Core.Bool.{Bool}
 use mathlib.Core.List.{List, []}
 use lib.ListN.{length}
 use Rattle.bits.specs.Member.{member}
-use Rattle.frame.specs.Format.{formats}
-use Rattle.protocol.specs.Plan.{Reply, accepted, refused, done}
+use Rattle.protocol.specs.Plan.{Reply, accepted, done}
 use Rattle.protocol.specs.Calls.{votePlan, takePlan, withdrawPlan, storePlan, trimPlan, safePlan, losePlan, rollPlan}
-use Rattle.codec.specs.Sheets.{joinedSheets}
 use Rattle.protocol.specs.Run as run
 use Rattle.protocol.specs.Run.{Call, Calls, none, further}
 use Rattle.verdicts.specs.Shape.{limits16}
@@ -22,7 +20,7 @@ use Rattle.cabinet.specs.Fixing.{FixCarried}
 use Rattle.cabinet.specs.Writing.{SheetCarried}
 use Rattle.card_sheet.specs.Card.{sheetReplyOf}
 use Rattle.write.specs.declared.Written.{Written}
-use Rattle.restart.specs.Restart.{Restarted}
+use Rattle.joined.specs.Joined.{FromOwnSheets}
 use Rattle.cabinet.specs.Fresh.{Freshly}
 
 -- a call with its arguments as the code takes them: a set is a number of 16 bits, and a lent list comes with what stands in it
@@ -116,17 +114,6 @@ pub record SheetAnswered (s : Cabinet) (card : ℕ) (before : List ℕ) (reply :
   pub carried : SheetCarried s card before after told next
   pub answer : reply ≡ sheetReplyOf after told
 
--- after a refused restart the caller goes on with the cabinet it has
-abbrev pub goingOn : Reply → (handed s : Cabinet) → Cabinet
-goingOn (accepted a) handed s = handed
-goingOn (refused r) handed s = s
-
--- restart from the sheets of all cards, joined: what its contract says of these bytes
-pub record RestartAnswered (s : Cabinet) (reply : Reply) (next : Cabinet) : Type 0 where
-  pub handed : Cabinet
-  pub told : Restarted (joinedSheets formats limits16 (view s)) reply handed
-  pub cabinet : next ≡ goingOn reply handed s
-
 -- what a call answers, the cabinet that it hands back, and the list or buffer lent after it: the contract of each method
 abbrev pub Answered : Cabinet → Asked → Reply → Cabinet → List ℕ → Type 0
 Answered s (opening reads writes) reply next after = OpenCarried s reads writes reply next × (after ≡ [])
@@ -140,7 +127,7 @@ Answered s (lose cards) reply next after = Carried s (losePlan limits16 (view s)
 Answered s (fix places list) reply next after = FixAnswered s places list reply next after
 Answered s (roll c) reply next after = Carried s (rollPlan limits16 (view s) c) reply next × (after ≡ [])
 Answered s (sheet c buffer) reply next after = SheetAnswered s c buffer reply next after
-Answered s restart reply next after = RestartAnswered s reply next × (after ≡ [])
+Answered s restart reply next after = FromOwnSheets s reply next × (after ≡ [])
 
 -- the calls made from a fresh cabinet of n cards, and the cabinet that they lead to
 pub data List16 (n : ℕ) : Calls → Cabinet → Type 0 where

@@ -10,8 +10,7 @@ ghost use Rattle.verdicts.specs.Shape.{limits16};
 ghost use Rattle.verdicts.specs.Answers.{replyOf};
 ghost use Rattle.card_sheet.specs.Card.{lengthTold};
 ghost use Rattle.cabinet.specs.View.{view};
-ghost use Rattle.demands.specs.Lists.{goingOn, RestartAnswered};
-ghost use Rattle.joined.specs.Joined.{FromOwnSheets};
+ghost use Rattle.joined.specs.Joined.{goingOn, FromOwnSheets};
 use cabinet::Answer;
 use cabinet::Cabinet;
 use refusal::Refusal;
@@ -70,7 +69,7 @@ fn going_on(a: Answer, c: Cabinet) -> Answer
 // Restart of a cabinet that passes 28.
 fn restart_sound(c: Cabinet) -> Answer
     requires { ⌜ sound limits16 (view c) ≡ true ⌝ }
-    ensures { λ r. ⌜ RestartAnswered c (replyOf (r .reply)) (r .cabinet) ⌝ }
+    ensures { λ r. ⌜ FromOwnSheets c (replyOf (r .reply)) (r .cabinet) ⌝ }
 {
     let core = c.core;
     let head = core.head;

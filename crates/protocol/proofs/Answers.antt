@@ -21,13 +21,15 @@ use Rattle.history.proofs.Lines.{line-cut, cut-below}
 use Rattle.history.proofs.Theorems.{line-whole}
 use Rattle.history.proofs.Reports.{cut-same}
 use Rattle.refusal.specs.declared.Refusal.the-variants.{LimitReached}
+use Rattle.refusal.specs.declared.Verdict.the-variants.{Accepted, Refused}
+use Rattle.protocol.specs.Sound.{sound}
 use Rattle.protocol.specs.Codec.{Codec}
 use Rattle.protocol.specs.Model.{Limits, Phase, noCards, up, down, rolling, isUp, isDown, isRolling, OpenChange, Model, isCard, isOpen, decided, toWrite, awaitsWrite, placeOf, isKnown, withCard}
 use Rattle.protocol.specs.Edit.{Edit, place, grow, raise, fall, halt, lower, renew, editedAll}
-use Rattle.protocol.specs.Plan.{CardRow, Answer, safe, unsafe, fixed, accepted, Check, Plan, checked, afterPlan}
+use Rattle.protocol.specs.Plan.{CardRow, Answer, safe, unsafe, fixed, accepted, Check, Plan, checked, afterPlan, Passed}
 use Rattle.protocol.specs.Calls.{lineOf, cardRows, someFrameAbove, hasFrame, writesLeft, isSafe, isLost, tookShare, takeChecks, safeChecks, loseChecks, fixChecks, rollChecks, allRolled}
 use Rattle.protocol.specs.Journal.{Journal, Fixing, fixing, greatestLine, noteRestartOf}
-use Rattle.protocol.specs.Run.{Call, openCall, voteCall, takeCall, withdrawCall, storeCall, trimCall, safeCall, loseCall, fixCall, rollCall, sheetCall, restartCall, Choice, Proper, planOf, afterCall, Calls, Run, start, next, journal, verdictReply, lastKept}
+use Rattle.protocol.specs.Run.{Call, openCall, voteCall, takeCall, withdrawCall, storeCall, trimCall, safeCall, loseCall, fixCall, rollCall, sheetCall, restartCall, Choice, Proper, planOf, afterCall, Calls, Run, start, next, journal, lastKept}
 use Rattle.protocol.specs.Demands.{H, decisions, GreatestChoice, FixRight, RollRight, RestartRight, TakeRight, SafeRight, CallRight, RestartsTo, CabinetRight, Throughout, Demands}
 use Rattle.protocol.proofs.Taking.{put-same, reached-next}
 use Rattle.protocol.proofs.Intact.{lineAt, line-same}
@@ -36,10 +38,10 @@ use Rattle.protocol.proofs.Running.{About, StandsFor, Running}
 use Rattle.protocol.proofs.Rolling.{AboutLine}
 use Rattle.protocol.proofs.Stores.{line-right}
 use Rattle.protocol.proofs.Lost.{Above, Numbered-as, frames-above, above-frames, lost-right, right-lost}
-use Rattle.protocol.proofs.Steps.{Passed, checked-case, not-not, card-below, known-place, up-only}
+use Rattle.protocol.proofs.Steps.{checked-case, not-not, card-below, known-place, up-only}
 use Rattle.protocol.proofs.Invariant.{RollingBack, Invariant, invariant-sound}
 use Rattle.protocol.proofs.Claims.{not-both}
-use Rattle.protocol.proofs.Lists.{run-invariant, vectors-right, base-stored}
+use Rattle.protocol.proofs.Lists.{restart-reply, run-invariant, vectors-right, base-stored}
 use Rattle.protocol.proofs.Running.{Carded}
 use Rattle.protocol.proofs.Restart.{Recalled, Recallable, recallable, line-again, Remade, CodecLaw}
 use Rattle.protocol.proofs.Kept.{stored-last}
@@ -372,11 +374,14 @@ call-right C L n carded law r (sheetCall c places) x p a e = tt
 call-right C L n carded law {cs} {m} r restartCall x p a e =
     by-cases (decLt (m .session) (L .greatestNumber))
     (λ z. let q : Remade C L m = law .remade m (journal L n cs) (v .present-is) (recallable L n m (journal L n cs) v) z in
-    rw (q .accepts) (restart-right L n m (journal L n cs) v (C .restarted L (C .joined L m)) (q .recalled)))
-    (λ z. not-both a LimitReached (sym e ∙ ap verdictReply (law .last-session m (journal L n cs) (v .present-is) (recallable L n m (journal L n cs) v) (omega (arith, z)))))
+    rw (restart-reply C L m Accepted fine (q .accepts)) (restart-right L n m (journal L n cs) v (C .restarted L (C .joined L m)) (q .recalled)))
+    (λ z. not-both a LimitReached (sym e ∙ restart-reply C L m (Refused LimitReached) fine (law .last-session m (journal L n cs) (v .present-is) (recallable L n m (journal L n cs) v) (omega (arith, z)))))
   where
     v : Invariant L n m (journal L n cs)
     v = run-invariant carded law r
+
+    fine : sound L m ≡ true
+    fine = invariant-sound L n m (journal L n cs) v
 
 cabinet-right : (C : Codec) (L : Limits) (n : CardSet) → Carded L n → CodecLaw C L n → {cs : Calls} {m : Model} → Run C L n cs m → CabinetRight C L n cs m
 cabinet-right C L n carded law {cs} {m} r =

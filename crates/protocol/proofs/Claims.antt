@@ -1,21 +1,20 @@
 -- Demand 1, for any limits, any cabinet and any arguments. Assumes nothing.
 use Prim.Native.Nat.{ℕ, _-_, _≤_}
-use mathlib.Core.Path.{_≡_, refl}
+use mathlib.Core.Path.{_≡_, refl, sym, _∙_, ap}
+use mathlib.Core.Bool.{true, false}
 use mathlib.Core.Logic.{inl, inr}
-use mathlib.Core.List.{List}
+use mathlib.Core.List.{List, [], _∷_}
 use native.Mathlib.Omega.{arith}
 use lib.Dec.{lit≤}
 use Rattle.refusal.specs.declared.Refusal.{Refusal}
 use Rattle.refusal.specs.declared.Refusal.the-variants.{CardCount, NoSuchCard, BothSetsEmpty, TooShort, BadLine, BadCheck, BadHeader, EndOrMore, BadFrame, TwoVectors, SessionsApart, TooLong, WrongPhase, Barred, NoPlace, InHandFull, LimitReached, NotAwaited, AlreadyDecided, StoreOutside, BadCabinet, NotDecided, AlreadyRolled}
 use Rattle.refusal.specs.Number.{numberOf}
-use Rattle.refusal.specs.declared.Verdict.{Verdict}
-use Rattle.refusal.specs.declared.Verdict.the-variants.{Accepted, Refused}
-use Rattle.protocol.specs.Codec.{sheetChecks}
+use Rattle.protocol.specs.Codec.{Codec, sheetChecks}
 use Rattle.protocol.specs.Model.{Limits, Model}
 use Rattle.protocol.specs.Edit.{Edit}
-use Rattle.protocol.specs.Plan.{Answer, done, accepted, refused, Check, Plan, checked, afterPlan}
+use Rattle.protocol.specs.Plan.{Answer, Reply, accepted, refused, Check, _⇒_, Plan, checked, Passed, Due, afterPlan}
 use Rattle.protocol.specs.Calls.{openChecks, voteChecks, takeChecks, withdrawChecks, storeChecks, trimChecks, safeChecks, loseChecks, fixChecks, rollChecks}
-use Rattle.protocol.specs.Run.{Call, openCall, voteCall, takeCall, withdrawCall, storeCall, trimCall, safeCall, loseCall, fixCall, rollCall, sheetCall, restartCall, planOf, afterCall, verdictReply, verdictCabinet}
+use Rattle.protocol.specs.Run.{Call, openCall, voteCall, takeCall, withdrawCall, storeCall, trimCall, safeCall, loseCall, fixCall, rollCall, sheetCall, restartCall, Choice, checksOf, planOf, afterCall, afterRestart}
 use Rattle.protocol.specs.Demands.{Listed, Demand1}
 use Rattle.protocol.proofs.Steps.{checked-case}
 
@@ -52,9 +51,42 @@ refusal-keeps : (L : Limits) (m : Model) (cs : List Check) (a : Answer) (es : Li
 refusal-keeps L m cs a es =
     checked-case (λ (p : Plan). (r : Refusal) → p .reply ≡ refused r → afterPlan L p m ≡ m) cs a es (λ x r e. refl) (λ ps r e. not-both a r e)
 
+-- the first check that fails refuses, and where none does the call is accepted
+refusal-due : (cs : List Check) (a : Answer) (es : List Edit) (r : Refusal) → checked cs a es .reply ≡ refused r → Due cs r
+refusal-due [] a es r e = not-both a r e
+refusal-due ((true ⇒ q) ∷ cs) a es r e = let z : q ≡ r = cc in inl (refl, z)
+refusal-due ((false ⇒ q) ∷ cs) a es r e = inr (refl, refusal-due cs a es r e)
+
+acceptance-passed : (cs : List Check) (a : Answer) (es : List Edit) (b : Answer) → checked cs a es .reply ≡ accepted b → Passed cs
+acceptance-passed cs a es = checked-case (λ (p : Plan). (b : Answer) → p .reply ≡ accepted b → Passed cs) cs a es (λ r b e. not-both b r (sym e)) (λ ps b e. ps)
+
+-- the reply of a call is that of its table
+by-table : (C : Codec) (L : Limits) (m : Model) (call : Call) (x : Choice) → (a : Answer) × (es : List Edit) × (planOf C L m call x ≡ checked (checksOf C L m call x) a es)
+by-table C L m (openCall reads writes) x = (_, _, refl)
+by-table C L m (voteCall k c agrees) x = (_, _, refl)
+by-table C L m (takeCall k c) x = (_, _, refl)
+by-table C L m (withdrawCall k) x = (_, _, refl)
+by-table C L m (storeCall c s) x = (_, _, refl)
+by-table C L m trimCall x = (_, _, refl)
+by-table C L m (safeCall k) x = (_, _, refl)
+by-table C L m (loseCall cards) x = (_, _, refl)
+by-table C L m (fixCall a b) x = (_, _, refl)
+by-table C L m (rollCall c) x = (_, _, refl)
+by-table C L m (sheetCall c places) x = (_, _, refl)
+by-table C L m restartCall x = (_, _, refl)
+
 pub demand-1 : Demand1
-demand-1 C L m call x = record { listed = λ r e. all-listed r; unchanged = unchanged call }
+demand-1 C L m call x =
+    record {
+      passed = λ b e. acceptance-passed (checksOf C L m call x) (t .0) (t .1) b (sym (ap (λ (p : Plan). p .reply) (t .2)) ∙ e);
+      due = λ r e. refusal-due (checksOf C L m call x) (t .0) (t .1) r (sym (ap (λ (p : Plan). p .reply) (t .2)) ∙ e);
+      listed = λ r e. all-listed r;
+      unchanged = unchanged call;
+    }
   where
+    t : (a : Answer) × (es : List Edit) × (planOf C L m call x ≡ checked (checksOf C L m call x) a es)
+    t = by-table C L m call x
+
     unchanged : (call : Call) (r : Refusal) → planOf C L m call x .reply ≡ refused r → afterCall C L m call x ≡ m
     unchanged (openCall reads writes) = refusal-keeps L m (openChecks L m reads writes (x .named)) _ _
     unchanged (voteCall k c agrees) = refusal-keeps L m (voteChecks L m k c) _ _
@@ -67,8 +99,4 @@ demand-1 C L m call x = record { listed = λ r e. all-listed r; unchanged = unch
     unchanged (fixCall a b) = refusal-keeps L m (fixChecks L m a b (x .lost)) _ _
     unchanged (rollCall c) = refusal-keeps L m (rollChecks L m c) _ _
     unchanged (sheetCall c places) = refusal-keeps L m (sheetChecks C L m c places) _ _
-    unchanged restartCall = by-verdict (C .verdict (C .joined L m))
-      where
-        by-verdict : (v : Verdict) (r : Refusal) → verdictReply v ≡ refused r → verdictCabinet v (C .restarted L (C .joined L m)) m ≡ m
-        by-verdict Accepted r e = not-both done r e
-        by-verdict (Refused q) r e = refl
+    unchanged restartCall = λ r e. ap (λ (y : Reply). afterRestart y (C .restarted L (C .joined L m)) m) e

@@ -14,7 +14,7 @@ use Rattle.history.specs.Change.{CardSet, touches, writers, historyOf}
 use Rattle.protocol.specs.Model.{Limits, Phase, up, down, rolling, isUp, isDown, isRolling, OpenChange, Model, isCard, within, withCard, placeOf}
 use Rattle.protocol.specs.Sound.{sound}
 use Rattle.protocol.specs.Edit.{Edit, place, fix, edited, editedAll, lower, renew, fall}
-use Rattle.protocol.specs.Plan.{Answer, Reply, accepted, refused, Check, Plan, checked, afterPlan}
+use Rattle.protocol.specs.Plan.{Answer, Reply, accepted, refused, Check, Plan, checked, afterPlan, Passed}
 use Rattle.protocol.specs.Calls.{freshModel, openChecks, openPlan, voteChecks, votePlan, shareEdit, tookShare, takeChecks, takePlan, withdrawChecks, withdrawPlan, storeChecks, storePlan, trimChecks, trimPlan, safeChecks, safePlan, loseChecks, losePlan, fixChecks, fixPlan, cardRows, lines, rollChecks, rollPlan, allRolled}
 use Rattle.protocol.specs.Journal.{Journal, Noted, asked, noteVoteOn, unfixed, fixing, emptyJournal, struck, noteOpen, noteVote, noteStruck, noteStore, noteLose, noteFix, noteRoll}
 use Rattle.protocol.proofs.Running.{Running}
@@ -23,7 +23,7 @@ use Rattle.protocol.proofs.Running.{Carded}
 use Rattle.protocol.proofs.Stores.{absent-still}
 use Rattle.protocol.proofs.Soundness.{running-sound}
 use Rattle.protocol.proofs.Rolling.{AboutLine, Rolling, LineNoted, rolling-sound, fix-rolls, fix-notes, lose-rolls, roll-rolls, renew-runs}
-use Rattle.protocol.proofs.Steps.{Passed, checked-case, noted, not-not, card-below, open-step, vote-step, withdraw-step, take-step, store-step, trim-step, lose-step}
+use Rattle.protocol.proofs.Steps.{checked-case, noted, not-not, card-below, open-step, vote-step, withdraw-step, take-step, store-step, trim-step, lose-step}
 
 -- rolling back to the line that the journal noted
 pub record RollingBack (L : Limits) (m : Model) (j : Journal) : Type 0 where

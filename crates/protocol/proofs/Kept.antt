@@ -9,16 +9,14 @@ use lib.Dec.{eqb}
 use borrow.Author.Tests.{eq-eqb, ne-eqb}
 use Rattle.laws.proofs.Logic.{test, clash, or-elim, not-true, cond-case}
 use Rattle.laws.proofs.Below.{all-at}
-use Rattle.refusal.specs.declared.Verdict.{Verdict}
-use Rattle.refusal.specs.declared.Verdict.the-variants.{Accepted, Refused}
 use Rattle.history.specs.Change.{CardSet, Numbers, touches}
-use Rattle.protocol.specs.Codec.{Codec, sheetChecks}
+use Rattle.protocol.specs.Codec.{Codec, sheetChecks, restartChecks}
 use Rattle.protocol.specs.Model.{Limits, Phase, up, down, rolling, isDown, isRolling, Model, within, withCard}
 use Rattle.protocol.specs.Edit.{put, Edit}
 use Rattle.protocol.specs.Plan.{Answer, accepted, Check, Plan, checked}
 use Rattle.protocol.specs.Calls.{openChecks, voteChecks, takeChecks, withdrawChecks, storeChecks, trimChecks, safeChecks, loseChecks, fixChecks, rollChecks}
 use Rattle.protocol.specs.Journal.{Journal, Noted, struck, asked, noteVoteOn, Fixing, unfixed, fixing, noteVote, noteRollOf, noteRestartOf}
-use Rattle.protocol.specs.Run.{Call, openCall, voteCall, takeCall, withdrawCall, storeCall, trimCall, safeCall, loseCall, fixCall, rollCall, sheetCall, restartCall, Choice, planOf, verdictReply, Calls, Run, start, next, note, journal, lineNoted, keptAfter, keptBy, lastKept}
+use Rattle.protocol.specs.Run.{Call, openCall, voteCall, takeCall, withdrawCall, storeCall, trimCall, safeCall, loseCall, fixCall, rollCall, sheetCall, restartCall, Choice, planOf, Calls, Run, start, next, note, journal, lineNoted, keptAfter, keptBy, lastKept}
 use Rattle.protocol.proofs.Taking.{put-same, put-other}
 use Rattle.protocol.proofs.Running.{Running}
 use Rattle.protocol.proofs.Steps.{checked-case, not-not}
@@ -118,11 +116,9 @@ module _ (C : Codec) (L : Limits) (n : CardSet) (m : Model) (j : Journal) (v : I
       checked-case (λ (p : Plan). keptBy j (rollCall d) (p .reply) x c ≡ journalKept (note L n j (rollCall d) (p .reply)) c) (rollChecks L m d) _ _ (λ r. same c lw h)
       (λ ps. roll-kept d (not-not (isRolling (m .phase)) (ps .1 .1 .0)) c lw h)
   kept-step (sheetCall d places) y c lw h = quiet (sheetCall d places) (sheetChecks C L m d places) _ _ (λ c. refl) (λ c. refl) c lw h
-  kept-step restartCall y c lw h = by-verdict (C .verdict (C .joined L m))
-    where
-      by-verdict : (w : Verdict) → keptBy j restartCall (verdictReply w) x c ≡ journalKept (note L n j restartCall (verdictReply w)) c
-      by-verdict Accepted = same c lw h ∙ restart-kept (j .fix) refl c
-      by-verdict (Refused q) = same c lw h
+  kept-step restartCall y c lw h =
+      checked-case (λ (p : Plan). keptBy j restartCall (p .reply) x c ≡ journalKept (note L n j restartCall (p .reply)) c) (restartChecks C L m) _ _ (λ r. same c lw h)
+      (λ ps. same c lw h ∙ restart-kept (j .fix) refl c)
 
 kept-journal : {C : Codec} {L : Limits} {n : CardSet} → Carded L n → CodecLaw C L n → {cs : Calls} {m : Model} → Run C L n cs m → (c : ℕ) → c < L .width → n c ≡ true → lastKept L n cs c ≡ journalKept (journal L n cs) c
 kept-journal carded law start c lw h = refl

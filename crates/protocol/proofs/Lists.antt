@@ -3,12 +3,15 @@ use Prim.Native.Nat.{ℕ, suc, _+_, _-_, _≤_, _<_}
 use mathlib.Core.Path.{_≡_, refl, sym, _∙_, ap, subst}
 use mathlib.Core.Bool.{true, false, cond}
 use mathlib.Core.Logic.{_⊎_, inl, inr, by-cases, ⊎-elim}
-use mathlib.Core.List.{List}
+use mathlib.Core.List.{List, []}
 use native.Mathlib.Nat.{le-trans}
 use native.Mathlib.Decide.{decLt, ℕ-discrete}
 use native.Mathlib.Omega.{arith}
 use lib.ListN.{length}
 use Rattle.laws.proofs.Logic.{test, clash}
+use Rattle.refusal.specs.declared.Refusal.the-variants.{LimitReached}
+use Rattle.refusal.specs.declared.Verdict.{Verdict}
+use Rattle.refusal.specs.declared.Verdict.the-variants.{Accepted, Refused}
 use Rattle.history.specs.Change.{CardSet, History, Numbers, writers, UpTo, historyOf}
 use Rattle.history.specs.Vector.{vector, entryOf, LastPreceding}
 use Rattle.history.proofs.Writers.{Maker, maker, makers-order}
@@ -17,20 +20,21 @@ use Rattle.history.proofs.Vectors.{vector-greatest}
 use Rattle.history.proofs.Precedence.{up-to-trans}
 use Rattle.history.proofs.Cuts.{writers-precede}
 use Rattle.history.proofs.Entries.{entry-of-greatest}
-use Rattle.protocol.specs.Codec.{Codec, sheetChecks}
+use Rattle.protocol.specs.Codec.{Codec, sheetChecks, verdictChecks, restartPlan}
 use Rattle.protocol.specs.Model.{Limits, Phase, up, down, rolling, isUp, isRolling, Model}
+use Rattle.protocol.specs.Sound.{sound}
 use Rattle.protocol.specs.Edit.{Edit}
-use Rattle.protocol.specs.Plan.{Answer, accepted, Check, Plan, checked, afterPlan}
+use Rattle.protocol.specs.Plan.{Answer, done, accepted, Check, Plan, checked, afterPlan}
 use Rattle.protocol.specs.Calls.{cardRows, openChecks, voteChecks, takeChecks, withdrawChecks, storeChecks, trimChecks, safeChecks, loseChecks, fixChecks, rollChecks}
 use Rattle.protocol.specs.Journal.{Journal, Fixing, unfixed, fixing, noteOpen, noteVote, noteStruck, noteStore, noteLose, noteFix, noteRoll}
-use Rattle.protocol.specs.Run.{Call, openCall, voteCall, takeCall, withdrawCall, storeCall, trimCall, safeCall, loseCall, fixCall, rollCall, sheetCall, restartCall, Choice, planOf, afterCall, verdictReply, verdictCabinet, Calls, Run, start, next, note, journal}
+use Rattle.protocol.specs.Run.{Call, openCall, voteCall, takeCall, withdrawCall, storeCall, trimCall, safeCall, loseCall, fixCall, rollCall, sheetCall, restartCall, Choice, planOf, afterCall, verdictReply, afterRestart, Calls, Run, start, next, note, journal}
 use Rattle.protocol.specs.Demands.{VectorsRight}
 use Rattle.protocol.proofs.Restart.{recallable, restart-again, Remade, CodecLaw}
 use Rattle.protocol.proofs.Taking.{Framed, ByTakenWriters}
 use Rattle.protocol.proofs.Running.{About, Carded, Running}
 use Rattle.protocol.proofs.Rolling.{AboutLine}
 use Rattle.protocol.proofs.Steps.{checked-case, noted}
-use Rattle.protocol.proofs.Invariant.{RollingBack, Invariant, fresh-invariant, next-open, next-vote, next-withdraw, next-take, next-store, next-trim, next-safe, next-lose, next-fix, next-roll}
+use Rattle.protocol.proofs.Invariant.{RollingBack, Invariant, invariant-sound, fresh-invariant, next-open, next-vote, next-withdraw, next-take, next-store, next-trim, next-safe, next-lose, next-fix, next-roll}
 
 -- the journal notes what the call's lemma says
 same-note : (L : Limits) (n : CardSet) (j j' : Journal) (call : Call) (cs : List Check) (a : Answer) (es : List Edit) → note L n j call (accepted a) ≡ j'
@@ -38,14 +42,25 @@ same-note : (L : Limits) (n : CardSet) (j j' : Journal) (call : Call) (cs : List
 same-note L n j j' call cs a es e =
     checked-case (λ (p : Plan). noted j j' (p .reply) ≡ note L n j call (p .reply)) cs a es (λ r. refl) (λ ps. sym e)
 
+-- of a cabinet that passes 28 a restart answers the verdict
+pub restart-reply : (C : Codec) (L : Limits) (m : Model) (v : Verdict) → sound L m ≡ true → C .verdict (C .joined L m) ≡ v → restartPlan C L m .reply ≡ verdictReply v
+restart-reply C L m v fine e = rw (fine, e) (same v)
+  where
+    same : (w : Verdict) → checked (verdictChecks w) done [] .reply ≡ verdictReply w
+    same Accepted = refl
+    same (Refused r) = refl
+
 -- a restart: accepted where another session can follow, and refused in the last one
 restart-step : (C : Codec) (L : Limits) (n : CardSet) → CodecLaw C L n → (m : Model) (j : Journal) → Invariant L n m j
-    → Invariant L n (verdictCabinet (C .verdict (C .joined L m)) (C .restarted L (C .joined L m)) m) (note L n j restartCall (verdictReply (C .verdict (C .joined L m))))
+    → Invariant L n (afterRestart (restartPlan C L m .reply) (C .restarted L (C .joined L m)) m) (note L n j restartCall (restartPlan C L m .reply))
 restart-step C L n law m j v =
     by-cases (decLt (m .session) (L .greatestNumber))
     (λ z. let e : Remade C L m = law .remade m j (v .present-is) (recallable L n m j v) z in
-    rw (e .accepts) (restart-again L n m (C .restarted L (C .joined L m)) j v z (e .recalled)))
-    (λ z. rw (law .last-session m j (v .present-is) (recallable L n m j v) (omega (arith, z))) v)
+    rw (restart-reply C L m Accepted fine (e .accepts)) (restart-again L n m (C .restarted L (C .joined L m)) j v z (e .recalled)))
+    (λ z. rw (restart-reply C L m (Refused LimitReached) fine (law .last-session m j (v .present-is) (recallable L n m j v) (omega (arith, z)))) v)
+  where
+    fine : sound L m ≡ true
+    fine = invariant-sound L n m j v
 
 step : (C : Codec) (L : Limits) (n : CardSet) → CodecLaw C L n → (m : Model) (j : Journal) → Invariant L n m j → (call : Call) (x : Choice)
     → Invariant L n (afterCall C L m call x) (note L n j call (planOf C L m call x .reply))

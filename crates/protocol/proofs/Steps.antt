@@ -14,7 +14,7 @@ use Rattle.history.specs.Change.{CardSet, touches}
 use Rattle.history.specs.Vector.{vectorOf}
 use Rattle.protocol.specs.Model.{Limits, Phase, up, down, rolling, isUp, isDown, isRolling, OpenChange, Model, freePlace, isCard, strays, isEmpty, withCard, isOpen, decided, placeOf, freeAt, isKnown, tracked, withYes, withVector}
 use Rattle.protocol.specs.Edit.{put, Edit, place, editedAll}
-use Rattle.protocol.specs.Plan.{Answer, Reply, accepted, refused, Check, _⇒_, Plan, checked, afterPlan}
+use Rattle.protocol.specs.Plan.{Answer, Reply, accepted, refused, Check, _⇒_, Plan, checked, Passed, afterPlan}
 use Rattle.protocol.specs.Calls.{bars, barred, someWritten, openChecks, openPlan, votedYes, voted, voteChecks, votePlan, shareEdit, tookShare, takeChecks, takePlan, withdrawChecks, withdrawPlan, storeChecks, storePlan, trimChecks, trimPlan, loseChecks, losePlan}
 use Rattle.protocol.specs.Journal.{Journal, struck, asked, noteOpen, noteVote, noteVoteOn, noteStruck, noteStore, noteLose}
 use Rattle.protocol.proofs.Taking.{put-same, put-other}
@@ -25,11 +25,6 @@ use Rattle.protocol.proofs.Takes.{write-keeps, read-keeps}
 use Rattle.protocol.proofs.Stores.{not-up, store-keeps, trim-keeps, lose-up-keeps, lose-down-keeps}
 
 -- ---- plans
--- no check fails
-abbrev pub Passed : List Check → Type 0
-Passed [] = Unit {0}
-Passed ((b ⇒ r) ∷ cs) = (b ≡ false) × Passed cs
-
 -- a fact of a plan: of each refusal, and of the acceptance where no check fails
 pub checked-case : (P : Plan → Type 0) (cs : List Check) (a : Answer) (es : List Edit) → ((r : Refusal) → P (record { reply = refused r; edits = [] }))
     → (Passed cs → P (record { reply = accepted a; edits = es })) → P (checked cs a es)

@@ -1,14 +1,15 @@
 -- How sheets are written and read: what a list of calls needs to know of it. Document 01's sheets are one such, and any other that meets its law may stand in a list.
 use Prim.Native.Nat.{ℕ}
-use mathlib.Core.Bool.{not}
+use mathlib.Core.Bool.{true, not}
 use mathlib.Core.List.{List, [], _∷_}
 use lib.Dec.{ltb}
 use lib.ListN.{length}
 use Rattle.refusal.specs.declared.Refusal.the-variants.{NoSuchCard, TooShort, BadCabinet}
 use Rattle.refusal.specs.declared.Verdict.{Verdict}
+use Rattle.refusal.specs.declared.Verdict.the-variants.{Accepted, Refused}
 use Rattle.protocol.specs.Model.{Limits, Model, isCard}
 use Rattle.protocol.specs.Sound.{sound}
-use Rattle.protocol.specs.Plan.{written, Check, _⇒_, Plan, checked}
+use Rattle.protocol.specs.Plan.{done, written, Check, _⇒_, Plan, checked}
 
 pub record Codec : Type 0 where
   -- the bytes of a card's sheet, and its last state
@@ -27,3 +28,15 @@ sheetChecks C L m c places =
 -- "A card's sheet may be written in every phase"; places is the length of the buffer lent
 abbrev pub sheetPlan : Codec → Limits → Model → (c places : ℕ) → Plan
 sheetPlan C L m c places = checked (sheetChecks C L m c places) (written (C .sheet L m c)) []
+
+-- restart from the sheets of all cards as this cabinet writes them, joined: no sheet of a cabinet that 28 refuses is written, and then it goes by the verdict on the bytes
+abbrev pub verdictChecks : Verdict → List Check
+verdictChecks Accepted = []
+verdictChecks (Refused r) = true ⇒ r ∷ []
+
+abbrev pub restartChecks : Codec → Limits → Model → List Check
+restartChecks C L m = not (sound L m) ⇒ BadCabinet ∷ verdictChecks (C .verdict (C .joined L m))
+
+-- it gives another cabinet, and no edits
+abbrev pub restartPlan : Codec → Limits → Model → Plan
+restartPlan C L m = checked (restartChecks C L m) done []

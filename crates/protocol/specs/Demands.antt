@@ -16,11 +16,11 @@ use Rattle.history.specs.Vector.{entryOf, LastPreceding}
 use Rattle.history.specs.Line.{lost}
 use Rattle.protocol.specs.Model.{Limits, isUp, isRolling, Model}
 use Rattle.protocol.specs.Sound.{sound}
-use Rattle.protocol.specs.Plan.{Answer, safe, fixed, accepted, refused}
+use Rattle.protocol.specs.Plan.{Answer, safe, fixed, accepted, refused, Passed, Due}
 use Rattle.protocol.specs.Calls.{freshModel}
 use Rattle.protocol.specs.Codec.{Codec}
 use Rattle.protocol.specs.Journal.{Journal, fixing, noteRestart}
-use Rattle.protocol.specs.Run.{Call, voteCall, takeCall, withdrawCall, openCall, storeCall, trimCall, safeCall, loseCall, fixCall, rollCall, sheetCall, restartCall, Choice, planOf, afterCall, Calls, none, further, Run, start, next, journal, lastKept}
+use Rattle.protocol.specs.Run.{Call, voteCall, takeCall, withdrawCall, openCall, storeCall, trimCall, safeCall, loseCall, fixCall, rollCall, sheetCall, restartCall, Choice, checksOf, planOf, afterCall, Calls, none, further, Run, start, next, journal, lastKept}
 
 -- ---- Demand 1, for any cabinet, a forged one too, and any arguments: "gets an answer or a refusal from document 01. A refusal changes neither the cabinet nor any lent list or buffer."
 -- (The lent lists and buffers are in the contracts of the calls.)
@@ -30,6 +30,10 @@ abbrev pub Listed : ℕ → Type 0
 Listed k = ((1 ≤ k) × (k ≤ 12)) ⊎ ((20 ≤ k) × (k ≤ 30))
 
 pub record Refuses (C : Codec) (L : Limits) (m : Model) (call : Call) (x : Choice) : Type 0 where
+  -- accepted, no row of the call's table fails
+  pub passed : (a : Answer) → planOf C L m call x .reply ≡ accepted a → Passed (checksOf C L m call x)
+  -- "The first failing row is the answer."
+  pub due : (r : Refusal) → planOf C L m call x .reply ≡ refused r → Due (checksOf C L m call x) r
   pub listed : (r : Refusal) → planOf C L m call x .reply ≡ refused r → Listed (numberOf r)
   pub unchanged : (r : Refusal) → planOf C L m call x .reply ≡ refused r → afterCall C L m call x ≡ m
 

@@ -1,6 +1,8 @@
 -- A call is a plan over the model: a table of checks, each with its refusal, in document 01's order; then the answer and the edits.
 use Prim.Native.Nat.{ℕ}
-use mathlib.Core.Bool.{Bool, cond}
+use mathlib.Core.Path.{_≡_}
+use mathlib.Core.Bool.{Bool, true, false, cond}
+use mathlib.Core.Logic.{_⊎_}
 use mathlib.Core.List.{List, [], _∷_}
 use Rattle.refusal.specs.declared.Refusal.{Refusal}
 use Rattle.protocol.specs.Model.{Limits, Model}
@@ -42,6 +44,16 @@ pub record Plan : Type 0 where
 abbrev pub checked : List Check → Answer → List Edit → Plan
 checked [] a es = record { reply = accepted a; edits = es }
 checked ((fails ⇒ r) ∷ cs) a es = cond fails (record { reply = refused r; edits = [] }) (checked cs a es)
+
+-- no check fails
+abbrev pub Passed : List Check → Type 0
+Passed [] = Unit {0}
+Passed ((fails ⇒ r) ∷ cs) = (fails ≡ false) × Passed cs
+
+-- the refusal is that of the first check that fails
+abbrev pub Due : List Check → Refusal → Type 0
+Due [] r = ⊥
+Due ((fails ⇒ q) ∷ cs) r = ((fails ≡ true) × (q ≡ r)) ⊎ ((fails ≡ false) × Due cs r)
 
 -- the cabinet after the call
 abbrev pub afterPlan : Limits → Plan → Model → Model

@@ -9,9 +9,9 @@ use Rattle.refusal.specs.declared.Verdict.the-variants.{Accepted, Refused}
 use Rattle.history.specs.Change.{CardSet, Numbers}
 use Rattle.protocol.specs.Model.{Limits, Model}
 use Rattle.protocol.specs.Edit.{put}
-use Rattle.protocol.specs.Plan.{CardRow, Answer, done, opened, safe, unsafe, fixed, written, Reply, accepted, refused, Plan, afterPlan}
-use Rattle.protocol.specs.Calls.{freshModel, barred, isLost, openPlan, votePlan, takePlan, withdrawPlan, storePlan, trimPlan, safePlan, losePlan, fixPlan, rollPlan}
-use Rattle.protocol.specs.Codec.{Codec, sheetPlan}
+use Rattle.protocol.specs.Plan.{CardRow, Answer, done, opened, safe, unsafe, fixed, written, Reply, accepted, refused, Check, Plan, afterPlan}
+use Rattle.protocol.specs.Calls.{freshModel, barred, isLost, openChecks, openPlan, voteChecks, votePlan, takeChecks, takePlan, withdrawChecks, withdrawPlan, storeChecks, storePlan, trimChecks, trimPlan, safeChecks, safePlan, loseChecks, losePlan, fixChecks, fixPlan, rollChecks, rollPlan}
+use Rattle.protocol.specs.Codec.{Codec, sheetChecks, sheetPlan, restartChecks, restartPlan}
 use Rattle.protocol.specs.Journal.{Journal, Fixing, unfixed, fixing, emptyJournal, noteOpen, noteVote, noteStruck, noteStore, noteLose, noteFix, noteRoll, noteRestart}
 
 -- calls 1 to 10 with the lengths of the lists lent, sheet writing with the buffer's, and restart
@@ -51,16 +51,32 @@ Proper L m (rollCall c) x = Unit {0}
 Proper L m (sheetCall c places) x = Unit {0}
 Proper L m restartCall x = Unit {0}
 
--- what a verdict on a read-out answers, and the cabinet after it: the one restarted, or the old one where it is refused
+-- what a verdict on a read-out answers
 abbrev pub verdictReply : Verdict → Reply
 verdictReply Accepted = accepted done
 verdictReply (Refused r) = refused r
 
-abbrev pub verdictCabinet : Verdict → Model → Model → Model
-verdictCabinet Accepted new old = new
-verdictCabinet (Refused r) new old = old
+-- the cabinet after a restart: the one restarted, or the old one where it is refused
+abbrev pub afterRestart : Reply → Model → Model → Model
+afterRestart (accepted a) new old = new
+afterRestart (refused r) new old = old
 
--- the plan of a call; a restart gives another cabinet, and no edits
+-- the table of a call
+abbrev pub checksOf : Codec → Limits → Model → Call → Choice → List Check
+checksOf C L m (openCall reads writes) x = openChecks L m reads writes (x .named)
+checksOf C L m (voteCall k c agrees) x = voteChecks L m k c
+checksOf C L m (takeCall k c) x = takeChecks L m k c
+checksOf C L m (withdrawCall k) x = withdrawChecks L m k
+checksOf C L m (storeCall c s) x = storeChecks L m c s
+checksOf C L m trimCall x = trimChecks L m
+checksOf C L m (safeCall k) x = safeChecks L m k
+checksOf C L m (loseCall cards) x = loseChecks L m cards
+checksOf C L m (fixCall a b) x = fixChecks L m a b (x .lost)
+checksOf C L m (rollCall c) x = rollChecks L m c
+checksOf C L m (sheetCall c places) x = sheetChecks C L m c places
+checksOf C L m restartCall x = restartChecks C L m
+
+-- the plan of a call
 abbrev pub planOf : Codec → Limits → Model → Call → Choice → Plan
 planOf C L m (openCall reads writes) x = openPlan L m reads writes (x .named)
 planOf C L m (voteCall k c agrees) x = votePlan L m k c agrees
@@ -73,7 +89,7 @@ planOf C L m (loseCall cards) x = losePlan L m cards
 planOf C L m (fixCall a b) x = fixPlan L m a b (x .lost)
 planOf C L m (rollCall c) x = rollPlan L m c
 planOf C L m (sheetCall c places) x = sheetPlan C L m c places
-planOf C L m restartCall x = record { reply = verdictReply (C .verdict (C .joined L m)); edits = [] }
+planOf C L m restartCall x = restartPlan C L m
 
 -- the cabinet after a call
 abbrev pub afterCall : Codec → Limits → Model → Call → Choice → Model
@@ -88,7 +104,7 @@ afterCall C L m (loseCall cards) x = afterPlan L (planOf C L m (loseCall cards) 
 afterCall C L m (fixCall a b) x = afterPlan L (planOf C L m (fixCall a b) x) m
 afterCall C L m (rollCall c) x = afterPlan L (planOf C L m (rollCall c) x) m
 afterCall C L m (sheetCall c places) x = afterPlan L (planOf C L m (sheetCall c places) x) m
-afterCall C L m restartCall x = verdictCabinet (C .verdict (C .joined L m)) (C .restarted L (C .joined L m)) m
+afterCall C L m restartCall x = afterRestart (restartPlan C L m .reply) (C .restarted L (C .joined L m)) m
 
 -- the calls of a list with their replies, the last one outermost
 pub data Calls : Type 0 where

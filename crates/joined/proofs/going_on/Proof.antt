@@ -2,7 +2,7 @@
 use mathlib.Core.Path.{refl, sym, ap}
 use Rattle.verdicts.specs.declared.Reply.{Reply}
 use Rattle.verdicts.specs.Answers.{replyOf}
-use Rattle.demands.specs.Lists.{goingOn}
+use Rattle.joined.specs.Joined.{goingOn}
 use borrow.Author.Needs.{needs}
 use Rattle.joined.proofs.going_on.Statement.{statement}
 use Rattle.joined.proofs.going_on.Tie as tie

@@ -1,6 +1,6 @@
 -- `joined::restart` restarts from the sheets as the cabinet writes them. Assumes nothing.
 use mathlib.Core.Path.{sym, _∙_}
-use Rattle.joined.proofs.Owns.{own-unsound, own-sound}
+use Rattle.joined.proofs.Owns.{own-unsound}
 use borrow.Author.Needs.{needs}
 use Rattle.joined.proofs.restart.Statement.{statement}
 use Rattle.joined.proofs.restart.Tie as tie
@@ -12,7 +12,7 @@ restart-sound-requires : tie.Need-restart-sound-requires
 restart-sound-requires c κs = sym (c .before .passes-28 .ensures) ∙ c .if1 .taken
 
 returns : tie.Need-returns
-returns c = own-sound (sym (c .before .before .passes-28 .ensures) ∙ c .before .if1 .taken) (c .restart-sound .ensures)
+returns c = c .restart-sound .ensures
 
 returns-2 : tie.Need-returns-2
 returns-2 c = own-unsound (c .before .before .args .c) (sym (c .before .passes-28 .ensures) ∙ c .if1 .left)

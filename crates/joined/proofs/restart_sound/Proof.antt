@@ -3,7 +3,7 @@ use Prim.Native.Nat.{ℕ, _-_}
 use mathlib.Core.Path.{_≡_, _∙_, ap}
 use native.Mathlib.Omega.{arith}
 use lib.ListN.{take}
-use Rattle.joined.proofs.Owns.{restart-told}
+use Rattle.joined.proofs.Owns.{own-sound}
 use borrow.Author.Needs.{needs}
 use Rattle.joined.proofs.restart_sound.Statement.{statement}
 use Rattle.joined.proofs.restart_sound.Tie as tie
@@ -32,7 +32,7 @@ going-on-requires c κs = search needs
 returns : tie.Need-returns
 returns c = let j = c .before .before .before .before .before in
     let z : j .join .result - 0 ≡ j .join .result = omega arith in
-    restart-told (c .before .restart .ensures) (ap (λ (n : ℕ). take n (j .join .last .1 .1 .0)) z ∙ j .join .ensures .1) (c .going-on .ensures .0) (c .going-on .ensures .1)
+    own-sound (j .before .before .before .before .pre) (c .before .restart .ensures) (ap (λ (n : ℕ). take n (j .join .last .1 .1 .0)) z ∙ j .join .ensures .1) (c .going-on .ensures .0) (c .going-on .ensures .1)
 
 pub restart-sound-spec : {M : Type 1} → statement M
 restart-sound-spec =
