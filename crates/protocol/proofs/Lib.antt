@@ -18,3 +18,5 @@ pub mod Kept
 pub mod Answers
 pub mod Choices
 pub mod Anywhere
+pub mod Passed
+pub mod Room
