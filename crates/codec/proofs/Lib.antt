@@ -1,5 +1,6 @@
 pub mod Written
 pub mod Passing
+pub mod Sound
 pub mod Reading
 pub mod Retold
 pub mod Document

@@ -1,30 +1,28 @@
 -- The sheets of a cabinet, running or rolling back, joined, are read back, and refused with nothing while another session can follow. Assumes nothing.
-use Prim.Native.Nat.{ℕ, suc, _+_, _-_, _^_, _≤_, _<_, zero-le}
+use Prim.Native.Nat.{ℕ, suc, _+_, _-_, _^_, _≤_, _<_}
 use mathlib.Core.Path.{_≡_, refl, sym, _∙_, ap, ap₂, subst}
-use mathlib.Core.Bool.{Bool, true, false, not, _&&_, _||_, cond}
+use mathlib.Core.Bool.{Bool, true, false, not, _&&_, _||_}
 use mathlib.Core.Logic.{_⊎_, by-cases, ⊎-elim}
 use mathlib.Core.List.{List}
 use native.Mathlib.Nat.{le-refl, le-trans, le-antisymm}
-use native.Mathlib.Decide.{decLt, ℕ-discrete}
+use native.Mathlib.Decide.{decLt}
 use native.Mathlib.Omega.{arith}
-use lib.Dec.{eqb, leb, ltb}
-use lib.ListN.{length, getD, replicate}
-use borrow.Author.Tests.{le-leb, lt-ltb, le-ltb, ltb-true, eq-eqb, ne-eqb, eqb-true, leb-true}
+use lib.Dec.{eqb, ltb}
+use lib.ListN.{length, getD}
+use borrow.Author.Tests.{le-ltb, ltb-true, eq-eqb, ne-eqb, eqb-true}
 use Rattle.laws.specs.Below.{allBelow, tabulate}
 use Rattle.laws.proofs.Logic.{test, clash, fails, and-left, and-right, and-intro, or-left, or-right, not-true, not-intro, cond-case}
-use Rattle.laws.proofs.Below.{Found, all-at, all-intro, search-below}
+use Rattle.laws.proofs.Below.{Found, all-intro, search-below}
 use Rattle.laws.proofs.Fill.{length-tabulate, getD-tabulate}
 use Rattle.refusal.specs.declared.Refusal.the-variants.{LimitReached}
 use Rattle.refusal.specs.declared.Verdict.{Verdict}
 use Rattle.refusal.specs.declared.Verdict.the-variants.{Accepted, Refused}
 use Rattle.frame.specs.declared.Frame.{Frame}
 use Rattle.frame.specs.Format.{format, formats}
-use Rattle.frame.specs.Lines.{frameAllowed, entriesAllowed, entryAllowed, noFrame}
+use Rattle.frame.specs.Lines.{noFrame}
 use Rattle.sheet.specs.Pages.{Page, pagesBytes}
-use Rattle.sheet.specs.Allowed.{framesAllowed, Formed}
 use Rattle.sheet.specs.Ring.{noPage, pageAt}
 use Rattle.sheet.specs.Whole.{SheetOf, Whole}
-use Rattle.sheet.proofs.Lay.{zeros}
 use Rattle.sessions.specs.Sessions.{lowestTo, apart}
 use Rattle.sessions.proofs.Laws.{lowest-le, lowest-ge}
 use Rattle.two_vectors.specs.Vectors.{frameOn, differ, twoVectors}
@@ -34,17 +32,16 @@ use Rattle.history.specs.Change.{History, historyOf}
 use Rattle.history.specs.Vector.{vector}
 use Rattle.history.proofs.Writers.{Maker, maker}
 use Rattle.protocol.specs.Model.{Limits, isRolling, Model, hasRolled}
-use Rattle.protocol.specs.Sound.{entriesSound, risesSound}
 use Rattle.protocol.specs.Journal.{Journal, greatestLine}
-use Rattle.protocol.proofs.Soundness.{one-frame, two-frames}
 use Rattle.protocol.proofs.Rolling.{AboutLine}
 use Rattle.protocol.proofs.Restart.{Recallable}
-use Rattle.codec.specs.Sheets.{cardCount, sheetSession, sheetFrame, sheetOf}
-use Rattle.codec.proofs.Written.{frames-length, frame-of, count-is, entry-written, length-entries}
-use Rattle.codec.proofs.Passing.{page-bytes, pages-bytes, formed-all, frames-pass, none-below}
+use Rattle.codec.specs.Sheets.{sheetSession, sheetFrame, sheetOf}
+use Rattle.codec.specs.Claims.{SheetLimits}
+use Rattle.codec.proofs.Written.{frames-length, frame-of, entry-written}
+use Rattle.codec.proofs.Passing.{pages-bytes, none-below}
+use Rattle.codec.proofs.Sound as sound
 
-module _ (L : Limits) (n : ℕ) (m : Model) (j : Journal) (few : n ≤ L .width) (some : 1 ≤ n)
-    (sixteen : L .width ≡ 16) (forty-eight : L .inHand ≡ 48) (sixty-thousand : L .greatestState ≡ 60000) (top : L .greatestNumber ≡ 4294967295)
+module _ (L : Limits) (limits : SheetLimits L) (n : ℕ) (m : Model) (j : Journal) (few : n ≤ L .width) (some : 1 ≤ n)
     (present-is : (c : ℕ) → m .present c ≡ ltb c n) (r : Recallable L m j) where
   abbrev H₀ : History
   H₀ = historyOf (j .history)
@@ -60,9 +57,6 @@ module _ (L : Limits) (n : ℕ) (m : Model) (j : Journal) (few : n ≤ L .width)
 
   card : (c : ℕ) → c < n → c < L .width
   card c h = omega (arith, few)
-
-  count-of : cardCount L m ≡ n
-  count-of = count-is L n m few present-is
 
   stored-top : (c : ℕ) → c < L .width → m .numbers .stored c ≤ m .numbers .reached c
   stored-top c l = a₀ .intact .stored-reached c l
@@ -84,134 +78,26 @@ module _ (L : Limits) (n : ℕ) (m : Model) (j : Journal) (few : n ≤ L .width)
       let k : Maker H₀ (j .start) N c x = maker-of c x l a b in
       ap (λ (y : ℕ). m .memory .frame c y i) (sym (k .makes)) ∙ a₀ .framed .vector-is (k .at) c i (k .in-history) l li (k .wrote) (omega (arith, k .makes, a)) (omega (arith, k .makes, b, stored-top c l))
 
-  number-small : (c x : ℕ) → c < L .width → m .numbers .base c < x → x ≤ m .numbers .stored c → (0 < m .memory .maker c x) × (m .memory .maker c x < 16 ^ 8)
-  number-small c x l a b =
+  number-small : (c : ℕ) → c < L .width → (x : ℕ) → m .numbers .base c < x → x ≤ m .numbers .stored c → m .memory .maker c x < 16 ^ 8
+  number-small c l x a b =
       let k : Maker H₀ (j .start) N c x = maker-of c x l a b in
-      let e = number-is c x l a b in
-      let p = a₀ .numbered .positive (k .at) (k .in-history) in
-      let g = a₀ .numbered .given (k .at) (k .in-history) in
-      let t = a₀ .count-given in
-      (omega arith, omega (arith, top))
+      omega (arith, limits .greatestNumber, number-is c x l a b, a₀ .numbered .given (k .at) (k .in-history), a₀ .count-given)
 
-  one : (c x : ℕ) → c < L .width → m .numbers .base c < x → x ≤ m .numbers .stored c → not (eqb (m .memory .maker c x) 0) && eqb (m .memory .frame c x c) x && entriesSound L (m .present) (m .memory .frame c x) ≡ true
-  one c x l a b = one-frame L (m .present) (j .start) N H₀ (a₀ .there) (a₀ .bounded) (m .numbers .base) (m .numbers .reached) (m .memory) (a₀ .framed) (a₀ .count) (a₀ .numbered) c l (a₀ .intact .from-start c l) (a₀ .intact .reached-top c l) x a (omega (arith, b, stored-top c l))
-
-  own-is : (c x : ℕ) → c < L .width → m .numbers .base c < x → x ≤ m .numbers .stored c → m .memory .frame c x c ≡ x
-  own-is c x l a b =
-      eqb-true (m .memory .frame c x c) x
-      (and-right (not (eqb (m .memory .maker c x) 0)) (eqb (m .memory .frame c x c) x) (and-left (not (eqb (m .memory .maker c x) 0) && eqb (m .memory .frame c x c) x) (entriesSound L (m .present) (m .memory .frame c x)) (one c x l a b)))
-
-  entry-le : (c x i : ℕ) → c < L .width → i < L .width → m .numbers .base c < x → x ≤ m .numbers .stored c → m .memory .frame c x i ≤ 60000
-  entry-le c x i l li a b =
-      let e : leb (m .memory .frame c x i) (cond (m .present i) (L .greatestState) 0) ≡ true =
-      all-at (L .width) (λ k. leb (m .memory .frame c x k) (cond (m .present k) (L .greatestState) 0)) (and-right (not (eqb (m .memory .maker c x) 0) && eqb (m .memory .frame c x c) x) (entriesSound L (m .present) (m .memory .frame c x)) (one c x l a b)) i li in
-      le-trans (leb-true (m .memory .frame c x i) (cond (m .present i) (L .greatestState) 0) e) (cond-case (λ (y : ℕ). y ≤ 60000) (m .present i) (λ z. omega (arith, sixty-thousand)) (λ z. zero-le))
-
-  rise : (c x : ℕ) → c < L .width → m .numbers .base c < x → suc x ≤ m .numbers .stored c → risesSound L (m .memory) c x ≡ true
-  rise c x l a b = two-frames L (m .present) (j .start) N H₀ (a₀ .there) (a₀ .bounded) (m .numbers .base) (m .numbers .reached) (m .memory) (a₀ .framed) (a₀ .count) (a₀ .numbered) c l (a₀ .intact .from-start c l) (a₀ .intact .reached-top c l) x a (omega (arith, b, stored-top c l))
-
-  -- ---- 9
-  frame-pass : (c : ℕ) → c < n → (i : ℕ) → i < m .numbers .stored c - m .numbers .base c
-      → frameAllowed format c (cardCount L m) (m .numbers .base c + 1 + i) (cond (eqb i 0) noFrame (sheetFrame L m c (suc (m .numbers .base c + (i - 1))))) (m .numbers .base c + 1 + i) (sheetFrame L m c (suc (m .numbers .base c + i))) ≡ true
-  unfolding frameAllowed entriesAllowed
-  frame-pass c h i li = by-cases (ℕ-discrete i 0) first later
-    where
-      l : c < L .width
-      l = card c h
-
-      x : ℕ
-      x = suc (m .numbers .base c + i)
-
-      above : m .numbers .base c < suc (m .numbers .base c + i)
-      above = omega arith
-
-      inside : suc (m .numbers .base c + i) ≤ m .numbers .stored c
-      inside = omega arith
-
-      state-is : m .numbers .base c + 1 + i ≡ suc (m .numbers .base c + i)
-      state-is = omega arith
-
-      own-test : (k : ℕ) → not (eqb k c) || eqb (m .memory .frame c (suc (m .numbers .base c + i)) k) (m .numbers .base c + 1 + i) ≡ true
-      own-test k =
-          by-cases (ℕ-discrete k c)
-          (λ (q : k ≡ c). or-right (not (eqb k c)) (eq-eqb (m .memory .frame c (suc (m .numbers .base c + i)) k) (m .numbers .base c + 1 + i) (ap (m .memory .frame c (suc (m .numbers .base c + i))) q ∙ own-is c (suc (m .numbers .base c + i)) l above inside ∙ sym state-is)))
-          (λ q. or-left (eqb (m .memory .frame c (suc (m .numbers .base c + i)) k) (m .numbers .base c + 1 + i)) (not-intro (ne-eqb k c q)))
-
-      entry-test : (k p : ℕ) → k < n → p ≤ m .memory .frame c (suc (m .numbers .base c + i)) k → entryAllowed format c (m .numbers .base c + 1 + i) k p (getD (sheetFrame L m c (suc (m .numbers .base c + i)) .entries) k 0) ≡ true
-      entry-test k p hk le =
-          rw (entry-written L n m few present-is c (suc (m .numbers .base c + i)) k hk)
-          (and-intro (le-leb p (m .memory .frame c (suc (m .numbers .base c + i)) k) le)
-          (and-intro (le-leb (m .memory .frame c (suc (m .numbers .base c + i)) k) 60000 (entry-le c (suc (m .numbers .base c + i)) k l (card k hk) above inside)) (own-test k)))
-
-      first : i ≡ 0 → frameAllowed format c (cardCount L m) (m .numbers .base c + 1 + i) (cond (eqb i 0) noFrame (sheetFrame L m c (suc (m .numbers .base c + (i - 1))))) (m .numbers .base c + 1 + i) (sheetFrame L m c (suc (m .numbers .base c + i))) ≡ true
-      first q =
-          rw (eq-eqb i 0 q)
-          (and-intro (eq-eqb (m .numbers .base c + 1 + i) (m .numbers .base c + 1 + i) refl)
-          (and-intro (lt-ltb 0 (m .memory .maker c (suc (m .numbers .base c + i))) (number-small c (suc (m .numbers .base c + i)) l above inside .0))
-          (all-intro (cardCount L m) _ (λ k hk. entry-test k (getD (replicate 16 0) k 0) (omega (arith, hk, count-of)) (zero-entry k)))))
-        where
-          zero-entry : (k : ℕ) → getD (replicate 16 0) k 0 ≤ m .memory .frame c (suc (m .numbers .base c + i)) k
-          zero-entry k = rw (zeros 16 k) zero-le
-
-      later : ¬ (i ≡ 0) → frameAllowed format c (cardCount L m) (m .numbers .base c + 1 + i) (cond (eqb i 0) noFrame (sheetFrame L m c (suc (m .numbers .base c + (i - 1))))) (m .numbers .base c + 1 + i) (sheetFrame L m c (suc (m .numbers .base c + i))) ≡ true
-      later q =
-          let y : suc (m .numbers .base c + (i - 1)) ≡ m .numbers .base c + i = omega (arith, q) in
-          let up : risesSound L (m .memory) c (m .numbers .base c + i) ≡ true = rise c (m .numbers .base c + i) l (omega (arith, q)) inside in
-          rw (ne-eqb i 0 q, y)
-          (and-intro (eq-eqb (m .numbers .base c + 1 + i) (m .numbers .base c + 1 + i) refl)
-          (and-intro (and-left (ltb (m .memory .maker c (m .numbers .base c + i)) (m .memory .maker c (suc (m .numbers .base c + i)))) (allBelow (L .width) (λ k. leb (m .memory .frame c (m .numbers .base c + i) k) (m .memory .frame c (suc (m .numbers .base c + i)) k))) up)
-          (all-intro (cardCount L m) _
-          (λ k hk. entry-test k (getD (sheetFrame L m c (m .numbers .base c + i) .entries) k 0) (omega (arith, hk, count-of))
-          (rw (entry-written L n m few present-is c (m .numbers .base c + i) k (omega (arith, hk, count-of)))
-          (leb-true (m .memory .frame c (m .numbers .base c + i) k) (m .memory .frame c (suc (m .numbers .base c + i)) k)
-          (all-at (L .width) (λ z. leb (m .memory .frame c (m .numbers .base c + i) z) (m .memory .frame c (suc (m .numbers .base c + i)) z))
-          (and-right (ltb (m .memory .maker c (m .numbers .base c + i)) (m .memory .maker c (suc (m .numbers .base c + i)))) (allBelow (L .width) (λ z. leb (m .memory .frame c (m .numbers .base c + i) z) (m .memory .frame c (suc (m .numbers .base c + i)) z))) up)
-          k (card k (omega (arith, hk, count-of))))))))))
-
-  -- ---- 7
-  session-small : (c : ℕ) → (0 < sheetSession m c) × (sheetSession m c < 16 ^ 8)
+  -- ---- 7 and 9: the sheet of a card that is there
+  session-small : (c : ℕ) → sheetSession m c < 16 ^ 8
   session-small c =
-      let g = r .session-given in
-      cond-case (λ (s : ℕ). (0 < s) × (s < 16 ^ 8)) (hasRolled m c)
-      (λ e. (omega arith, omega (arith, top, r .session-left (and-left (isRolling (m .phase)) (m .rolled c) e)))) (λ e. (g, omega (arith, top, r .session-fits)))
+      cond-case (λ (s : ℕ). s < 16 ^ 8) (hasRolled m c)
+      (λ e. omega (arith, limits .greatestNumber, r .session-left (and-left (isRolling (m .phase)) (m .rolled c) e))) (λ e. omega (arith, limits .greatestNumber, r .session-fits))
 
-  short : (c : ℕ) → c < L .width → m .numbers .stored c - m .numbers .base c ≤ 48
-  short c l = omega (arith, r .in-hand c l, stored-top c l, forty-eight)
-
-  formed : (c : ℕ) → c < n → Formed (cardCount L m) (page c .frames)
-  formed c h =
-      formed-all (cardCount L m) (m .numbers .stored c - m .numbers .base c) (λ k. sheetFrame L m c (suc (m .numbers .base c + k)))
-      (λ i li. (length-entries L n m few present-is c (suc (m .numbers .base c + i)) ∙ sym count-of, number-small c (suc (m .numbers .base c + i)) (card c h) (omega arith) (omega arith) .1))
-
-  -- the sheet of a card that is there
   sheet-of : (c : ℕ) → c < n → SheetOf format n c (page c)
-  sheet-of c h =
-      record {
-        session-some = λ z. omega (arith, session-small c .0, z);
-        session = session-small c .1;
-        card = refl;
-        cards = count-of;
-        count = sym (frames-length L m c);
-        short = omega (arith, frames-length L m c, short c (card c h));
-        states = omega (arith, frames-length L m c, base-stored c (card c h), stored-top c (card c h), a₀ .intact .reached-top c (card c h), a₀ .bounded c (card c h), sixty-thousand);
-        formed = subst (λ (k : ℕ). Formed k (page c .frames)) count-of (formed c h);
-        frames =
-            subst (λ (k : ℕ). framesAllowed format c k (m .numbers .base c + 1) noFrame (page c .frames) ≡ true) count-of
-            (frames-pass c (cardCount L m) (m .numbers .stored c - m .numbers .base c) (m .numbers .base c + 1) noFrame (λ k. sheetFrame L m c (suc (m .numbers .base c + k))) (frame-pass c h));
-      }
+  sheet-of c h = sound.sheet-of L limits n m few present-is (r .passes) c h (session-small c) (number-small c (card c h))
 
   -- ---- all sheets, joined
   abbrev bytes : List ℕ
   bytes = pagesBytes formats (tabulate n page)
 
   bytes-few : length bytes ≤ 65536
-  bytes-few =
-      omega (
-        arith,
-        pages-bytes n page (λ c h. page-bytes (page c) (formed c h) (omega (arith, count-of, few, sixteen)) (omega (arith, frames-length L m c, short c (card c h)))),
-        few,
-        sixteen,
-      )
+  bytes-few = omega (arith, pages-bytes n page (λ c h. sound.sheet-few n c (page c) (omega (arith, few, limits .width)) (sheet-of c h)), few, limits .width)
 
   -- ---- 11 and 24: the lowest session is the cabinet's
   abbrev ps : List Page
@@ -227,7 +113,7 @@ module _ (L : Limits) (n : ℕ) (m : Model) (j : Journal) (few : n ≤ L .width)
   whole =
       record {
         some = omega (arith, length-ps, some);
-        few = omega (arith, length-ps, few, sixteen);
+        few = omega (arith, length-ps, few, limits .width);
         sheet = λ c h. let l : c < n = omega (arith, length-ps, h) in
             subst (λ (k : ℕ). SheetOf format k c (pageAt ps c)) (sym length-ps) (subst (SheetOf format n c) (sym (page-at c l)) (sheet-of c l));
       }
@@ -360,11 +246,11 @@ module _ (L : Limits) (n : ℕ) (m : Model) (j : Journal) (few : n ≤ L .width)
   -- ---- the whole read-out
   joint : m .session < L .greatestNumber → jointVerdict ps ≡ Accepted
   unfolding jointVerdict
-  joint left = rw (not-apart, lowest-is, ne-eqb (m .session) 4294967295 (λ (z : m .session ≡ 4294967295). absurd (omega (arith, left, top, z))), one-vector)
+  joint left = rw (not-apart, lowest-is, ne-eqb (m .session) 4294967295 (λ (z : m .session ≡ 4294967295). absurd (omega (arith, left, limits .greatestNumber, z))), one-vector)
 
   last-joint : L .greatestNumber ≤ m .session → jointVerdict ps ≡ Refused LimitReached
   unfolding jointVerdict
-  last-joint z = rw (not-apart, lowest-is, eq-eqb (m .session) 4294967295 (omega (arith, z, top, r .session-fits)))
+  last-joint z = rw (not-apart, lowest-is, eq-eqb (m .session) 4294967295 (omega (arith, z, limits .greatestNumber, r .session-fits)))
 
   read-judged : pagesRead bytes ≡ judged (jointVerdict ps) ps
   read-judged = pages-judged ps whole bytes-few

@@ -36,13 +36,13 @@ module _ (L : Limits) (lim : SheetLimits L) (n : ℕ) (low : 1 ≤ n) (high : n 
   ps = tabulate n page
 
   length-ps : length ps ≡ n
-  length-ps = reading.length-ps L n m j high low (lim .width) (lim .inHand) (lim .greatestState) (lim .greatestNumber) present-is r
+  length-ps = reading.length-ps L lim n m j high low present-is r
 
   page-at : (c : ℕ) → c < n → pageAt ps c ≡ page c
-  page-at = reading.page-at L n m j high low (lim .width) (lim .inHand) (lim .greatestState) (lim .greatestNumber) present-is r
+  page-at = reading.page-at L lim n m j high low present-is r
 
   lowest-is : lowestSession ps ≡ m .session
-  lowest-is = reading.lowest-is L n m j high low (lim .width) (lim .inHand) (lim .greatestState) (lim .greatestNumber) present-is r
+  lowest-is = reading.lowest-is L lim n m j high low present-is r
 
   no-page : (c : ℕ) → m .present c ≡ false → pageAt ps c ≡ noPage
   no-page c e = List·getD-eq-default ps noPage (omega (arith, length-ps, ltb-false c n (sym (present-is c) ∙ e)))
@@ -90,7 +90,7 @@ module _ (L : Limits) (lim : SheetLimits L) (n : ℕ) (low : 1 ≤ n) (high : n 
         last = λ c i. test (ltb (pageAt ps c .header .base) (pageStored (pageAt ps c))) (λ e. rw e) (λ e. rw e);
         pending = refl;
         none-open = λ p l. refl;
-        rolled = λ c l e. ap₂ ltb lowest-is (reading.session-at L n m j high low (lim .width) (lim .inHand) (lim .greatestState) (lim .greatestNumber) present-is r c (below c e)) ∙ ahead (hasRolled m c);
+        rolled = λ c l e. ap₂ ltb lowest-is (reading.session-at L lim n m j high low present-is r c (below c e)) ∙ ahead (hasRolled m c);
         none-rolled = λ c l e. ap₂ ltb lowest-is (ap (λ (p : Page). p .header .session) (no-page c e)) ∙ le-ltb (m .session) 0 zero-le;
         line = λ c l. refl;
       }
@@ -103,7 +103,7 @@ module _ (L : Limits) (lim : SheetLimits L) (n : ℕ) (low : 1 ≤ n) (high : n 
   own-pages = ap (pagesBytes formats) (sheets-are L n m high present-is)
 
   joined-back : m .session < L .greatestNumber → pagesRead (joinedSheets formats L m) ≡ record { pages = ps; verdict = Accepted }
-  joined-back left = ap pagesRead own-pages ∙ reading.read-back L n m j high low (lim .width) (lim .inHand) (lim .greatestState) (lim .greatestNumber) present-is r left
+  joined-back left = ap pagesRead own-pages ∙ reading.read-back L lim n m j high low present-is r left
 
   remade : m .session < L .greatestNumber → Remade codec L m
   remade left =
@@ -114,7 +114,7 @@ module _ (L : Limits) (lim : SheetLimits L) (n : ℕ) (low : 1 ≤ n) (high : n 
 
   last-session : L .greatestNumber ≤ m .session → codec .verdict (codec .joined L m) ≡ Refused LimitReached
   last-session z =
-      ap (λ (b : List ℕ). pagesRead b .verdict) own-pages ∙ reading.read-last L n m j high low (lim .width) (lim .inHand) (lim .greatestState) (lim .greatestNumber) present-is r z
+      ap (λ (b : List ℕ). pagesRead b .verdict) own-pages ∙ reading.read-last L lim n m j high low present-is r z
 
 pub sheets-law : (L : Limits) → SheetLimits L → (n : ℕ) → 1 ≤ n → n ≤ L .width → CodecLaw codec L (λ c. ltb c n)
 sheets-law L lim n low high =

@@ -11,9 +11,11 @@ pub mod Rolling
 pub mod Lost
 pub mod Steps
 pub mod Invariant
+pub mod Passed
 pub mod Restart
 pub mod Claims
 pub mod Lists
 pub mod Kept
 pub mod Answers
 pub mod Choices
+pub mod Room

@@ -21,15 +21,16 @@ use Rattle.history.proofs.Precedence.{writes-touches, up-to-le}
 use Rattle.history.proofs.Vectors.{vector-greatest}
 use Rattle.history.proofs.Appending.{Agree}
 use Rattle.protocol.specs.Model.{Limits, isRolling, Model, noCards, hasRolled, isOpen, within}
-use Rattle.protocol.specs.Sound.{entriesSound}
+use Rattle.protocol.specs.Sound.{entriesSound, sound}
 use Rattle.protocol.specs.Codec.{Codec}
 use Rattle.protocol.specs.Calls.{lines}
 use Rattle.protocol.specs.Journal.{Journal, Noted, struck, Fixing, fixing, greatestLine, noteRestartOf, noteRestart}
 use Rattle.protocol.proofs.Intact.{Intact, lineAt, bridge, line-same, intact-same, intact-lower}
 use Rattle.protocol.proofs.Running.{About, Carded, Running}
 use Rattle.protocol.proofs.Stores.{intact, lines-right, absent-still}
-use Rattle.protocol.proofs.Soundness.{entry-sound, greatest-sound}
-use Rattle.protocol.proofs.Rolling.{AboutLine, Rolling, LineNoted}
+use Rattle.protocol.proofs.Soundness.{running-sound, entry-sound, greatest-sound}
+use Rattle.protocol.proofs.Passed.{session-not-0}
+use Rattle.protocol.proofs.Rolling.{AboutLine, Rolling, LineNoted, rolling-sound}
 use Rattle.protocol.proofs.Invariant.{RollingBack, Invariant}
 
 -- what the restarted cabinet m' has of the cabinet m: cards, bases, stored numbers, frames from base + 1 to stored, the cards rolled, the session; nothing is open
@@ -62,7 +63,7 @@ pub record Recalled (L : Limits) (m m' : Model) : Type 0 where
 
 -- what is known of a cabinet, running or rolling back, whose sheets are read again: its line is the greatest choice of the journal's stored numbers
 pub record Recallable (L : Limits) (m : Model) (j : Journal) : Type 0 where
-  pub session-given : 0 < m .session
+  pub passes : sound L m ≡ true
   pub session-fits : m .session ≤ L .greatestNumber
   pub session-left : isRolling (m .phase) ≡ true → m .session < L .greatestNumber
   pub carded : Carded L (m .present)
@@ -77,7 +78,7 @@ pub record Recallable (L : Limits) (m : Model) (j : Journal) : Type 0 where
 pub rolling-recallable : (L : Limits) (m : Model) (j : Journal) → Rolling L m j → Recallable L m j
 rolling-recallable L m j r =
     record {
-      session-given = r .session-given;
+      passes = rolling-sound L m j r;
       session-fits = omega (arith, r .session-left);
       session-left = λ e. r .session-left;
       carded = r .carded;
@@ -110,7 +111,7 @@ pub running-recallable : (L : Limits) (m : Model) (j : Journal) (u : ℕ → Not
     → Recallable L m (record { start = j .start; stored = j .stored; undecided = u; history = j .history; fix = f })
 running-recallable L m j u f r =
     record {
-      session-given = r .session-given;
+      passes = running-sound L m j r;
       session-fits = r .session-fits;
       session-left = λ e. clash e (r .not-rolling);
       carded = r .carded;
@@ -255,7 +256,7 @@ module _ (L : Limits) (n : CardSet) (m m' : Model) (j : Journal) (present-is : (
   restart-rolls left =
       record {
         is-rolling = k .rolls;
-        session-given = rw (k .session) (r .session-given);
+        session-given = rw (k .session) (positive (session-not-0 L m (r .passes)));
         session-left = rw (k .session) left;
         carded =
             record {
@@ -295,6 +296,9 @@ module _ (L : Limits) (n : CardSet) (m m' : Model) (j : Journal) (present-is : (
             };
       }
     where
+      positive : ¬ (m .session ≡ 0) → 0 < m .session
+      positive z = omega (arith, z)
+
       left-same : (c : ℕ) → c < L .width → not (m' .present c) || m' .rolled c ≡ not (m .present c) || hasRolled m c
       left-same c l =
           test (m .present c) (λ e. ap₂ (λ (x y : Bool). not x || y) (k .cards c) (k .rolled c l e)) (λ e. rw (k .cards c ∙ e, e))

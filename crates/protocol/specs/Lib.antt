@@ -8,3 +8,4 @@ pub mod Codec
 pub mod Run
 pub mod Demands
 pub mod Choices
+pub mod Room

@@ -1,16 +1,27 @@
 -- A sheet that declares one frame more than it has is refused by what stands where that frame is due, in the first sheet and in a later one of a read-out; for any format. Assumes nothing.
 use Prim.Native.Nat.{ℕ, suc, _+_, _-_, _<_}
-use mathlib.Core.Path.{_≡_, _∙_, ap}
-use mathlib.Core.Bool.{Bool, true, cond}
+use mathlib.Core.Path.{_≡_, refl, _∙_, ap}
+use mathlib.Core.Bool.{Bool, true, false, cond}
 use mathlib.Core.List.{List, [], _∷_, _++_, append-assoc}
+use mathlib.Core.Logic.{by-cases}
+use native.Mathlib.Decide.{decLt}
 use native.Mathlib.Omega.{arith}
-use lib.ListN.{length}
+use lib.ListN.{length, take, getD}
+use lib.Seq.{getD-take, length-take-le}
+use Rattle.laws.proofs.Logic.{clash, fails}
 use Rattle.refusal.specs.declared.Refusal.{Refusal}
+use Rattle.refusal.specs.declared.Refusal.the-variants.{BadLine}
 use Rattle.refusal.specs.declared.Verdict.the-variants.{Refused}
+use Rattle.digits.specs.declared.Sums.{Sums}
+use Rattle.digits.specs.declared.Line.the-variants.{Fault}
+use Rattle.digits.specs.Digits.{isDigit, written}
+use Rattle.digits.specs.Line.{lineOf, shaped, shapeOf}
+use Rattle.digits.proofs.Digits.{all-getD, is-lower, written-length, written-all}
+use Rattle.digits.proofs.Lines.{Shape, shape, line-shaped}
 use Rattle.frame.specs.declared.Header.{Header}
 use Rattle.frame.specs.declared.Frame.{Frame}
 use Rattle.frame.specs.Format.{Format, Formats}
-use Rattle.frame.specs.Lines.{cardsOf, formatIn, formatFor, startOf, noFrame}
+use Rattle.frame.specs.Lines.{cardsOf, formatFor, startOf, headerWidths, headerDigits, headerNumbers, headerLine, frameDigits, frameVerdict, noFrame}
 use Rattle.frame.proofs.Passed.{header-limits}
 use Rattle.line_round.proofs.Round.{Sound, told-again, header-back, header-rest, header-accepted}
 use Rattle.sheet.specs.Pages.{Page, framesBytes, pageBytes, pagesBytes, framesOf, Sheets, sheetIn, readSheet, moreSheets, readSheets}
@@ -29,16 +40,16 @@ module _ (F : Formats) (all-sound : AllSound F) (due first : ℕ) (h : Header) (
 
   frames-short : framesOf f h (shortBytes f h frs rest) ≡ record { frames = frs; verdict = Refused r; rest = rest }
   frames-short =
-      let l = header-limits f due first h (x .header) in
-      let c = x .count in
-      rw (header-rest f s due first h behind (x .header) (x .session), c)
-      (one-frame-short f s (startOf f h) (s .first (h .card) (h .session)) (s .second (h .card) (h .session)) (h .card) (cardsOf f h) frs (h .base + 1) noFrame rest (x .frames) (x .formed) (omega (arith, l .states)) (x .next))
+      let l = header-limits f due first h (x .fewer .header) in
+      let c = x .fewer .count in
+      rw (header-rest f s due first h behind (x .fewer .header) (x .fewer .session), c)
+      (one-frame-short f s (startOf f h) (s .first (h .card) (h .session)) (s .second (h .card) (h .session)) (h .card) (cardsOf f h) frs (h .base + 1) noFrame rest (x .fewer .frames) (x .fewer .formed) (omega (arith, l .states)) (x .next))
 
   in-format : (next : ℕ → List ℕ → Sheets) → sheetIn f due first next (shortBytes f h frs rest) .verdict ≡ Refused r
-  in-format next = rw (header-accepted f s due first h behind (x .header) (x .session), header-back f s due first h behind (x .header) (x .session), frames-short)
+  in-format next = rw (header-accepted f s due first h behind (x .fewer .header) (x .fewer .session), header-back f s due first h behind (x .fewer .header) (x .fewer .session), frames-short)
 
   pub sheet-short : (next : ℕ → List ℕ → Sheets) → readSheet F due first next (shortBytes f h frs rest) .verdict ≡ Refused r
-  sheet-short next = ap (λ (g : Format). sheetIn g due first next (shortBytes f h frs rest) .verdict) (told-again F f (shortBytes f h frs rest) (header-back f s due first h behind (x .header) (x .session))) ∙ in-format next
+  sheet-short next = ap (λ (g : Format). sheetIn g due first next (shortBytes f h frs rest) .verdict) (told-again F f (shortBytes f h frs rest) (header-back f s due first h behind (x .fewer .header) (x .fewer .session))) ∙ in-format next
 
 -- where the first sheet is so short
 pub first-short : (F : Formats) → AllSound F → (all : Bool) (due : ℕ) (h : Header) (frs : List Frame) (rest : List ℕ) (r : Refusal) → Short (formatFor F h) due 0 h frs rest r → readSheets F all due (shortBytes (formatFor F h) h frs rest) .verdict ≡ Refused r
@@ -76,3 +87,38 @@ later-short F s due p ps h frs rest r a more l x =
     let input = shortBytes (formatFor F h) h frs rest in
     rw (append-assoc (pageBytes F p) (pagesBytes F ps) input, sheet-back F s due 0 p (pagesBytes F ps ++ input) (λ cards rest. moreSheets F (cond true (cards - 1) 0) (due + 1) cards rest) a, k)
     (more-short F s (due + 1) n (n - 1 - (length ps + 1)) ps h frs rest r more x)
+
+-- ---- a header where a frame is due
+
+-- an input begins with a line of one length
+one-length : (n k : ℕ) (input : List ℕ) → Shape n input → Shape k input → n < k → ⊥
+one-length n k input s t l =
+    let e : getD (take (k + 4) input) (n + 4) 0 ≡ 10 = getD-take (k + 4) input (n + 4) 0 (omega arith) ∙ s .ends in
+    let long : length (take (k + 4) input) ≡ k + 4 = length-take-le (k + 4) input (omega (arith, t .long)) in
+    let d : isDigit (getD (take (k + 4) input) (n + 4) 0) ≡ true = all-getD (take (k + 4) input) (n + 4) (t .all) (omega (arith, long)) in
+    clash (rw e at d) (is-lower 10 (omega arith))
+
+not-shaped : (n : ℕ) (input : List ℕ) → 0 < length input → shaped n input ≡ false → shapeOf n input ≡ Fault BadLine
+unfolding shapeOf
+not-shaped n [] h e = absurd (omega arith)
+not-shaped n (b ∷ bs) h e = rw e
+
+header-shape : (f : Format) (h : Header) (rest : List ℕ) → Shape (headerDigits f) (headerLine f h ++ rest)
+unfolding headerLine
+header-shape f h rest =
+    shape (headerDigits f) (lineOf (startOf f h) (written (headerWidths f) (headerNumbers h)) ++ rest)
+    (line-shaped (startOf f h) (headerDigits f) (written (headerWidths f) (headerNumbers h)) rest (written-all (headerWidths f) (headerNumbers h)) (written-length (headerWidths f) (headerNumbers h) refl ∙ omega arith))
+
+-- where it has another length than a frame, it is 5, whatever it says
+pub header-no-frame :
+    (f : Format) (start : Sums) (card n state : ℕ) (last : Frame) (next : Header) (rest : List ℕ) → ¬ (frameDigits f n ≡ headerDigits f) → frameVerdict f start card n state last (headerLine f next ++ rest) ≡ Refused BadLine
+unfolding frameVerdict
+header-no-frame f start card n state last next rest other =
+    rw (not-shaped (frameDigits f n) (headerLine f next ++ rest) (omega (arith, header-shape f next rest .long)) (fails (shaped (frameDigits f n) (headerLine f next ++ rest)) no-line))
+  where
+    no-line : shaped (frameDigits f n) (headerLine f next ++ rest) ≡ true → ⊥
+    no-line e =
+        let a : Shape (frameDigits f n) (headerLine f next ++ rest) = shape (frameDigits f n) (headerLine f next ++ rest) e in
+        let b : Shape (headerDigits f) (headerLine f next ++ rest) = header-shape f next rest in
+        by-cases (decLt (frameDigits f n) (headerDigits f)) (λ l. one-length (frameDigits f n) (headerDigits f) (headerLine f next ++ rest) a b l)
+        (λ l. by-cases (decLt (headerDigits f) (frameDigits f n)) (λ k. one-length (headerDigits f) (frameDigits f n) (headerLine f next ++ rest) b a k) (λ k. let q : frameDigits f n ≡ headerDigits f = omega (arith, k, l) in other q))

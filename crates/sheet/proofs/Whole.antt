@@ -96,7 +96,7 @@ whole-read F input e = whole-of F (readSheets F true 0 input .pages) (lines-read
 -- ---- written, then read
 
 -- a sheet of n cards is within the limits where it is due
-allowed-of : (n c first : ℕ) (p : Page) → SheetOf format n c p → c < n → n ≤ 16 → (eqb first 0 || eqb n first) ≡ true → Allowed format c first p
+pub allowed-of : (n c first : ℕ) (p : Page) → SheetOf format n c p → c < n → n ≤ 16 → (eqb first 0 || eqb n first) ≡ true → Allowed format c first p
 allowed-of n c first p s l few e =
     record {
       header =

@@ -42,13 +42,17 @@ abbrev pub lastOf : Frame → List Frame → Frame
 lastOf last [] = last
 lastOf last (fr ∷ frs) = lastOf fr frs
 
--- a header with one frame less than it declares, all within the limits; what stands behind them is refused
-pub record Short (f : Format) (due first : ℕ) (h : Header) (frs : List Frame) (rest : List ℕ) (r : Refusal) : Type 0 where
+-- a header over one frame less than it declares, all within the limits
+pub record OneFewer (f : Format) (due first : ℕ) (h : Header) (frs : List Frame) : Type 0 where
   pub header : headerAllowed f due first h ≡ true
   pub session : h .session < 16 ^ 8
   pub count : h .count ≡ length frs + 1
   pub formed : Formed (cardsOf f h) frs
   pub frames : framesAllowed f (h .card) (cardsOf f h) (h .base + 1) noFrame frs ≡ true
+
+-- where what stands behind them is refused
+pub record Short (f : Format) (due first : ℕ) (h : Header) (frs : List Frame) (rest : List ℕ) (r : Refusal) : Type 0 where
+  pub fewer : OneFewer f due first h frs
   pub next : frameVerdict f (startOf f h) (h .card) (cardsOf f h) (h .base + 1 + length frs) (lastOf noFrame frs) rest ≡ Refused r
 
 -- their bytes

@@ -1,5 +1,5 @@
 -- What the readers of one sheet and of a read-out refuse: a byte altered, a frame too few. Assumes nothing.
-use Prim.Native.Nat.{ℕ}
+use Prim.Native.Nat.{ℕ, _+_, _*_}
 use mathlib.Core.Path.{_≡_, refl, _∙_, ap}
 use mathlib.Core.Bool.{Bool, true, false, cond}
 use mathlib.Core.List.{List, [], _∷_, _++_}
@@ -11,16 +11,19 @@ use Rattle.refusal.specs.declared.Refusal.{Refusal}
 use Rattle.refusal.specs.declared.Refusal.the-variants.{TooLong}
 use Rattle.refusal.specs.declared.Verdict.{Verdict}
 use Rattle.refusal.specs.declared.Verdict.the-variants.{Accepted, Refused}
+use Rattle.frame.specs.declared.Header.{Header}
+use Rattle.frame.specs.declared.Frame.{Frame}
 use Rattle.frame.specs.Format.{format, formats}
+use Rattle.frame.specs.Lines.{startOf, frameVerdict, noFrame}
 use Rattle.line_round.proofs.Round.{formats-alike}
 use Rattle.sheet.specs.Pages.{Page, pagesBytes, readSheets}
-use Rattle.sheet.specs.Allowed.{shortBytes}
+use Rattle.sheet.specs.Allowed.{lastOf, OneFewer, Short, shortBytes}
 use Rattle.sheet.specs.Walk.{noReadout}
-use Rattle.sheet.proofs.Round.{formats-sound, altered-refused}
-use Rattle.sheet.proofs.Short.{first-short, later-short}
+use Rattle.sheet.proofs.Round.{formats-sound, altered-refused, ends-there}
+use Rattle.sheet.proofs.Short.{first-short, later-short, header-no-frame}
 use Rattle.readout.specs.Joint.{judged, lined, pagesRead, readoutOf}
 use Rattle.sheet_reader.specs.Single.{sheetReadOf}
-use Rattle.sheet_round.specs.Claims.{AlteredSheetRefused, AlteredReadoutRefused, ShortSheetRefused, ShortReadoutRefused, ShortFirstRefused}
+use Rattle.sheet_round.specs.Claims.{AlteredSheetRefused, AlteredReadoutRefused, ShortSheetRefused, ShortReadoutRefused, ShortFirstRefused, Next, ends, sheet, FewerRefused, FewerFirstRefused, FewerLaterRefused}
 use Rattle.sheet_round.proofs.Sheets.{verdict-accepted}
 
 -- ---- lines that are refused
@@ -67,3 +70,22 @@ pub short-readout-refused : ShortReadoutRefused
 short-readout-refused p ps h frs rest r a more k x l =
     let input = pagesBytes formats (p ∷ ps) ++ shortBytes format h frs rest in
     all-refused input r (le-ltb 65536 (length input) l) (later-short formats formats-sound 0 p ps h frs rest r a more k x)
+
+-- whatever number of frames there is
+next-refused : (card state : ℕ) (h : Header) (last : Frame) (rest : List ℕ) (r : Refusal) → Next (h .cards) rest r → frameVerdict format (startOf format h) card (h .cards) state last rest ≡ Refused r
+next-refused card state h last rest r ends = ends-there format (startOf format h) card (h .cards) state last
+next-refused card state h last rest r (sheet not-two next more) =
+    header-no-frame format (startOf format h) card (h .cards) state last next more (λ (e : 4 + 8 + h .cards * 4 ≡ 20). not-two (omega arith))
+
+short-of : (due first : ℕ) (h : Header) (frs : List Frame) (rest : List ℕ) (r : Refusal) → OneFewer format due first h frs → Next (h .cards) rest r → Short format due first h frs rest r
+short-of due first h frs rest r x n = record { fewer = x; next = next-refused (h .card) (h .base + 1 + length frs) h (lastOf noFrame frs) rest r n }
+
+pub fewer-refused : FewerRefused
+fewer-refused card h frs rest r x n l = short-sheet-refused card h frs rest r (short-of card 0 h frs rest r x n) l
+
+pub fewer-first-refused : FewerFirstRefused
+fewer-first-refused h frs rest r x n l = short-first-refused h frs rest r (short-of 0 0 h frs rest r x n) l
+
+pub fewer-later-refused : FewerLaterRefused
+fewer-later-refused p ps h frs rest r a more k x n l =
+    short-readout-refused p ps h frs rest r a more k (short-of (1 + length ps) (p .header .cards) h frs rest r x n) l

@@ -5,13 +5,15 @@ use mathlib.Core.List.{List, [], _∷_, _++_}
 use lib.ListN.{length, take, getD, set}
 use lib.Seq.{sets}
 use Rattle.refusal.specs.declared.Refusal.{Refusal}
+use Rattle.refusal.specs.declared.Refusal.the-variants.{BadLine, EndOrMore}
 use Rattle.refusal.specs.declared.Verdict.the-variants.{Accepted, Refused}
 use Rattle.frame.specs.declared.Header.{Header}
 use Rattle.frame.specs.declared.Frame.{Frame}
 use Rattle.frame.specs.Format.{format, formats}
+use Rattle.frame.specs.Lines.{headerLine}
 use Rattle.sheet.specs.declared.Readout.{Readout}
 use Rattle.sheet.specs.Pages.{Page, pagesBytes}
-use Rattle.sheet.specs.Allowed.{Allowed, AllAllowed, Short, shortBytes}
+use Rattle.sheet.specs.Allowed.{Allowed, AllAllowed, OneFewer, Short, shortBytes}
 use Rattle.sheet.specs.Walk.{noReadout, layPages}
 use Rattle.sheet.specs.Ring.{pageOf}
 use Rattle.write.specs.declared.Written.the-variants.{Length}
@@ -82,5 +84,34 @@ ShortReadoutRefused =
     AllAllowed formats 1 (p .header .cards) ps →
     length ps + 1 < p .header .cards →
     Short format (1 + length ps) (p .header .cards) h frs rest r →
+    length (pagesBytes formats (p ∷ ps) ++ shortBytes format h frs rest) ≤ 65536 →
+    readoutOf (pagesBytes formats (p ∷ ps) ++ shortBytes format h frs rest) ≡ record { readout = noReadout; verdict = Refused r }
+
+-- ---- "Its header declares 48 frames, 47 stand beneath", and so for every count
+
+-- What stands where the last frame is due, and the refusal: the input ends, or the header of a next sheet comes, whatever it says. With two cards a header is as long as a frame.
+pub data Next (cards : ℕ) : List ℕ → Refusal → Type 0 where
+  ends : Next cards [] EndOrMore
+  sheet : (cards ≡ 2 → ⊥) → (next : Header) (rest : List ℕ) → Next cards (headerLine format next ++ rest) BadLine
+
+-- A sheet by itself with one frame less than its header declares is 8 where the input ends there, and 5 where a header comes.
+abbrev pub FewerRefused : Type 0
+FewerRefused =
+    (card : ℕ) (h : Header) (frs : List Frame) (rest : List ℕ) (r : Refusal) → OneFewer format card 0 h frs → Next (h .cards) rest r → length (shortBytes format h frs rest) ≤ 65536 → sheetReadOf card (shortBytes format h frs rest) ≡ record { readout = noReadout; verdict = Refused r }
+
+-- So is the first sheet of a read-out.
+abbrev pub FewerFirstRefused : Type 0
+FewerFirstRefused =
+    (h : Header) (frs : List Frame) (rest : List ℕ) (r : Refusal) → OneFewer format 0 0 h frs → Next (h .cards) rest r → length (shortBytes format h frs rest) ≤ 65536 → readoutOf (shortBytes format h frs rest) ≡ record { readout = noReadout; verdict = Refused r }
+
+-- So is a later sheet of a read-out, behind whole ones.
+abbrev pub FewerLaterRefused : Type 0
+FewerLaterRefused =
+    (p : Page) (ps : List Page) (h : Header) (frs : List Frame) (rest : List ℕ) (r : Refusal) →
+    Allowed format 0 0 p →
+    AllAllowed formats 1 (p .header .cards) ps →
+    length ps + 1 < p .header .cards →
+    OneFewer format (1 + length ps) (p .header .cards) h frs →
+    Next (h .cards) rest r →
     length (pagesBytes formats (p ∷ ps) ++ shortBytes format h frs rest) ≤ 65536 →
     readoutOf (pagesBytes formats (p ∷ ps) ++ shortBytes format h frs rest) ≡ record { readout = noReadout; verdict = Refused r }
