@@ -47,7 +47,7 @@ use Rattle.cabinet.specs.View.{view}
 use Rattle.cabinet.specs.Apply.{Carried, OpenCarried, applyAll}
 use Rattle.cabinet.specs.Fixing.{FixCarried}
 use Rattle.cabinet.specs.Fresh.{Freshly, zeroCabinet, freshHead, voidHead}
-use Rattle.demands.specs.Lists.{Asked, opening, vote, take, withdraw, store, trim, safe, lose, fix, roll, sheet, restart, callOf, Typed, lent, Sized, FixAnswered, SheetAnswered, goingOn, RestartAnswered, Answered, List16, start, next}
+use Rattle.demands.specs.Lists.{Asked, opening, vote, take, withdraw, store, trim, safe, lose, fix, roll, sheet, restart, callOf, Typed, Lent, lent, Sized, FixAnswered, SheetAnswered, goingOn, RestartAnswered, Answered, List16, start, next}
 use Rattle.demands.specs.Claims.{RestartsRolling, Throughout, Demands23, RestartsLeft, Anywhere}
 use Rattle.verdicts.proofs.Held.{free-fits}
 use Rattle.sheet.proofs.Lay as lay
@@ -151,7 +151,7 @@ restarted-shows Accepted bytes s handed t z w v h e =
     })
 restarted-shows (Refused r) bytes s handed t z w v h e = subst (Shows (view s)) (sym e) (shown s z w)
 
-pub step : (s : Cabinet) → Sized s → Narrow (view s) → (asked : Asked) → Typed asked → (reply : Reply) (t : Cabinet) (after : List ℕ) → Answered s asked reply t after → Step s (callOf asked) reply t
+pub step : (s : Cabinet) → Sized s → Narrow (view s) → (asked : Asked) → Typed asked → (reply : Reply) (t : Cabinet) (after : Lent) → Answered s asked reply t after → Step s (callOf asked) reply t
 step s z w (opening reads writes) y reply t after d =
     record {
       choice = record { named = d .0 .named; lost = [] };
@@ -166,12 +166,13 @@ step s z w (store c x) y reply t after d = carried-step s z w (run.storeCall c x
 step s z w trim y reply t after d = carried-step s z w run.trimCall reply t tt refl (trim-fits s z w) (d .0)
 step s z w (safe k) y reply t after d = carried-step s z w (run.safeCall k) reply t tt refl (safe-fits s z w k) (d .0)
 step s z w (lose cards) y reply t after d = carried-step s z w (run.loseCall (member cards)) reply t tt refl (lose-fits s z w (member cards)) (d .0)
-step s z w (fix places list) y reply t after d =
+step s z w (fix records list) y reply t after d =
+    let c : FixCarried s (length records) list (after .numbers) (d .told) t = d .both .carried in
     record {
-      choice = record { named = 0; lost = d .carried .told .lost };
-      proper = d .carried .told .once;
-      replied = d .answer ∙ d .carried .told .answer;
-      after = planned s z w (fixPlan limits16 (view s) places (length list) (d .carried .told .lost)) t (fix-fits s z w places (length list) (d .carried .told .lost)) (d .carried .cabinet);
+      choice = record { named = 0; lost = c .told .lost };
+      proper = c .told .once;
+      replied = d .answer ∙ c .told .answer;
+      after = planned s z w (fixPlan limits16 (view s) (length records) (length list) (c .told .lost)) t (fix-fits s z w (length records) (length list) (c .told .lost)) (c .cabinet);
     }
 step s z w (roll c) y reply t after d = carried-step s z w (run.rollCall c) reply t tt refl (roll-fits s z w c) (d .0)
 step s z w (sheet c buffer) y reply t after d =
@@ -220,12 +221,12 @@ fresh-joined n s f =
     })
 
 -- the model's run with one call more, before its cabinet is said to be what the struct shows
-abbrev longer : {n : ℕ} {cs : Calls} {s : Cabinet} (l : List16 n cs s) → Joined l → (asked : Asked) (y : Typed asked) (reply : Reply) (t : Cabinet) (after : List ℕ) (d : Answered s asked reply t after)
+abbrev longer : {n : ℕ} {cs : Calls} {s : Cabinet} (l : List16 n cs s) → Joined l → (asked : Asked) (y : Typed asked) (reply : Reply) (t : Cabinet) (after : Lent) (d : Answered s asked reply t after)
     → (x : Choice) → Proper limits16 (view s) (callOf asked) x
     → Run16 (next l asked y reply t after d) (further cs (callOf asked) (planOf codec limits16 (view s) (callOf asked) x .reply)) (afterCall codec limits16 (view s) (callOf asked) x)
 longer l j asked y reply t after d x p = (run.next (j .made .0) (callOf asked) x p, λ w. (j .made .1 (w .0), w .1), λ w. (j .made .2 (w .0), w .1))
 
-further-joined : {n : ℕ} {cs : Calls} {s : Cabinet} (l : List16 n cs s) → Joined l → (asked : Asked) (y : Typed asked) (reply : Reply) (t : Cabinet) (after : List ℕ) (d : Answered s asked reply t after)
+further-joined : {n : ℕ} {cs : Calls} {s : Cabinet} (l : List16 n cs s) → Joined l → (asked : Asked) (y : Typed asked) (reply : Reply) (t : Cabinet) (after : Lent) (d : Answered s asked reply t after)
     → Step s (callOf asked) reply t → Joined (next l asked y reply t after d)
 further-joined {n} {cs} {s} l j asked y reply t after d e =
     record {
