@@ -79,8 +79,8 @@ Told c (Store card state) next text = Planned c (storePlan limits16 (view c) car
 Told c Trim next text = Planned c (trimPlan limits16 (view c)) next text
 Told c (Safe change) next text = Planned c (safePlan limits16 (view c) change) next text
 Told c (Lose cards) next text = LoseTold c cards next text
--- a readable line lends 776 places at most
-Told c (Fix records numbers) next text = FixSaid c records (min numbers 776) next text
+-- a readable line lends 16 records and 776 numbers at most
+Told c (Fix records numbers) next text = FixSaid c (min records 16) (min numbers 776) next text
 Told c (Roll card) next text = Planned c (rollPlan limits16 (view c) card) next text
 -- a readable line lends 65,536 bytes at most
 Told c (Sheet card bytes) next text = Planned c (sheetPlan codec limits16 (view c) card (min bytes 65536)) next text

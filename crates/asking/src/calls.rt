@@ -16,6 +16,7 @@ use crate::Replay;
 use crate::Stepped;
 use cabinet::Cabinet;
 use decimal::Writing;
+use records::CardRecord;
 use refusal::Refusal;
 
 // The call is refused for a card that no cabinet has.
@@ -173,16 +174,30 @@ fn blank_list() -> [u32; 776]
     [0; 776]
 }
 
-// 9. fix: the list for change numbers has at most 776 places.
+// A list for card records.
+fn blank_records() -> [CardRecord; 16]
+    ensures { λ r. ⌜ length r ≡ 16 ⌝ }
+{
+    let zero = CardRecord {
+        card: 0,
+        stored: 0,
+        line: 0,
+    };
+    [zero; 16]
+}
+
+// 9. fix: the list for card records has at most 16 places, that for change numbers at most 776.
 pub fn fix(c: Cabinet, records: u32, numbers: u32, b: &mut [u8], w: Writing) -> Stepped
-    ensures { λ r. ⌜ Written (Onward (FixSaid c records (min numbers 776)) (r .replay)) (now (b .entry)) w (r .written) (now (b .exit)) ⌝ }
+    ensures { λ r. ⌜ Written (Onward (FixSaid c (min records 16) (min numbers 776)) (r .replay)) (now (b .entry)) w (r .written) (now (b .exit)) ⌝ }
 {
     let core = c.core;
     let head = core.head;
     let cards = head.cards;
+    let blank = blank_records();
     let mut list = blank_list();
     let places = lent_places(numbers);
-    let a = c.fix(records as usize, &mut list[0..places]);
+    let out = c.fix_array(blank, records as usize, &mut list[0..places]);
+    let a = out.answer;
     let r = a.reply;
     let cabinet = a.cabinet;
     let stored = cabinet.core.stored;

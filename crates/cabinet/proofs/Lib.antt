@@ -4,3 +4,5 @@ pub mod Grow
 pub mod Bases
 pub mod Pages
 pub mod Told
+pub mod Lent
+pub mod Places

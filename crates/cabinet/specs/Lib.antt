@@ -3,3 +3,4 @@ pub mod Apply
 pub mod Fresh
 pub mod Fixing
 pub mod Writing
+pub mod Lent

@@ -1,12 +1,17 @@
 // Calls 6, 9 and 10 as methods: trim, fix, roll.
+ghost use Prim.Native.Nat.{min};
+ghost use mathlib.Core.Path.{_≡_};
 ghost use Rattle.protocol.specs.Calls.{trimPlan, rollPlan};
 ghost use Rattle.verdicts.specs.Shape.{limits16};
 ghost use Rattle.verdicts.specs.Answers.{replyOf};
 ghost use Rattle.cabinet.specs.View.{view};
 ghost use Rattle.cabinet.specs.Apply.{Carried};
 ghost use Rattle.cabinet.specs.Fixing.{FixCarried};
+ghost use Rattle.cabinet.specs.Lent.{numbersOf, FixLent, FixPart};
 use crate::Answer;
 use crate::Cabinet;
+use records::CardNumbers;
+use records::CardRecord;
 use recovery::FixReply;
 use verdicts::Phase;
 use verdicts::Reply;
@@ -15,6 +20,48 @@ use verdicts::Reply;
 pub struct FixAnswer {
     pub cabinet: Cabinet,
     pub reply: FixReply,
+}
+
+// What fix hands back to a caller whose card records are an array of its own.
+pub struct RecordsAnswer {
+    pub answer: FixAnswer,
+    pub records: [CardRecord; 16],
+}
+
+// What there is to put into the list of card records: the numbers of every card, and of none where fix is refused.
+fn numbers_of(answer: FixAnswer) -> CardNumbers
+    ensures { λ r. ⌜ r ≡ numbersOf answer ⌝ }
+{
+    let cards = answer.cabinet.core.head.cards;
+    let stored = answer.cabinet.core.stored;
+    let line = answer.cabinet.core.line;
+    let reply = answer.reply;
+    match reply {
+        FixReply::Fixed(_) => CardNumbers {
+            cards: cards as usize,
+            first: stored,
+            second: line,
+        },
+        FixReply::NotFixed(_) => CardNumbers {
+            cards: 0,
+            first: stored,
+            second: line,
+        },
+    }
+}
+
+// How many places of an array of 16 card records are lent.
+fn lent_records(places: usize) -> usize
+    ensures { λ r. ⌜ r ≡ min places 16 ⌝ }
+{
+    if places < 16 { places } else { 16 }
+}
+
+// The answer and the card records together.
+fn with_records(answer: FixAnswer, records: [CardRecord; 16]) -> RecordsAnswer
+    ensures { λ r. ⌜ (r .answer ≡ answer) × (r .records ≡ records) ⌝ }
+{
+    RecordsAnswer { answer, records }
 }
 
 impl Cabinet {
@@ -43,8 +90,8 @@ impl Cabinet {
         }
     }
 
-    // 9. fix: the numbers of the changes lost go into the lent list; `places` is the number of places for card records.
-    pub fn fix<'a>(self, places: usize, list: &'a mut [u32]) -> FixAnswer
+    // Fix but for the card records, for which there are so many places.
+    fn fixed<'a>(self, places: usize, list: &'a mut [u32]) -> FixAnswer
         ensures { λ r. ⌜ FixCarried self places (now (list .entry)) (now (list .exit)) (r .reply) (r .cabinet) ⌝ }
     {
         let core = self.core;
@@ -69,6 +116,30 @@ impl Cabinet {
             cabinet: next,
             reply: r,
         }
+    }
+
+    // 9. fix: the card records and the numbers of the changes lost go into the lists that the caller lends.
+    pub fn fix<'a, 'b>(self, records: &'a mut [CardRecord], list: &'b mut [u32]) -> FixAnswer
+        ensures { λ r. ⌜ FixLent self (now (records .entry)) (now (records .exit)) (now (list .entry)) (now (list .exit)) (r .reply) (r .cabinet) ⌝ }
+    {
+        let answer = self.fixed(records.len(), list);
+        let numbers = numbers_of(answer);
+        records::fill(records, numbers);
+        answer
+    }
+
+    // 9. fix for a caller whose card records are an array by value: so many places of its front are lent, and the array handed back.
+    pub fn fix_array<'a>(
+        self,
+        mut records: [CardRecord; 16],
+        places: usize,
+        list: &'a mut [u32],
+    ) -> RecordsAnswer
+        ensures { λ r. ⌜ FixPart self (min places 16) records (r .records) (now (list .entry)) (now (list .exit)) (r .answer .reply) (r .answer .cabinet) ⌝ }
+    {
+        let n = lent_records(places);
+        let answer = self.fix(&mut records[..n], list);
+        with_records(answer, records)
     }
 
     // 10. roll

@@ -1,6 +1,7 @@
 // What bench/run.sh measures, exported to Rust: each call once, on a cabinet that was forged for it.
 // A cabinet has so many cards, and on each so many states in hand, each made by a change of its own.
 use cabinet::Cabinet;
+use records::CardRecord;
 use recovery::FixReply;
 use verdicts::OpenReply;
 use verdicts::Phase;
@@ -286,7 +287,13 @@ pub extern "C" fn yerwaqis_fix(
     list: &mut [u32],
 ) -> u32 {
     let c = forged(cards, states, stored, verdicts::free_place(), Phase::Down);
-    let a = c.fix(16, list);
+    let zero = CardRecord {
+        card: 0,
+        stored: 0,
+        line: 0,
+    };
+    let out = c.fix_array([zero; 16], 16, list);
+    let a = out.answer;
     let r = a.reply;
     let c = a.cabinet;
     let e = looked(c, at);

@@ -3,6 +3,7 @@
 // bench/sheet/worked.py from document 01 alone: `python3 bench/sheet/worked.py crates/card_sheet_check`.
 use cabinet::Cabinet;
 use libc::STDOUT_FILENO;
+use records::CardRecord;
 use write::Written;
 
 fn say(r: Written) {
@@ -80,8 +81,14 @@ fn worked() -> Cabinet {
 fn fixed(c: Cabinet) -> Cabinet {
     let a = c.lose(3);
     let c = a.cabinet;
+    let zero = CardRecord {
+        card: 0,
+        stored: 0,
+        line: 0,
+    };
     let mut list = [0u32; 8];
-    let a = c.fix(2, &mut list);
+    let out = c.fix_array([zero; 16], 2, &mut list);
+    let a = out.answer;
     let c = a.cabinet;
     c
 }

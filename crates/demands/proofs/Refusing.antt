@@ -22,11 +22,13 @@ use Rattle.card_sheet.specs.Card.{bufferAfter}
 use Rattle.cabinet.specs.declared.Cabinet.{Cabinet}
 use Rattle.cabinet.specs.View.{view}
 use Rattle.cabinet.specs.Apply.{Carried, applyAll}
+use Rattle.cabinet.specs.Fixing.{FixCarried}
+use Rattle.cabinet.specs.Lent.{recordsAfter}
 use Rattle.codec.specs.Sheets.{restartReply}
 use Rattle.readout.specs.Joint.{readoutOf}
 use Rattle.restart.specs.Restart.{cabinetFor}
 use Rattle.joined.specs.Joined.{ownSheets, goingOn}
-use Rattle.demands.specs.Lists.{Asked, opening, vote, take, withdraw, store, trim, safe, lose, fix, roll, sheet, restart, callOf, lent, Answered}
+use Rattle.demands.specs.Lists.{Asked, opening, vote, take, withdraw, store, trim, safe, lose, fix, roll, sheet, restart, callOf, Lent, lent, Answered}
 use Rattle.demands.specs.Claims.{Refuses16, Demand1}
 
 no-choice : Choice
@@ -36,6 +38,9 @@ no-choice = record { named = 0; lost = [] }
 refused-keeps : (s : Cabinet) (cs : List Check) (a : Answer) (es : List Edit) (r : Refusal) → refused r ≡ checked cs a es .reply → applyAll (checked cs a es .edits) s ≡ s
 refused-keeps s cs a es r =
     checked-case (λ (p : Plan). refused r ≡ p .reply → applyAll (p .edits) s ≡ s) cs a es (λ q e. refl) (λ ps e. not-both a r (sym e))
+
+both-lists : (x y : Lent) → x .records ≡ y .records → x .numbers ≡ y .numbers → x ≡ y
+both-lists x y p q = λ i. record { records = p i; numbers = q i }
 
 pub demand-1-holds : Demand1
 demand-1-holds s asked t after r d = refuses asked d
@@ -60,12 +65,13 @@ demand-1-holds s asked t after r d = refuses asked d
     refuses trim d = by-plan trim (d .0) (refused-keeps s (trimChecks limits16 (view s)) _ _ r) (d .1)
     refuses (safe k) d = by-plan (safe k) (d .0) (refused-keeps s (safeChecks limits16 (view s) k) _ _ r) (d .1)
     refuses (lose cards) d = by-plan (lose cards) (d .0) (refused-keeps s (loseChecks limits16 (view s) (member cards)) _ _ r) (d .1)
-    refuses (fix places list) d =
-        let e : refused r ≡ planOf codec limits16 (view s) (run.fixCall places (length list)) (record { named = 0; lost = d .carried .told .lost }) .reply = d .answer ∙ d .carried .told .answer in
+    refuses (fix records list) d =
+        let c : FixCarried s (length records) list (after .numbers) (d .told) t = d .both .carried in
+        let e : refused r ≡ planOf codec limits16 (view s) (run.fixCall (length records) (length list)) (record { named = 0; lost = c .told .lost }) .reply = d .answer ∙ c .told .answer in
         record {
-          listed = demand-1 codec limits16 (view s) (run.fixCall places (length list)) (record { named = 0; lost = d .carried .told .lost }) .listed r (sym e);
-          cabinet = d .carried .cabinet ∙ refused-keeps s (fixChecks limits16 (view s) places (length list) (d .carried .told .lost)) _ _ r e;
-          lists = d .carried .told .list ∙ ap (λ (y : Reply). listAfter y list) (sym e);
+          listed = demand-1 codec limits16 (view s) (run.fixCall (length records) (length list)) (record { named = 0; lost = c .told .lost }) .listed r (sym e);
+          cabinet = c .cabinet ∙ refused-keeps s (fixChecks limits16 (view s) (length records) (length list) (c .told .lost)) _ _ r e;
+          lists = both-lists after (record { records = records; numbers = list }) (d .both .filled ∙ ap (λ (y : Reply). recordsAfter y records) (sym e)) (c .told .list ∙ ap (λ (y : Reply). listAfter y list) (sym e));
         }
     refuses (roll c) d = by-plan (roll c) (d .0) (refused-keeps s (rollChecks limits16 (view s) c) _ _ r) (d .1)
     refuses (sheet c buffer) d =
@@ -73,7 +79,7 @@ demand-1-holds s asked t after r d = refuses asked d
         record {
           listed = demand-1 codec limits16 (view s) (run.sheetCall c (length buffer)) no-choice .listed r (sym e);
           cabinet = d .carried .cabinet ∙ refused-keeps s (sheetChecks codec limits16 (view s) c (length buffer)) _ _ r e;
-          lists = d .carried .told .buffer ∙ ap (λ (y : Reply). bufferAfter y buffer) (sym e);
+          lists = both-lists after (record { records = []; numbers = buffer }) (d .noRecords) (d .carried .told .buffer ∙ ap (λ (y : Reply). bufferAfter y buffer) (sym e));
         }
     refuses restart d =
         record {

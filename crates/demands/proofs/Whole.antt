@@ -42,9 +42,10 @@ use Rattle.verdicts.proofs.Limits.{width16, inHand48, greatest60000, greatestNu
 use Rattle.cabinet.specs.declared.Cabinet.{Cabinet}
 use Rattle.cabinet.specs.View.{view}
 use Rattle.cabinet.specs.Apply.{Carried, applyAll}
+use Rattle.cabinet.specs.Fixing.{FixCarried}
 use Rattle.cabinet.specs.Fresh.{Freshly, zeroCabinet, freshHead, voidHead}
 use Rattle.joined.specs.Joined.{ownSheets, goingOn}
-use Rattle.demands.specs.Lists.{Asked, opening, vote, take, withdraw, store, trim, safe, lose, fix, roll, sheet, restart, callOf, Typed, Sized, Answered, List16, start, next}
+use Rattle.demands.specs.Lists.{Asked, opening, vote, take, withdraw, store, trim, safe, lose, fix, roll, sheet, restart, callOf, Typed, Lent, Sized, Answered, List16, start, next}
 use Rattle.demands.specs.Claims.{RestartGives, CabinetRight16, Throughout, Demands23}
 use Rattle.verdicts.proofs.Held.{free-fits}
 use Rattle.sheet.proofs.Lay as lay
@@ -151,7 +152,7 @@ restarted-shows true Accepted bytes s t z w v e =
 restarted-shows true (Refused r) bytes s t z w v e = subst (Shows (view s)) (sym e) (shown s z w)
 restarted-shows false v bytes s t z w q e = subst (Shows (view s)) (sym e) (shown s z w)
 
-pub step : (s : Cabinet) → Sized s → Narrow (view s) → (asked : Asked) → Typed asked → (reply : Reply) (t : Cabinet) (after : List ℕ) → Answered s asked reply t after → Step s (callOf asked) reply t
+pub step : (s : Cabinet) → Sized s → Narrow (view s) → (asked : Asked) → Typed asked → (reply : Reply) (t : Cabinet) (after : Lent) → Answered s asked reply t after → Step s (callOf asked) reply t
 step s z w (opening reads writes) y reply t after d =
     record {
       choice = record { named = d .0 .named; lost = [] };
@@ -166,12 +167,13 @@ step s z w (store c x) y reply t after d = carried-step s z w (run.storeCall c x
 step s z w trim y reply t after d = carried-step s z w run.trimCall reply t tt refl (trim-fits s z w) (d .0)
 step s z w (safe k) y reply t after d = carried-step s z w (run.safeCall k) reply t tt refl (safe-fits s z w k) (d .0)
 step s z w (lose cards) y reply t after d = carried-step s z w (run.loseCall (member cards)) reply t tt refl (lose-fits s z w (member cards)) (d .0)
-step s z w (fix places list) y reply t after d =
+step s z w (fix records list) y reply t after d =
+    let c : FixCarried s (length records) list (after .numbers) (d .told) t = d .both .carried in
     record {
-      choice = record { named = 0; lost = d .carried .told .lost };
-      proper = d .carried .told .once;
-      replied = d .answer ∙ d .carried .told .answer;
-      after = planned s z w (fixPlan limits16 (view s) places (length list) (d .carried .told .lost)) t (fix-fits s z w places (length list) (d .carried .told .lost)) (d .carried .cabinet);
+      choice = record { named = 0; lost = c .told .lost };
+      proper = c .told .once;
+      replied = d .answer ∙ c .told .answer;
+      after = planned s z w (fixPlan limits16 (view s) (length records) (length list) (c .told .lost)) t (fix-fits s z w (length records) (length list) (c .told .lost)) (c .cabinet);
     }
 step s z w (roll c) y reply t after d = carried-step s z w (run.rollCall c) reply t tt refl (roll-fits s z w c) (d .0)
 step s z w (sheet c buffer) y reply t after d =

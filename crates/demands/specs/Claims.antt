@@ -1,7 +1,6 @@
 -- Demands 1, 2 and 3 of the 16-card cabinet. Statements alone: the proofs are in proofs/Refusing.antt and proofs/Whole.antt.
 use Prim.Native.Nat.{ℕ, _<_}
 use mathlib.Core.Path.{_≡_}
-use mathlib.Core.List.{List}
 use lib.Dec.{ltb}
 use Rattle.refusal.specs.declared.Refusal.{Refusal}
 use Rattle.refusal.specs.Number.{numberOf}
@@ -16,16 +15,16 @@ use Rattle.verdicts.specs.Shape.{limits16}
 use Rattle.cabinet.specs.declared.Cabinet.{Cabinet}
 use Rattle.cabinet.specs.View.{view}
 use Rattle.restart.specs.Restart.{Restarted}
-use Rattle.demands.specs.Lists.{Asked, callOf, lent, Answered, List16, start, next}
+use Rattle.demands.specs.Lists.{Asked, callOf, Lent, lent, Answered, List16, start, next}
 
 -- ---- Demand 1, for any cabinet, a forged one too, and any arguments: "gets an answer or a refusal from document 01. A refusal changes neither the cabinet nor any lent list or buffer."
-pub record Refuses16 (s : Cabinet) (asked : Asked) (t : Cabinet) (after : List ℕ) (r : Refusal) : Type 0 where
+pub record Refuses16 (s : Cabinet) (asked : Asked) (t : Cabinet) (after : Lent) (r : Refusal) : Type 0 where
   pub listed : Listed (numberOf r)
   pub cabinet : t ≡ s
   pub lists : after ≡ lent asked
 
 abbrev pub Demand1 : Type 0
-Demand1 = (s : Cabinet) (asked : Asked) (t : Cabinet) (after : List ℕ) (r : Refusal) → Answered s asked (refused r) t after → Refuses16 s asked t after r
+Demand1 = (s : Cabinet) (asked : Asked) (t : Cabinet) (after : Lent) (r : Refusal) → Answered s asked (refused r) t after → Refuses16 s asked t after r
 
 -- ---- Demands 2 and 3
 -- "the sheets of all cards, joined, restart to the line answered": what the restart of the code hands back

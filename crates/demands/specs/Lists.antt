@@ -16,7 +16,8 @@ use Rattle.verdicts.specs.declared.Core.{Core}
 use Rattle.cabinet.specs.declared.Cabinet.{Cabinet}
 use Rattle.cabinet.specs.View.{view}
 use Rattle.cabinet.specs.Apply.{Carried, OpenCarried}
-use Rattle.cabinet.specs.Fixing.{FixCarried}
+use Rattle.cabinet.specs.Lent.{FixLent}
+use Rattle.records.specs.declared.CardRecord.{CardRecord}
 use Rattle.cabinet.specs.Writing.{SheetCarried}
 use Rattle.card_sheet.specs.Card.{sheetReplyOf}
 use Rattle.write.specs.declared.Written.{Written}
@@ -33,7 +34,7 @@ pub data Asked : Type 0 where
   trim : Asked
   safe : (change : ℕ) → Asked
   lose : (cards : ℕ) → Asked
-  fix : (places : ℕ) (list : List ℕ) → Asked
+  fix : (records : List CardRecord) (list : List ℕ) → Asked
   roll : (card : ℕ) → Asked
   sheet : (card : ℕ) (buffer : List ℕ) → Asked
   -- restart from the sheets of all cards as this cabinet writes them, joined
@@ -49,7 +50,7 @@ callOf (store c s) = run.storeCall c s
 callOf trim = run.trimCall
 callOf (safe k) = run.safeCall k
 callOf (lose cards) = run.loseCall (member cards)
-callOf (fix places list) = run.fixCall places (length list)
+callOf (fix records list) = run.fixCall (length records) (length list)
 callOf (roll c) = run.rollCall c
 callOf (sheet c buffer) = run.sheetCall c (length buffer)
 callOf restart = run.restartCall
@@ -64,25 +65,33 @@ Typed (store c s) = Unit {0}
 Typed trim = Unit {0}
 Typed (safe k) = Unit {0}
 Typed (lose cards) = cards < 65536
-Typed (fix places list) = Unit {0}
+Typed (fix records list) = Unit {0}
 Typed (roll c) = Unit {0}
 Typed (sheet c buffer) = Unit {0}
 Typed restart = Unit {0}
 
--- the list or buffer that a call lends, as it stands before the call; none is lent by the others
-abbrev pub lent : Asked → List ℕ
-lent (opening reads writes) = []
-lent (vote k c agrees) = []
-lent (take k c) = []
-lent (withdraw k) = []
-lent (store c s) = []
-lent trim = []
-lent (safe k) = []
-lent (lose cards) = []
-lent (fix places list) = list
-lent (roll c) = []
-lent (sheet c buffer) = buffer
-lent restart = []
+-- what stands in the lists that a call lends: card records, and numbers (of changes lost, or the bytes of a buffer)
+pub record Lent : Type 0 where
+  pub records : List CardRecord
+  pub numbers : List ℕ
+
+abbrev pub nothingLent : Lent
+nothingLent = record { records = []; numbers = [] }
+
+-- before the call
+abbrev pub lent : Asked → Lent
+lent (opening reads writes) = nothingLent
+lent (vote k c agrees) = nothingLent
+lent (take k c) = nothingLent
+lent (withdraw k) = nothingLent
+lent (store c s) = nothingLent
+lent trim = nothingLent
+lent (safe k) = nothingLent
+lent (lose cards) = nothingLent
+lent (fix records list) = record { records = records; numbers = list }
+lent (roll c) = nothingLent
+lent (sheet c buffer) = record { records = []; numbers = buffer }
+lent restart = nothingLent
 
 -- what the type of the cabinet says: each list has its length, and a set has 16 bits
 pub record SizedCore (s : Core) : Type 0 where
@@ -103,34 +112,35 @@ pub record Sized (s : Cabinet) : Type 0 where
   pub core : SizedCore (s .core)
 
 -- fix: what its contract says, and its reply in document 01's values
-pub record FixAnswered (s : Cabinet) (places : ℕ) (before : List ℕ) (reply : Reply) (next : Cabinet) (after : List ℕ) : Type 0 where
+pub record FixAnswered (s : Cabinet) (records : List CardRecord) (list : List ℕ) (reply : Reply) (next : Cabinet) (after : Lent) : Type 0 where
   pub told : FixReply
-  pub carried : FixCarried s places before after told next
-  pub answer : reply ≡ fixReplyOf (s .core .head .cards) (next .core .stored) (next .core .line) after told
+  pub both : FixLent s records (after .records) list (after .numbers) told next
+  pub answer : reply ≡ fixReplyOf (s .core .head .cards) (next .core .stored) (next .core .line) (after .numbers) told
 
 -- a card's sheet into a lent buffer: what its contract says, and its reply in document 01's values
-pub record SheetAnswered (s : Cabinet) (card : ℕ) (before : List ℕ) (reply : Reply) (next : Cabinet) (after : List ℕ) : Type 0 where
+pub record SheetAnswered (s : Cabinet) (card : ℕ) (before : List ℕ) (reply : Reply) (next : Cabinet) (after : Lent) : Type 0 where
   pub told : Written
-  pub carried : SheetCarried s card before after told next
-  pub answer : reply ≡ sheetReplyOf after told
+  pub carried : SheetCarried s card before (after .numbers) told next
+  pub answer : reply ≡ sheetReplyOf (after .numbers) told
+  pub noRecords : after .records ≡ []
 
--- what a call answers, the cabinet that it hands back, and the list or buffer lent after it: the contract of each method
-abbrev pub Answered : Cabinet → Asked → Reply → Cabinet → List ℕ → Type 0
-Answered s (opening reads writes) reply next after = OpenCarried s reads writes reply next × (after ≡ [])
-Answered s (vote k c agrees) reply next after = Carried s (votePlan limits16 (view s) k c agrees) reply next × (after ≡ [])
-Answered s (take k c) reply next after = Carried s (takePlan limits16 (view s) k c) reply next × (after ≡ [])
-Answered s (withdraw k) reply next after = Carried s (withdrawPlan limits16 (view s) k) reply next × (after ≡ [])
-Answered s (store c x) reply next after = Carried s (storePlan limits16 (view s) c x) reply next × (after ≡ [])
-Answered s trim reply next after = Carried s (trimPlan limits16 (view s)) reply next × (after ≡ [])
-Answered s (safe k) reply next after = Carried s (safePlan limits16 (view s) k) reply next × (after ≡ [])
-Answered s (lose cards) reply next after = Carried s (losePlan limits16 (view s) (member cards)) reply next × (after ≡ [])
-Answered s (fix places list) reply next after = FixAnswered s places list reply next after
-Answered s (roll c) reply next after = Carried s (rollPlan limits16 (view s) c) reply next × (after ≡ [])
+-- what a call answers, the cabinet that it hands back, and what stands in the lists lent after it: the contract of each method
+abbrev pub Answered : Cabinet → Asked → Reply → Cabinet → Lent → Type 0
+Answered s (opening reads writes) reply next after = OpenCarried s reads writes reply next × (after ≡ nothingLent)
+Answered s (vote k c agrees) reply next after = Carried s (votePlan limits16 (view s) k c agrees) reply next × (after ≡ nothingLent)
+Answered s (take k c) reply next after = Carried s (takePlan limits16 (view s) k c) reply next × (after ≡ nothingLent)
+Answered s (withdraw k) reply next after = Carried s (withdrawPlan limits16 (view s) k) reply next × (after ≡ nothingLent)
+Answered s (store c x) reply next after = Carried s (storePlan limits16 (view s) c x) reply next × (after ≡ nothingLent)
+Answered s trim reply next after = Carried s (trimPlan limits16 (view s)) reply next × (after ≡ nothingLent)
+Answered s (safe k) reply next after = Carried s (safePlan limits16 (view s) k) reply next × (after ≡ nothingLent)
+Answered s (lose cards) reply next after = Carried s (losePlan limits16 (view s) (member cards)) reply next × (after ≡ nothingLent)
+Answered s (fix records list) reply next after = FixAnswered s records list reply next after
+Answered s (roll c) reply next after = Carried s (rollPlan limits16 (view s) c) reply next × (after ≡ nothingLent)
 Answered s (sheet c buffer) reply next after = SheetAnswered s c buffer reply next after
-Answered s restart reply next after = FromOwnSheets s reply next × (after ≡ [])
+Answered s restart reply next after = FromOwnSheets s reply next × (after ≡ nothingLent)
 
 -- the calls made from a fresh cabinet of n cards, and the cabinet that they lead to
 pub data List16 (n : ℕ) : Calls → Cabinet → Type 0 where
   start : (s : Cabinet) → Freshly n (accepted done) s → List16 n none s
-  next : {cs : Calls} {s : Cabinet} → List16 n cs s → (asked : Asked) → Typed asked → (reply : Reply) (t : Cabinet) (after : List ℕ) → Answered s asked reply t after
+  next : {cs : Calls} {s : Cabinet} → List16 n cs s → (asked : Asked) → Typed asked → (reply : Reply) (t : Cabinet) (after : Lent) → Answered s asked reply t after
       → List16 n (further cs (callOf asked) reply) t

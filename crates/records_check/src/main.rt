@@ -1,6 +1,6 @@
-// Runs fix with both lists lent and prints, for each fix: how many changes are lost, or the refusal's number; then of the
-// card records the first three places and the last (card, stored, line), and the three places of the list of changes lost.
-// Places that no answer wrote hold 9 in a record and 7 in the list.
+// Runs fix with both lists lent and prints, for each fix: how many changes are lost, or the refusal's number; then of 16
+// card records the first three and the last (card, stored, line), and three numbers of a list of changes lost. Of both only a
+// front is lent. Places that no answer wrote hold 9 in a record and 7 in the list.
 use cabinet::Cabinet;
 use records::CardRecord;
 use recovery::FixReply;
@@ -49,40 +49,22 @@ fn say_records(records: [CardRecord; 16]) {
     say_record(records[15]);
 }
 
-// Fix into records that hold 9 and a list of three places that hold 7.
-fn fix(c: Cabinet) -> Cabinet {
+// Fix, lent so many first places of 16 records that hold 9 and of a list of three places that hold 7.
+fn fix(c: Cabinet, places: usize, room: usize) -> Cabinet {
     let nine = CardRecord {
         card: 9,
         stored: 9,
         line: 9,
     };
     let mut list = [7u32; 3];
-    let out = fixing::fix_array(c, [nine; 16], &mut list);
+    let n = room % 4;
+    let out = c.fix_array([nine; 16], places, &mut list[..n]);
     let a = out.answer;
     let reply = a.reply;
     let records = out.records;
     say_reply(reply);
     say_records(records);
     say(list[0], list[1], list[2]);
-    let next = a.cabinet;
-    next
-}
-
-// The same with a list of one place.
-fn fix_short(c: Cabinet) -> Cabinet {
-    let nine = CardRecord {
-        card: 9,
-        stored: 9,
-        line: 9,
-    };
-    let mut list = [7u32; 1];
-    let out = fixing::fix_array(c, [nine; 16], &mut list);
-    let a = out.answer;
-    let reply = a.reply;
-    let records = out.records;
-    say_reply(reply);
-    say_records(records);
-    say_one(list[0]);
     let next = a.cabinet;
     next
 }
@@ -107,7 +89,8 @@ fn change_on_two(c: Cabinet, k: u32) -> Cabinet {
     next
 }
 
-// Sample B: fix is refused while up, with 4 where the list is too short, and again once it is done.
+// Sample B, two cards and two changes lost: fix is refused while up, with 4 where either list is too short, and again once it
+// is done; it is done where the lists are just long enough, and where they are longer.
 fn sample_b() {
     let a = Cabinet::fresh(2);
     let c = a.cabinet;
@@ -115,18 +98,23 @@ fn sample_b() {
     let c = change_on_two(c, 2);
     let c = change_on_one(c, 3);
     let a = c.store(0, 2);
-    let c = fix(a.cabinet);
+    let c = fix(a.cabinet, 16, 3);
     let a = c.lose(2);
-    let c = fix_short(a.cabinet);
-    let c = fix(c);
-    fix(c);
+    let c = fix(a.cabinet, 1, 2);
+    let c = fix(c, 2, 1);
+    let c = fix(c, 0, 0);
+    fix(c, 3, 2);
+    fix(c, 2, 3);
+    let c = fix(c, 2, 2);
+    fix(c, 16, 3);
 }
 
-// A cabinet of 16 cards fills every place.
+// A cabinet of 16 cards has a place for every record, or is refused with 4.
 fn all_cards() {
     let a = Cabinet::fresh(16);
     let b = a.cabinet.lose(65535);
-    fix(b.cabinet);
+    let c = fix(b.cabinet, 15, 0);
+    fix(c, 16, 0);
 }
 
 fn main() {

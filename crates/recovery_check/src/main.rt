@@ -5,6 +5,7 @@
 use cabinet::Cabinet;
 use cabinet::recover::FixAnswer;
 use libc::STDOUT_FILENO;
+use records::CardRecord;
 use recovery::FixReply;
 use refusal::Refusal;
 use verdicts::OpenReply;
@@ -205,7 +206,13 @@ fn say_fix(a: FixAnswer, list: [u32; 20]) {
 fn fix(c: Cabinet, records: usize, room: usize) -> Cabinet {
     let mut list = [7u32; 20];
     let n = room % 21;
-    let a = c.fix(records, &mut list[..n]);
+    let zero = CardRecord {
+        card: 0,
+        stored: 0,
+        line: 0,
+    };
+    let out = c.fix_array([zero; 16], records, &mut list[..n]);
+    let a = out.answer;
     say_fix(a, list);
     let c = a.cabinet;
     c

@@ -1,12 +1,17 @@
 -- `asking::calls::fix` calls fix and writes its answer. Assumes nothing.
-use Prim.Native.Nat.{_-_}
+use Prim.Native.Nat.{_-_, _≤_, min}
 use mathlib.Core.Path.{_≡_, _∙_}
 use native.Mathlib.Omega.{arith}
+use lib.ListN.{length}
 use lib.Seq.{take-at}
+use Rattle.cabinet.proofs.Lent.{part-carried}
 use Rattle.asking.proofs.Laws.{fixed-by, onward}
 use borrow.Author.Needs.{needs}
 use Rattle.asking.proofs.calls.fix.Statement.{statement}
 use Rattle.asking.proofs.calls.fix.Tie as tie
+
+blank-records-requires : tie.Need-blank-records-requires
+blank-records-requires c κs = search needs
 
 blank-list-requires : tie.Need-blank-list-requires
 blank-list-requires c κs = search needs
@@ -14,8 +19,8 @@ blank-list-requires c κs = search needs
 lent-places-requires : tie.Need-lent-places-requires
 lent-places-requires c κs = search needs
 
-sub-fix : tie.Need-sub-fix
-sub-fix c = search needs
+sub-fix-array : tie.Need-sub-fix-array
+sub-fix-array c = search needs
 
 part-list-start : tie.Need-part-list-start
 part-list-start c = search needs
@@ -23,8 +28,8 @@ part-list-start c = search needs
 part-list-end : tie.Need-part-list-end
 part-list-end c = search needs
 
-fix-requires : tie.Need-fix-requires
-fix-requires c κs = search needs
+fix-array-requires : tie.Need-fix-array-requires
+fix-array-requires c κs = search needs
 
 put-fix-requires : tie.Need-put-fix-requires
 put-fix-requires c κs = search needs
@@ -33,20 +38,22 @@ same-length : tie.Need-same-length
 same-length c = search needs
 
 returns : tie.Need-returns
-returns c = let z : c .before .before .before .before .before .before .before .before .before .before .lent-places .result - 0 ≡ c .before .before .before .before .before .before .before .before .before .before .lent-places .result = omega arith in
-    onward _ (fixed-by (c .before .before .before .before .before .before .before .before .before .before .lent-places .result) _ _ (c .before .before .before .before .before .before .before .before .fix .ensures) (c .before .before .before .before .before .before .before .before .before .list .given .2 ∙ z ∙ c .before .before .before .before .before .before .before .before .before .before .lent-places .ensures)
-    (take-at _ _ _ (c .before .before .before .before .before .before .before .list2 .given ∙ c .before .before .before .before .before .before .before .before .before .list .given .2 ∙ z)) (c .before .before .put-fix .ensures))
+returns c = let z : c .before .before .before .before .before .before .before .before .before .before .before .lent-places .result - 0 ≡ c .before .before .before .before .before .before .before .before .before .before .before .lent-places .result = omega arith in
+    let long : min (c .before .before .before .before .before .before .before .before .before .before .before .before .before .before .before .before .before .args .records) 16 ≤ length (c .before .before .before .before .before .before .before .before .before .before .before .before .before .blank-records .result) = omega (arith, c .before .before .before .before .before .before .before .before .before .before .before .before .before .blank-records .ensures) in
+    onward _ (fixed-by (c .before .before .before .before .before .before .before .before .before .before .before .lent-places .result) _ _ (part-carried (c .before .before .before .before .before .before .before .before .before .fix-array .ensures) long) (c .before .before .before .before .before .before .before .before .before .before .list .given .2 ∙ z ∙ c .before .before .before .before .before .before .before .before .before .before .before .lent-places .ensures)
+    (take-at _ _ _ (c .before .before .before .before .before .before .before .before .list2 .given ∙ c .before .before .before .before .before .before .before .before .before .before .list .given .2 ∙ z)) (c .before .before .put-fix .ensures))
 
 pub fix-spec : {M : Type 1} → statement M
 fix-spec =
     tie.close
     (tie.spec
+    blank-records-requires
     blank-list-requires
     lent-places-requires
-    sub-fix
+    sub-fix-array
     part-list-start
     part-list-end
-    fix-requires
+    fix-array-requires
     put-fix-requires
     same-length
     returns)

@@ -2,11 +2,11 @@ use mathlib.Core.Path.{sym, ap}
 use Prim.Native.Nat.{ℕ}
 use borrow.Author.Needs.{needs}
 use Rattle.recovery.specs.declared.FixReply.{FixReply}
-use Rattle.fixing.specs.Lent.{cardsIn}
-use Rattle.fixing.proofs.numbers_of.Statement.{statement}
-use Rattle.fixing.proofs.numbers_of.Tie as tie
-use Rattle.fixing.proofs.numbers_of.Reads as reads
-use Rattle.fixing.proofs.numbers_of.Lts as lts
+use Rattle.cabinet.specs.Lent.{cardsIn}
+use Rattle.cabinet.proofs.recover.numbers_of.Statement.{statement}
+use Rattle.cabinet.proofs.recover.numbers_of.Tie as tie
+use Rattle.cabinet.proofs.recover.numbers_of.Reads as reads
+use Rattle.cabinet.proofs.recover.numbers_of.Lts as lts
 
 -- src/lib.rt:20:20
 enum-told : tie.Need-enum-told

@@ -2,7 +2,7 @@
 use Prim.Native.Nat.{ℕ}
 use mathlib.Core.Path.{_≡_}
 use mathlib.Core.List.{List, map}
-use lib.ListN.{length}
+use lib.ListN.{length, take, drop}
 use lib.Seq.{sets}
 use Rattle.protocol.specs.Plan.{CardRow, done, opened, safe, unsafe, fixed, written, accepted, refused}
 use Rattle.protocol.specs.Plan as plan
@@ -44,3 +44,8 @@ numbersOf a = record { cards = cardsIn (a .reply) (a .cabinet .core .head .cards
 pub record FixLent (s : Cabinet) (records recordsNow : List CardRecord) (list listNow : List ℕ) (reply : FixReply) (next : Cabinet) : Type 0 where
   pub carried : FixCarried s (length records) list listNow reply next
   pub filled : recordsNow ≡ recordsAfter (fixPlan limits16 (view s) (length records) (length list) (carried .told .lost) .reply) records
+
+-- the same where the first n places of an array of card records are lent: the others keep what they held
+pub record FixPart (s : Cabinet) (n : ℕ) (records recordsNow : List CardRecord) (list listNow : List ℕ) (reply : FixReply) (next : Cabinet) : Type 0 where
+  pub front : FixLent s (take n records) (take n recordsNow) list listNow reply next
+  pub beyond : drop n recordsNow ≡ drop n records

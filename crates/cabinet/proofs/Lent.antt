@@ -1,12 +1,12 @@
 -- The list of card records that is filled from what fix answered is the one that fix's plan says. Assumes nothing.
 use Prim.Native.Nat.{ℕ, zero, suc, _≤_, _<_}
-use mathlib.Core.Path.{_≡_, refl, sym, _∙_, ap}
+use mathlib.Core.Path.{_≡_, refl, sym, _∙_, ap, subst}
 use mathlib.Core.Bool.{Bool, true, false, not, _&&_, _||_, cond}
 use mathlib.Core.List.{List, [], _∷_, _++_, map}
 use native.Mathlib.Omega.{arith}
 use lib.Dec.{leb, ltb}
 use lib.ListN.{length, take}
-use lib.Seq.{sets}
+use lib.Seq.{sets, length-take-le}
 use borrow.Author.Tests.{lt-ltb, le-ltb, le-leb, ltb-false, not-true, not-false}
 use Rattle.laws.specs.Below.{allBelow, anyBelow, selected, tabulate}
 use Rattle.laws.proofs.Logic.{and-left, and-right, and-intro, cond-true, cond-case}
@@ -28,15 +28,15 @@ use Rattle.recovery.specs.declared.FixReply.{FixReply}
 use Rattle.recovery.specs.declared.FixReply.the-variants.{Fixed, NotFixed}
 use Rattle.recovery.specs.Fix.{rowsOf, fixReplyOf}
 use Rattle.recovery.proofs.Rows.{length-selected}
 use Rattle.cabinet.specs.declared.Cabinet.{Cabinet}
 use Rattle.cabinet.specs.declared.recover.FixAnswer.{FixAnswer}
 use Rattle.cabinet.specs.View.{view}
 use Rattle.cabinet.specs.Apply.{applyAll}
 use Rattle.cabinet.specs.Fixing.{FixCarried}
 use Rattle.records.specs.declared.CardRecord.{CardRecord}
 use Rattle.records.specs.declared.CardNumbers.{CardNumbers}
 use Rattle.records.specs.Records.{recordAt, filled}
-use Rattle.fixing.specs.Lent.{recordOf, recordsAfter, cardsIn, numbersOf, FixLent}
+use Rattle.cabinet.specs.Lent.{recordOf, recordsAfter, cardsIn, numbersOf, FixLent, FixPart}
 
 -- ---- a filled list of card records
 -- with no card nothing is written
@@ -170,3 +170,8 @@ module _ (s : Cabinet) (records : List CardRecord) (list listNow : List ℕ) (a 
   -- the contract, from what the three calls say
   pub lends : (numbers : CardNumbers) (recordsNow : List CardRecord) → numbers ≡ numbersOf a → recordsNow ≡ filled numbers records → FixLent s records recordsNow list listNow (a .reply) (a .cabinet)
   lends numbers recordsNow e f = record { carried = t; filled = f ∙ ap (λ (h : CardNumbers). filled h records) e ∙ lent (a .reply) refl }
+
+-- where the first n places of an array are lent, fix has n places for card records
+pub part-carried : {s : Cabinet} {n : ℕ} {records recordsNow : List CardRecord} {list listNow : List ℕ} {reply : FixReply} {next : Cabinet}
+    → FixPart s n records recordsNow list listNow reply next → n ≤ length records → FixCarried s n list listNow reply next
+part-carried {s} {n} {records} {list = list} {listNow} {reply} {next} f fit = subst (λ (k : ℕ). FixCarried s k list listNow reply next) (length-take-le n records fit) (f .front .carried)

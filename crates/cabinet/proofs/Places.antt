@@ -18,14 +18,14 @@ use Rattle.protocol.specs.Calls.{lines, cardRows, fixChecks}
 use Rattle.verdicts.specs.Shape.{limits16, at}
 use Rattle.recovery.specs.declared.FixReply.the-variants.{Fixed, NotFixed}
 use Rattle.recovery.specs.Fix.{listAfter}
 use Rattle.cabinet.specs.declared.Cabinet.{Cabinet}
 use Rattle.cabinet.specs.declared.recover.FixAnswer.{FixAnswer}
 use Rattle.cabinet.specs.View.{view}
 use Rattle.cabinet.specs.Apply.{applyAll}
 use Rattle.cabinet.proofs.Grow.{getD-sets-in, getD-sets-out}
 use Rattle.records.specs.declared.CardRecord.{CardRecord}
-use Rattle.fixing.specs.Lent.{recordsAfter, FixLent}
-use Rattle.fixing.proofs.Lent.{fit, in-place}
+use Rattle.cabinet.specs.Lent.{recordsAfter, FixLent}
+use Rattle.cabinet.proofs.Lent.{fit, in-place}
 
 -- a refused plan makes no edit
 no-edits : (cs : List Check) (a : Answer) (q : Refusal) (es : List Edit) → refused q ≡ checked cs a es .reply → checked cs a es .edits ≡ []
