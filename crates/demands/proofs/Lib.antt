@@ -3,5 +3,6 @@ pub mod Narrow
 pub mod Laws
 pub mod Plans
 pub mod Fresh
-pub mod Whole
+pub mod Some
 pub mod Refusing
+pub mod Whole

@@ -56,6 +56,7 @@ use Rattle.demands.proofs.Lengths.{by-card, by-place, set-small}
 use Rattle.demands.proofs.Laws.{EditsFit, Shows, edits-show}
 use Rattle.demands.proofs.Plans.{open-fits, vote-fits, take-fits, withdraw-fits, store-fits, trim-fits, safe-fits, lose-fits, fix-fits, roll-fits}
 use Rattle.demands.proofs.Fresh.{fresh-shows}
+use Rattle.demands.proofs.Refusing.{barred-below}
 
 limits-fit : SheetLimits limits16
 limits-fit = record { width = width16; inHand = inHand48; greatestState = greatest60000; greatestNumber = greatestNumber32 }
@@ -77,22 +78,6 @@ planned s z w p t f e = subst (Shows (afterPlan limits16 p (view s))) (sym e) (e
 
 no-choice : Choice
 no-choice = record { named = 0; lost = [] }
-
--- a card that an opening touches and finds barred is one of the 16
-barred-below : (m : Model) (reads writes c : ℕ) → reads < 65536 → writes < 65536 → barred limits16 m (member reads) (member writes) c ≡ true → c < limits16 .width
-barred-below m reads writes c hr hw e =
-    by-cases (decLt c 16) (λ l. omega (arith, l, width16))
-    (λ l. let f : Found (limits16 .places) (λ p. bars (m .place p) (member reads) (member writes) c) = any-elim (limits16 .places) (λ p. bars (m .place p) (member reads) (member writes) c) e in
-    absurd (nobody (m .place (f .0)) (omega (arith, l)) (f .2)))
-  where
-    nobody : (o : OpenChange) → 16 ≤ c → bars o (member reads) (member writes) c ≡ true → ⊥
-    nobody o h q =
-        let a : member writes c || (member reads c && o .change .writes c) ≡ true = and-right (isOpen o && touches (o .change) c && not (o .taken c)) (member writes c || (member reads c && o .change .writes c)) q in
-        none-of (or-elim (member writes c) (member reads c && o .change .writes c) a)
-      where
-        none-of : (member writes c ≡ true) ⊎ (member reads c && o .change .writes c ≡ true) → ⊥
-        none-of (inl y) = clash y (member-above 16 writes c hw h)
-        none-of (inr y) = clash (and-left (member reads c) (o .change .writes c) y) (member-above 16 reads c hr h)
 
 -- a call that is carried out by its plan
 carried-step : (s : Cabinet) → Sized s → Narrow (view s) → (call : Call) (reply : Reply) (t : Cabinet) → Proper limits16 (view s) call no-choice

@@ -1,30 +1,47 @@
 -- Demands 1, 2 and 3 of the 16-card cabinet. Statements alone: the proofs are in proofs/Refusing.antt and proofs/Whole.antt.
 use Prim.Native.Nat.{ℕ, _<_}
 use mathlib.Core.Path.{_≡_}
+use mathlib.Core.List.{List}
 use lib.Dec.{ltb}
 use Rattle.refusal.specs.declared.Refusal.{Refusal}
 use Rattle.refusal.specs.Number.{numberOf}
 use Rattle.frame.specs.Format.{formats}
 use Rattle.history.specs.Change.{CardSet, Numbers}
 use Rattle.codec.specs.Sheets.{joinedSheets, codec}
-use Rattle.protocol.specs.Plan.{Answer, done, Reply, accepted, refused}
+use Rattle.protocol.specs.Plan.{Answer, done, Reply, accepted, refused, Check, Passed, Due}
 use Rattle.protocol.specs.Journal.{fixing}
-use Rattle.protocol.specs.Run.{Calls, none, further, journal}
+use Rattle.protocol.specs.Run.{Choice, Proper, checksOf, Calls, none, further, journal}
 use Rattle.protocol.specs.Demands.{Listed, CallRight, CabinetRight}
 use Rattle.verdicts.specs.Shape.{limits16}
 use Rattle.cabinet.specs.declared.Cabinet.{Cabinet}
 use Rattle.cabinet.specs.View.{view}
 use Rattle.restart.specs.Restart.{Restarted}
-use Rattle.demands.specs.Lists.{Asked, callOf, Lent, lent, Answered, List16, start, next}
+use Rattle.demands.specs.Lists.{Asked, callOf, Typed, Lent, lent, Answered, List16, start, next}
 
 -- ---- Demand 1, for any cabinet, a forged one too, and any arguments: "gets an answer or a refusal from document 01. A refusal changes neither the cabinet nor any lent list or buffer."
-pub record Refuses16 (s : Cabinet) (asked : Asked) (t : Cabinet) (after : Lent) (r : Refusal) : Type 0 where
-  pub listed : Listed (numberOf r)
-  pub cabinet : t ≡ s
-  pub lists : after ≡ lent asked
+-- what comes of a call with this table: an answer, where no row fails; else the refusal of the first row that does, and cabinet and lent lists as they were
+pub data Outcome (table : List Check) (s t : Cabinet) (before after : Lent) : Reply → Type 0 where
+  answers : (a : Answer) → Passed table → Outcome table s t before after (accepted a)
+  refuses : (r : Refusal) → Due table r → Listed (numberOf r) → t ≡ s → after ≡ before → Outcome table s t before after (refused r)
 
-abbrev pub Demand1 : Type 0
-Demand1 = (s : Cabinet) (asked : Asked) (t : Cabinet) (after : Lent) (r : Refusal) → Answered s asked (refused r) t after → Refuses16 s asked t after r
+-- the table is the call's, for some choice of what document 01 leaves to the program
+pub record Gets (s : Cabinet) (asked : Asked) (reply : Reply) (t : Cabinet) (after : Lent) : Type 0 where
+  pub choice : Choice
+  pub proper : Proper limits16 (view s) (callOf asked) choice
+  pub outcome : Outcome (checksOf codec limits16 (view s) (callOf asked) choice) s t (lent asked) after reply
+
+-- some answer of a call
+pub record Reached (s : Cabinet) (asked : Asked) : Type 0 where
+  pub reply : Reply
+  pub next : Cabinet
+  pub after : Lent
+  pub answered : Answered s asked reply next after
+
+pub record CallsAnswer : Type 0 where
+  -- there is one
+  pub some : (s : Cabinet) (asked : Asked) → Reached s asked
+  -- and every one is as said
+  pub each : (s : Cabinet) (asked : Asked) → Typed asked → (reply : Reply) (t : Cabinet) (after : Lent) → Answered s asked reply t after → Gets s asked reply t after
 
 -- ---- Demands 2 and 3
 -- "the sheets of all cards, joined, restart to the line answered": what the restart of the code hands back
