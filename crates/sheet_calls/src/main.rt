@@ -6,7 +6,6 @@
 // Records and what is to be printed were made by bench/sheet/calls.py, from document 01 alone:
 // `python3 bench/sheet/calls.py crates/sheet_calls`.
 ghost use Prim.Native.Nat.{_<_};
-use libc::STDIN_FILENO;
 use libc::STDOUT_FILENO;
 use refusal::Refusal;
 use refusal::Verdict;
@@ -116,7 +115,7 @@ fn sheet_in(body: &[u8], card: u32) -> Readout {
 }
 
 fn say(b: &[u8]) {
-    io::write_all(STDOUT_FILENO, b);
+    streams::print(b);
 }
 
 fn say_number(n: u32) {
@@ -324,7 +323,7 @@ fn run(kind: u8, card: u32, input: &[u8], n: usize, total: usize) {
 // Reads n bytes to the front of the input.
 fn fill(input: &mut [u8], n: usize) {
     if n <= input.len() {
-        io::read_full(STDIN_FILENO, &mut input[0..n]);
+        streams::read_full(&mut input[0..n]);
     }
 }
 
@@ -336,8 +335,8 @@ fn zeros() -> [u8; 65540] {
 // Reads one record and runs it; false where there is none left.
 fn step() -> bool {
     let mut head = [0u8; 8];
-    let got = io::read_full(STDIN_FILENO, &mut head);
-    if got < 8 {
+    let got = streams::read_full(&mut head);
+    if got.count < 8 {
         return false;
     }
     let n = (wide(head[2]) * 256 + wide(head[3])) as usize;
