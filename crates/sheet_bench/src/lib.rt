@@ -13,7 +13,7 @@ fn number_of(v: Verdict) -> u32 {
 }
 
 #[no_mangle]
-pub extern "C" fn yerwaqis_read_readout(s: &[u8]) -> u32 {
+pub extern "C" fn bench_read_readout(s: &[u8]) -> u32 {
     let read = readout::read_readout(s);
     let v = read.verdict;
     number_of(v)
@@ -36,7 +36,7 @@ fn sum_at(r: Readout, card: u32, place: usize) -> u32 {
 
 // That sum, or the number of the refusal.
 #[no_mangle]
-pub extern "C" fn yerwaqis_read_sheet(s: &[u8], card: u32, place: usize) -> u32 {
+pub extern "C" fn bench_read_sheet(s: &[u8], card: u32, place: usize) -> u32 {
     let read = sheet_reader::read_sheet(s, card);
     let v = read.verdict;
     let r = read.readout;
@@ -70,7 +70,7 @@ fn largest(card: u32) -> Readout {
 
 // The length written, or 0 where the sheet or the buffer is refused.
 #[no_mangle]
-pub extern "C" fn yerwaqis_write_largest(card: u32, b: &mut [u8]) -> usize {
+pub extern "C" fn bench_write_largest(card: u32, b: &mut [u8]) -> usize {
     let r = largest(card);
     let w = sheet_writer::write_sheet(r, card % 16, b);
     match w {
