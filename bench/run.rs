@@ -6,20 +6,20 @@ use port::bench::*;
 use std::hint::black_box;
 
 extern "C" {
-    fn yerwaqis_nothing(cards: u32, states: u32, reads: bool, at: u32) -> u32;
-    fn yerwaqis_fresh(cards: u32, at: u32) -> u32;
-    fn yerwaqis_open(cards: u32, states: u32, reads: bool, at: u32) -> u32;
-    fn yerwaqis_vote(cards: u32, states: u32, reads: bool, at: u32) -> u32;
-    fn yerwaqis_take(cards: u32, states: u32, reads: bool, at: u32) -> u32;
-    fn yerwaqis_withdraw(cards: u32, states: u32, reads: bool, at: u32) -> u32;
-    fn yerwaqis_store(cards: u32, states: u32, reads: bool, at: u32) -> u32;
-    fn yerwaqis_trim(cards: u32, states: u32, reads: bool, at: u32) -> u32;
-    fn yerwaqis_safe(cards: u32, states: u32, change: u32, at: u32) -> u32;
-    fn yerwaqis_lose(cards: u32, states: u32, reads: bool, at: u32) -> u32;
-    fn yerwaqis_fix(cards: u32, states: u32, stored: u32, at: u32, list: *mut u32, n: usize) -> u32;
-    fn yerwaqis_roll(cards: u32, states: u32, reads: bool, at: u32) -> u32;
-    fn yerwaqis_sheet(cards: u32, states: u32, at: u32, buffer: *mut u8, n: usize) -> u32;
-    fn yerwaqis_restart(bytes: *const u8, n: usize, at: u32) -> u32;
+    fn bench_nothing(cards: u32, states: u32, reads: bool, at: u32) -> u32;
+    fn bench_fresh(cards: u32, at: u32) -> u32;
+    fn bench_open(cards: u32, states: u32, reads: bool, at: u32) -> u32;
+    fn bench_vote(cards: u32, states: u32, reads: bool, at: u32) -> u32;
+    fn bench_take(cards: u32, states: u32, reads: bool, at: u32) -> u32;
+    fn bench_withdraw(cards: u32, states: u32, reads: bool, at: u32) -> u32;
+    fn bench_store(cards: u32, states: u32, reads: bool, at: u32) -> u32;
+    fn bench_trim(cards: u32, states: u32, reads: bool, at: u32) -> u32;
+    fn bench_safe(cards: u32, states: u32, change: u32, at: u32) -> u32;
+    fn bench_lose(cards: u32, states: u32, reads: bool, at: u32) -> u32;
+    fn bench_fix(cards: u32, states: u32, stored: u32, at: u32, list: *mut u32, n: usize) -> u32;
+    fn bench_roll(cards: u32, states: u32, reads: bool, at: u32) -> u32;
+    fn bench_sheet(cards: u32, states: u32, at: u32, buffer: *mut u8, n: usize) -> u32;
+    fn bench_restart(bytes: *const u8, n: usize, at: u32) -> u32;
 }
 
 /// The three agree; a refusal is told.
@@ -43,34 +43,34 @@ fn main() {
         };
     }
     let made = port_nothing(cards, states, reads, at);
-    same("nothing", unsafe { yerwaqis_nothing(cards, states, reads, at) }, made, made);
-    call!("open", yerwaqis_open, port_open, lent_open);
-    call!("vote", yerwaqis_vote, port_vote, lent_vote);
-    call!("take", yerwaqis_take, port_take, lent_take);
-    call!("withdraw", yerwaqis_withdraw, port_withdraw, lent_withdraw);
-    call!("store", yerwaqis_store, port_store, lent_store);
-    call!("trim", yerwaqis_trim, port_trim, lent_trim);
-    call!("lose", yerwaqis_lose, port_lose, lent_lose);
-    call!("roll", yerwaqis_roll, port_roll, lent_roll);
+    same("nothing", unsafe { bench_nothing(cards, states, reads, at) }, made, made);
+    call!("open", bench_open, port_open, lent_open);
+    call!("vote", bench_vote, port_vote, lent_vote);
+    call!("take", bench_take, port_take, lent_take);
+    call!("withdraw", bench_withdraw, port_withdraw, lent_withdraw);
+    call!("store", bench_store, port_store, lent_store);
+    call!("trim", bench_trim, port_trim, lent_trim);
+    call!("lose", bench_lose, port_lose, lent_lose);
+    call!("roll", bench_roll, port_roll, lent_roll);
     let fresh = port_fresh(cards, at);
-    same("fresh", unsafe { yerwaqis_fresh(cards, at) }, fresh, fresh);
+    same("fresh", unsafe { bench_fresh(cards, at) }, fresh, fresh);
     if states > 0 {
         let change = states * 16 + cards - 1;
-        let engine = unsafe { yerwaqis_safe(cards, states, change, at) };
+        let engine = unsafe { bench_safe(cards, states, change, at) };
         same("safe", engine, port_safe(cards, states, change, at), lent_safe(cards, states, change, at));
     }
     fix(cards, states, at);
     sheet(cards, states, at);
     let bytes = readout(cards, states);
     let restarted = port_restart(&bytes, at);
-    same("restart", unsafe { yerwaqis_restart(bytes.as_ptr(), bytes.len(), at) }, restarted, restarted);
+    same("restart", unsafe { bench_restart(bytes.as_ptr(), bytes.len(), at) }, restarted, restarted);
 }
 
 /// With nothing stored, so that every state is lost.
 fn fix(cards: u32, states: u32, at: u32) {
     let mut lists = [[0u32; 776]; 3];
     let [first, second, third] = &mut lists;
-    let engine = unsafe { yerwaqis_fix(cards, states, 0, at, first.as_mut_ptr(), first.len()) };
+    let engine = unsafe { bench_fix(cards, states, 0, at, first.as_mut_ptr(), first.len()) };
     same("fix", engine, port_fix(cards, states, 0, at, second), lent_fix(cards, states, 0, at, third));
     assert!(lists[0] == lists[1] && lists[1] == lists[2]);
     assert!(lists[0].iter().filter(|change| **change != 0).count() as u32 == cards * states);
@@ -79,7 +79,7 @@ fn fix(cards: u32, states: u32, at: u32) {
 fn sheet(cards: u32, states: u32, at: u32) {
     let mut buffers = [[0u8; 4096]; 3];
     let [first, second, third] = &mut buffers;
-    let engine = unsafe { yerwaqis_sheet(cards, states, at, first.as_mut_ptr(), first.len()) };
+    let engine = unsafe { bench_sheet(cards, states, at, first.as_mut_ptr(), first.len()) };
     same("sheet", engine, port_sheet(cards, states, at, second), lent_sheet(cards, states, at, third));
     assert!(buffers[0] == buffers[1] && buffers[1] == buffers[2]);
 }

@@ -18,7 +18,7 @@ def counts(cards, states, kind):
             continue
         number, what = int(match.group(1).replace(",", "")), match.group(3)
         if match.group(2) == "*":
-            measured = re.match(r"(?:port::bench::)?((?:yerwaqis|port|lent)_\w+)$", what)
+            measured = re.match(r"(?:port::bench::)?((?:bench|port|lent)_\w+)$", what)
             name = measured.group(1) if measured else None
             if name:
                 found[name] = [number, 0, 0]
@@ -35,7 +35,7 @@ def cost(found, who, call):
     number, copies, copied = found[f"{who}_{call}"]
     if call in ("fresh", "restart"):
         return number, 0, number
-    made = found["yerwaqis_nothing" if who == "yerwaqis" else "port_nothing"]
+    made = found["bench_nothing" if who == "bench" else "port_nothing"]
     whole = number - made[0]
     # the port's copy is made below the measured function, in the method itself
     if who == "port":
@@ -73,7 +73,7 @@ def call_table(title, found):
     print(f"\n{title}\n")
     rows = []
     for call in CALLS:
-        engine, port, lent = (cost(found, who, call) for who in ("yerwaqis", "port", "lent"))
+        engine, port, lent = (cost(found, who, call) for who in ("bench", "port", "lent"))
         copies = "-" if engine is None or call in ("fresh", "restart") else f"{engine[1]}, {port[1]}"
         row = [call, told(work(engine)), told(work(port)), ratio(work(engine), work(port)), copies]
         row += [ratio(whole_of(engine), whole_of(port)), told(work(lent)), ratio(whole_of(port), whole_of(lent))]
@@ -88,7 +88,7 @@ def growth(title, runs):
     for call in CALLS:
         row = [call]
         for found in runs.values():
-            engine, port = work(cost(found, "yerwaqis", call)), work(cost(found, "port", call))
+            engine, port = work(cost(found, "bench", call)), work(cost(found, "port", call))
             row.append(f"{told(engine)} ({ratio(engine, port)})")
         rows.append(row)
     table(["call"] + list(runs), rows)

@@ -3,7 +3,7 @@
 use std::hint::black_box;
 
 extern "C" {
-    fn yerwaqis_fix_all_lost(list: *mut u32, n: usize, entries: *const u32, makers: *const u32) -> usize;
+    fn bench_fix_all_lost(list: *mut u32, n: usize, entries: *const u32, makers: *const u32) -> usize;
 }
 
 const REPEATS: usize = 20;
@@ -22,7 +22,7 @@ fn main() {
     let mut list = vec![0u32; NUMBERS];
     if std::env::args().nth(1).as_deref() == Some("fix") {
         for _ in 0..REPEATS {
-            let n = unsafe { yerwaqis_fix_all_lost(list.as_mut_ptr(), list.len(), black_box(entries.as_ptr()), black_box(makers.as_ptr())) };
+            let n = unsafe { bench_fix_all_lost(list.as_mut_ptr(), list.len(), black_box(entries.as_ptr()), black_box(makers.as_ptr())) };
             assert_eq!(n, NUMBERS);
         }
         assert!(list.iter().enumerate().all(|(i, &x)| x as usize == i + 1));

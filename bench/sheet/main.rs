@@ -3,9 +3,9 @@
 use std::hint::black_box;
 
 extern "C" {
-    fn yerwaqis_read_readout(s: *const u8, n: usize) -> u32;
-    fn yerwaqis_read_sheet(s: *const u8, n: usize, card: u32, place: usize) -> u32;
-    fn yerwaqis_write_largest(card: u32, b: *mut u8, n: usize) -> usize;
+    fn bench_read_readout(s: *const u8, n: usize) -> u32;
+    fn bench_read_sheet(s: *const u8, n: usize, card: u32, place: usize) -> u32;
+    fn bench_write_sheet(b: *mut u8, n: usize, changes: *const u32, entries: *const u32, card: u32) -> usize;
 }
 
 const REPEATS: usize = 20;
@@ -147,29 +147,37 @@ fn main() {
         rust_write(card, &mut s);
         readout.extend_from_slice(&s);
     }
+    // the same sheet of card 0 in a ring of frames
+    let (mut changes, mut entries) = (vec![0u32; 768], vec![5u32; 12288]);
+    for state in 1..=48u32 {
+        let place = state as usize % 48;
+        changes[place] = state * 16;
+        entries[place * 16] = state;
+    }
     let mut buffer = vec![0u8; 65536];
+    let mut write = || unsafe { bench_write_sheet(buffer.as_mut_ptr(), buffer.len(), black_box(&changes).as_ptr(), black_box(&entries).as_ptr(), 0) };
     assert_eq!((sheet.len(), readout.len()), (3913, 62608));
     for _ in 0..REPEATS {
         match work.as_str() {
-            "read_readout" => { black_box(unsafe { yerwaqis_read_readout(black_box(&readout).as_ptr(), readout.len()) }); }
+            "read_readout" => { black_box(unsafe { bench_read_readout(black_box(&readout).as_ptr(), readout.len()) }); }
             "rust_read_readout" => { black_box(rust_read(black_box(&readout), 0, true).err()); }
-            "read_sheet" => { black_box(unsafe { yerwaqis_read_sheet(black_box(&sheet).as_ptr(), sheet.len(), 0, black_box(83)) }); }
+            "read_sheet" => { black_box(unsafe { bench_read_sheet(black_box(&sheet).as_ptr(), sheet.len(), 0, black_box(83)) }); }
             "rust_read_sheet" => { black_box(rust_read(black_box(&sheet), 0, false)).unwrap(); }
-            "write_sheet" => { black_box(unsafe { yerwaqis_write_largest(0, buffer.as_mut_ptr(), buffer.len()) }); }
+            "write_sheet" => { black_box(write()); }
             "rust_write_sheet" => rust_write(black_box(0), black_box(&mut sheet)),
             _ => {}
         }
     }
     // the two agree
     unsafe {
-        assert_eq!(yerwaqis_write_largest(0, buffer.as_mut_ptr(), buffer.len()), 3913);
+        assert_eq!(write(), 3913);
         assert!(buffer[..3913] == sheet[..3913]);
         let frames = rust_read(&sheet, 0, false).unwrap();
         for place in [0, 83, 767] {
             let sum = frames[0][place / 16].1[place % 16] + frames[0][place % 48].0;
-            assert_eq!(yerwaqis_read_sheet(sheet.as_ptr(), sheet.len(), 0, place), sum);
+            assert_eq!(bench_read_sheet(sheet.as_ptr(), sheet.len(), 0, place), sum);
         }
-        assert_eq!(yerwaqis_read_sheet(sheet.as_ptr(), sheet.len(), 1, 0), 7);
-        assert_eq!(yerwaqis_read_readout(readout.as_ptr(), readout.len()), rust_read(&readout, 0, true).err().unwrap_or(0));
+        assert_eq!(bench_read_sheet(sheet.as_ptr(), sheet.len(), 1, 0), 7);
+        assert_eq!(bench_read_readout(readout.as_ptr(), readout.len()), rust_read(&readout, 0, true).err().unwrap_or(0));
     }
 }

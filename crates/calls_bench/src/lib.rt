@@ -141,14 +141,14 @@ fn done(r: Reply) -> u32 {
 
 // Nothing but the making of the cabinet.
 #[no_mangle]
-pub extern "C" fn yerwaqis_nothing(cards: u32, states: u32, reads: bool, at: u32) -> u32 {
+pub extern "C" fn bench_nothing(cards: u32, states: u32, reads: bool, at: u32) -> u32 {
     let c = forged(cards, states, states, verdicts::free_place(), Phase::Up);
     let e = looked(c, at);
     seen(e, 0)
 }
 
 #[no_mangle]
-pub extern "C" fn yerwaqis_fresh(cards: u32, at: u32) -> u32 {
+pub extern "C" fn bench_fresh(cards: u32, at: u32) -> u32 {
     let a = Cabinet::fresh(cards);
     let r = a.reply;
     let c = a.cabinet;
@@ -157,7 +157,7 @@ pub extern "C" fn yerwaqis_fresh(cards: u32, at: u32) -> u32 {
 }
 
 #[no_mangle]
-pub extern "C" fn yerwaqis_open(cards: u32, states: u32, reads: bool, at: u32) -> u32 {
+pub extern "C" fn bench_open(cards: u32, states: u32, reads: bool, at: u32) -> u32 {
     let c = forged(cards, states, states, verdicts::free_place(), Phase::Up);
     let o = change(0, cards, reads, 0);
     let a = c.open(o.reads, o.writes);
@@ -173,7 +173,7 @@ pub extern "C" fn yerwaqis_open(cards: u32, states: u32, reads: bool, at: u32) -
 
 // The vote that decides a change of all cards.
 #[no_mangle]
-pub extern "C" fn yerwaqis_vote(cards: u32, states: u32, reads: bool, at: u32) -> u32 {
+pub extern "C" fn bench_vote(cards: u32, states: u32, reads: bool, at: u32) -> u32 {
     let others = bits::without(bits::all_below(cards), 0);
     let c = forged(
         cards,
@@ -190,7 +190,7 @@ pub extern "C" fn yerwaqis_vote(cards: u32, states: u32, reads: bool, at: u32) -
 }
 
 #[no_mangle]
-pub extern "C" fn yerwaqis_take(cards: u32, states: u32, reads: bool, at: u32) -> u32 {
+pub extern "C" fn bench_take(cards: u32, states: u32, reads: bool, at: u32) -> u32 {
     let all = bits::all_below(cards);
     let c = forged(
         cards,
@@ -207,7 +207,7 @@ pub extern "C" fn yerwaqis_take(cards: u32, states: u32, reads: bool, at: u32) -
 }
 
 #[no_mangle]
-pub extern "C" fn yerwaqis_withdraw(cards: u32, states: u32, reads: bool, at: u32) -> u32 {
+pub extern "C" fn bench_withdraw(cards: u32, states: u32, reads: bool, at: u32) -> u32 {
     let c = forged(
         cards,
         states,
@@ -223,7 +223,7 @@ pub extern "C" fn yerwaqis_withdraw(cards: u32, states: u32, reads: bool, at: u3
 }
 
 #[no_mangle]
-pub extern "C" fn yerwaqis_store(cards: u32, states: u32, reads: bool, at: u32) -> u32 {
+pub extern "C" fn bench_store(cards: u32, states: u32, reads: bool, at: u32) -> u32 {
     let c = forged(cards, states, 0, verdicts::free_place(), Phase::Up);
     let a = c.store(card(at), 0);
     let r = a.reply;
@@ -234,7 +234,7 @@ pub extern "C" fn yerwaqis_store(cards: u32, states: u32, reads: bool, at: u32) 
 
 // Every state is stored, so that each line is climbed to the end.
 #[no_mangle]
-pub extern "C" fn yerwaqis_trim(cards: u32, states: u32, reads: bool, at: u32) -> u32 {
+pub extern "C" fn bench_trim(cards: u32, states: u32, reads: bool, at: u32) -> u32 {
     let c = forged(cards, states, states, verdicts::free_place(), Phase::Up);
     let a = c.trim();
     let r = a.reply;
@@ -245,7 +245,7 @@ pub extern "C" fn yerwaqis_trim(cards: u32, states: u32, reads: bool, at: u32) -
 
 // Of that change; there is none in an empty cabinet.
 #[no_mangle]
-pub extern "C" fn yerwaqis_safe(cards: u32, states: u32, change: u32, at: u32) -> u32 {
+pub extern "C" fn bench_safe(cards: u32, states: u32, change: u32, at: u32) -> u32 {
     let c = forged(cards, states, states, verdicts::free_place(), Phase::Up);
     let a = c.safe(change);
     let r = a.reply;
@@ -261,7 +261,7 @@ pub extern "C" fn yerwaqis_safe(cards: u32, states: u32, change: u32, at: u32) -
 
 // All cards, with a decided change open.
 #[no_mangle]
-pub extern "C" fn yerwaqis_lose(cards: u32, states: u32, reads: bool, at: u32) -> u32 {
+pub extern "C" fn bench_lose(cards: u32, states: u32, reads: bool, at: u32) -> u32 {
     let all = bits::all_below(cards);
     let c = forged(
         cards,
@@ -279,7 +279,7 @@ pub extern "C" fn yerwaqis_lose(cards: u32, states: u32, reads: bool, at: u32) -
 
 // With that stored number on each card: from 0 every state is lost.
 #[no_mangle]
-pub extern "C" fn yerwaqis_fix(
+pub extern "C" fn bench_fix(
     cards: u32,
     states: u32,
     stored: u32,
@@ -306,7 +306,7 @@ pub extern "C" fn yerwaqis_fix(
 
 // The last card rolled.
 #[no_mangle]
-pub extern "C" fn yerwaqis_roll(cards: u32, states: u32, reads: bool, at: u32) -> u32 {
+pub extern "C" fn bench_roll(cards: u32, states: u32, reads: bool, at: u32) -> u32 {
     let c = forged(
         cards,
         states,
@@ -323,7 +323,7 @@ pub extern "C" fn yerwaqis_roll(cards: u32, states: u32, reads: bool, at: u32) -
 
 // The sheet of card 0.
 #[no_mangle]
-pub extern "C" fn yerwaqis_sheet(cards: u32, states: u32, at: u32, buffer: &mut [u8]) -> u32 {
+pub extern "C" fn bench_sheet(cards: u32, states: u32, at: u32, buffer: &mut [u8]) -> u32 {
     let c = forged(cards, states, states, verdicts::free_place(), Phase::Up);
     let a = c.sheet(card(at), buffer);
     let r = a.reply;
@@ -338,7 +338,7 @@ pub extern "C" fn yerwaqis_sheet(cards: u32, states: u32, at: u32, buffer: &mut 
 
 // From the sheets of all cards, joined.
 #[no_mangle]
-pub extern "C" fn yerwaqis_restart(bytes: &[u8], at: u32) -> u32 {
+pub extern "C" fn bench_restart(bytes: &[u8], at: u32) -> u32 {
     let a = restart::restart(bytes);
     let r = a.reply;
     let c = a.cabinet;

@@ -1,11 +1,9 @@
 // The line program: a read-out on standard input; card, stored and line of each card and the session after recovery on
-// standard output, or the refusal.
-use libc::STDIN_FILENO;
-use libc::STDOUT_FILENO;
+// standard output, or the refusal. Where the input can't be read to its end there is no answer.
 
 fn print(text: &[u8], n: usize) {
     if n <= text.len() {
-        io::write_all(STDOUT_FILENO, &text[..n]);
+        streams::print(&text[..n]);
     }
 }
 
@@ -20,6 +18,8 @@ fn answer(input: &[u8], n: usize) {
 // One byte more than a read-out may have, so that a longer input is refused.
 fn main() {
     let mut space = [0u8; 65537];
-    let n = io::read_full(STDIN_FILENO, &mut space);
-    answer(&space, n);
+    let input = streams::read_full(&mut space);
+    if !input.failed {
+        answer(&space, input.count);
+    }
 }

@@ -4,7 +4,7 @@ use verdicts::Phase;
 
 // How many changes are lost of 16 cards that reached state 48 and stored none; 0 where fix is refused.
 #[no_mangle]
-pub extern "C" fn yerwaqis_fix_all_lost<'a, 'b>(
+pub extern "C" fn bench_fix_all_lost<'a, 'b>(
     list: &'a mut [u32],
     entries: &'b [u32; 12288],
     makers: &'b [u32; 768],

@@ -1,16 +1,17 @@
 // Reads a list of calls from standard input and prints the answers, a line at a time: lists of any length in bounded memory.
+// It ends where a read or a write fails, and a line that was cut off there is no call.
 ghost use Prim.Native.Nat.{_<_, _≤_};
 ghost use lib.ListN.{length};
 use asking::Replay;
 use decimal::Writing;
-use libc::STDIN_FILENO;
-use libc::STDOUT_FILENO;
 
-// The replay, and the bytes of a line that has not ended yet: 129 of them tell that it is too long.
+// The replay, the bytes of a line that has not ended yet (129 of them tell that it is too long), and whether a read or a
+// write failed.
 struct Reader {
     replay: Replay,
     line: [u8; 129],
     count: usize,
+    failed: bool,
 }
 
 // A part of the input, taken into the line: how many bytes the line has, where to go on, and whether it ended.
@@ -26,15 +27,11 @@ struct Turned {
     more: bool,
 }
 
-// Prints the answer to a line.
-fn print(out: &[u8], w: Writing) {
+// Prints the answer to a line; false where that failed.
+fn print(out: &[u8], w: Writing) -> bool {
     match w {
-        Writing::Next(n) => {
-            if n <= out.len() {
-                io::write_all(STDOUT_FILENO, &out[0..n]);
-            }
-        }
-        Writing::TooShort => {}
+        Writing::Next(n) => n <= out.len() && streams::print(&out[0..n]),
+        Writing::TooShort => false,
     }
 }
 
@@ -94,13 +91,21 @@ fn feed(f: Reader, part: &[u8], out: &mut [u8]) -> Reader {
                 replay: r,
                 line,
                 count: n,
+                failed: false,
             };
         }
         let said = words::says(&line[0..n]);
         let s = asking::obey(r, said, out, Writing::Next(0));
         let w = s.written;
-        print(out, w);
         r = s.replay;
+        if !print(out, w) {
+            return Reader {
+                replay: r,
+                line,
+                count: 0,
+                failed: true,
+            };
+        }
         count = 0;
         at = g.next;
     }
@@ -108,15 +113,17 @@ fn feed(f: Reader, part: &[u8], out: &mut [u8]) -> Reader {
         replay: r,
         line,
         count,
+        failed: false,
     }
 }
 
 // Reads a part of the input and does its lines.
-fn turn(f: Reader) -> Turned {
+fn turn(mut f: Reader) -> Turned {
     let mut part = io::buffer();
-    let got = libc::read(STDIN_FILENO, &mut part);
-    let n = io::count(got, &part);
+    let input = streams::read(&mut part);
+    let n = input.count;
     if n == 0 {
+        f.failed = input.failed;
         return Turned {
             reader: f,
             more: false,
@@ -124,7 +131,8 @@ fn turn(f: Reader) -> Turned {
     }
     let mut out = io::large_buffer();
     let reader = feed(f, &part[0..n], &mut out);
-    Turned { reader, more: true }
+    let more = !reader.failed;
+    Turned { reader, more }
 }
 
 // Does what is left of the input as a line.
@@ -145,7 +153,9 @@ fn finish(f: Reader) {
     let r = f.replay;
     let line = f.line;
     let count = f.count;
-    do_rest(r, &line, count);
+    if !f.failed {
+        do_rest(r, &line, count);
+    }
 }
 
 fn main() {
@@ -155,6 +165,7 @@ fn main() {
         replay,
         line,
         count: 0,
+        failed: false,
     };
     let mut turns: u64 = 18446744073709551615;
     while turns > 0 {

@@ -2,8 +2,6 @@
 // each what the line program prints. The records and what is to be printed were made by bench/restart/readouts.py from document 01
 // alone: `python3 bench/restart/readouts.py crates/restart_check`.
 ghost use Prim.Native.Nat.{_<_};
-use libc::STDIN_FILENO;
-use libc::STDOUT_FILENO;
 
 fn wide(b: u8) -> usize
     ensures { λ r. ⌜ r < 256 ⌝ }
@@ -13,7 +11,7 @@ fn wide(b: u8) -> usize
 
 fn print(text: &[u8], n: usize) {
     if n <= text.len() {
-        io::write_all(STDOUT_FILENO, &text[..n]);
+        streams::print(&text[..n]);
     }
 }
 
@@ -28,7 +26,8 @@ fn read_out(space: &mut [u8], n: usize) -> bool {
     if space.len() < n {
         return false;
     }
-    if io::read_full(STDIN_FILENO, &mut space[..n]) < n {
+    let input = streams::read_full(&mut space[..n]);
+    if input.count < n {
         return false;
     }
     answer(&space[..n]);
@@ -38,7 +37,8 @@ fn read_out(space: &mut [u8], n: usize) -> bool {
 // Reads one record; false where there is none left.
 fn step() -> bool {
     let mut size = [0u8; 4];
-    if io::read_full(STDIN_FILENO, &mut size) < 4 {
+    let input = streams::read_full(&mut size);
+    if input.count < 4 {
         return false;
     }
     let n = wide(size[1]) * 65536 + wide(size[2]) * 256 + wide(size[3]);

@@ -4,7 +4,6 @@
 ghost use Prim.Native.Nat.{_≤_};
 ghost use mathlib.Core.Path.{_≡_};
 ghost use lib.ListN.{length};
-use libc::STDIN_FILENO;
 use libc::STDOUT_FILENO;
 
 mod compare;
@@ -55,7 +54,7 @@ fn more(n: u64) -> u64 {
 }
 
 fn print(text: &[u8]) {
-    io::write_all(STDOUT_FILENO, text);
+    streams::print(text);
 }
 
 // A count with its name.
@@ -121,6 +120,8 @@ fn blank() -> [u8; 1048576]
 
 fn main() {
     let mut space = blank();
-    let n = io::read_full(STDIN_FILENO, &mut space);
-    check(&space, n);
+    let input = streams::read_full(&mut space);
+    if !input.failed {
+        check(&space, input.count);
+    }
 }

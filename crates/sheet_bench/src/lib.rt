@@ -1,5 +1,6 @@
-// What bench/sheet measures, exported to Rust: the readers, and the largest sheet, made and written.
+// What bench/sheet measures, exported to Rust: the readers, and the writer of one sheet.
 ghost use Prim.Native.Nat.{_<_};
+use frame::Header;
 use refusal::Verdict;
 use sheet::Readout;
 use write::Written;
@@ -13,7 +14,7 @@ fn number_of(v: Verdict) -> u32 {
 }
 
 #[no_mangle]
-pub extern "C" fn yerwaqis_read_readout(s: &[u8]) -> u32 {
+pub extern "C" fn bench_read_readout(s: &[u8]) -> u32 {
     let read = readout::read_readout(s);
     let v = read.verdict;
     number_of(v)
@@ -36,7 +37,7 @@ fn sum_at(r: Readout, card: u32, place: usize) -> u32 {
 
 // That sum, or the number of the refusal.
 #[no_mangle]
-pub extern "C" fn yerwaqis_read_sheet(s: &[u8], card: u32, place: usize) -> u32 {
+pub extern "C" fn bench_read_sheet(s: &[u8], card: u32, place: usize) -> u32 {
     let read = sheet_reader::read_sheet(s, card);
     let v = read.verdict;
     let r = read.readout;
@@ -46,33 +47,22 @@ pub extern "C" fn yerwaqis_read_sheet(s: &[u8], card: u32, place: usize) -> u32 
     }
 }
 
-// A read-out with a card's sheet of 16 cards and 48 frames.
-fn largest(card: u32) -> Readout {
-    let mut entries = [5u32; 12288];
-    let mut changes = [0u32; 768];
-    let own = (card % 16) as usize;
-    let mut k: u32 = 0;
-    while k < 48 {
-        let place = place_of(card, 0, k as usize);
-        changes[place] = (k + 1) * 16 + card % 16;
-        entries[place * 16 + own] = k + 1;
-        k += 1;
-    }
-    Readout {
-        changes,
-        entries,
-        sessions: [1u32; 16],
-        bases: [0u32; 16],
-        counts: [48u32; 16],
-        cards: 16,
-    }
-}
-
-// The length written, or 0 where the sheet or the buffer is refused.
+// The length written of a card's sheet of 16 cards and 48 frames, or 0 where the sheet or the buffer is refused.
 #[no_mangle]
-pub extern "C" fn yerwaqis_write_largest(card: u32, b: &mut [u8]) -> usize {
-    let r = largest(card);
-    let w = sheet_writer::write_sheet(r, card % 16, b);
+pub extern "C" fn bench_write_sheet<'a, 'b>(
+    b: &'a mut [u8],
+    changes: &'b [u32; 768],
+    entries: &'b [u32; 12288],
+    card: u32,
+) -> usize {
+    let h = Header {
+        session: 1,
+        card,
+        cards: 16,
+        base: 0,
+        count: 48,
+    };
+    let w = sheet_writer::write_sheet(b, changes, entries, h);
     match w {
         Written::Length(n) => n,
         Written::Refused(_) => 0,

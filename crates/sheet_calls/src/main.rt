@@ -1,12 +1,12 @@
 // Runs the reader and the writer of one sheet, and the reader of a read-out at the limit of its input.
 // A record of standard input: a kind, a card, a length of two bytes, a total of four bytes, then as many bytes as the length.
 // R reads these bytes, filled up to the total by digits 0, as the sheet of the card, and J as a read-out.
-// W takes of them the five numbers of a sheet and rows of a change number and 16 entries, each of four bytes, all other
-// places of the read-out 77; it writes that sheet to a buffer as long as the total, and reads back what was written.
+// W takes of them the five numbers of a header and rows of a change number and 16 entries, each of four bytes, all other
+// places of the ring 77; it writes that sheet to a buffer as long as the total, and reads back what was written.
 // Records and what is to be printed were made by bench/sheet/calls.py, from document 01 alone:
 // `python3 bench/sheet/calls.py crates/sheet_calls`.
 ghost use Prim.Native.Nat.{_<_};
-use libc::STDIN_FILENO;
+use frame::Header;
 use libc::STDOUT_FILENO;
 use refusal::Refusal;
 use refusal::Verdict;
@@ -92,31 +92,19 @@ fn rows_in(body: &[u8]) -> usize {
     }
 }
 
-// A card's number among those of 16 cards.
-fn among(card: u32, n: u32) -> [u32; 16] {
-    let mut to = [77u32; 16];
-    if card < 16 {
-        to[card as usize] = n;
-    }
-    to
-}
-
-// A read-out that holds the sheet of a record.
-fn sheet_in(body: &[u8], card: u32) -> Readout {
-    let rows = rows_in(body);
-    let base = number(body, 12);
-    Readout {
-        changes: changes_in(body, rows, card, base),
-        entries: entries_in(body, rows, card, base),
-        sessions: among(card, number(body, 0)),
-        bases: among(card, base),
-        counts: among(card, number(body, 16)),
+// The header of a record.
+fn header_in(body: &[u8]) -> Header {
+    Header {
+        session: number(body, 0),
+        card: number(body, 4),
         cards: number(body, 8),
+        base: number(body, 12),
+        count: number(body, 16),
     }
 }
 
 fn say(b: &[u8]) {
-    io::write_all(STDOUT_FILENO, b);
+    streams::print(b);
 }
 
 fn say_number(n: u32) {
@@ -282,10 +270,13 @@ fn say_written(b: &[u8], n: usize, card: u32) {
     }
 }
 
-// Writes to the first bytes of a buffer.
-fn write_within(r: Readout, card: u32, b: &mut [u8], room: usize) -> Written {
+// Writes the sheet of a record to the first bytes of a buffer.
+fn write_within(body: &[u8], h: Header, b: &mut [u8], room: usize) -> Written {
+    let rows = rows_in(body);
+    let changes = changes_in(body, rows, h.card, h.base);
+    let entries = entries_in(body, rows, h.card, h.base);
     if room <= b.len() {
-        sheet_writer::write_sheet(r, card, &mut b[0..room])
+        sheet_writer::write_sheet(&mut b[0..room], &changes, &entries, h)
     } else {
         Written::Length(0)
     }
@@ -298,11 +289,10 @@ fn paper() -> [u8; 4096] {
 
 fn write_sheet(body: &[u8], room: usize) {
     let mut b = paper();
-    let card = number(body, 4);
-    let r = sheet_in(body, card);
-    let w = write_within(r, card, &mut b, room);
+    let h = header_in(body);
+    let w = write_within(body, h, &mut b, room);
     match w {
-        Written::Length(n) => say_written(&b, n, card),
+        Written::Length(n) => say_written(&b, n, h.card),
         Written::Refused(r) => {
             say_refusal(r);
             say_altered(&b, 0);
@@ -324,7 +314,7 @@ fn run(kind: u8, card: u32, input: &[u8], n: usize, total: usize) {
 // Reads n bytes to the front of the input.
 fn fill(input: &mut [u8], n: usize) {
     if n <= input.len() {
-        io::read_full(STDIN_FILENO, &mut input[0..n]);
+        streams::read_full(&mut input[0..n]);
     }
 }
 
@@ -336,8 +326,8 @@ fn zeros() -> [u8; 65540] {
 // Reads one record and runs it; false where there is none left.
 fn step() -> bool {
     let mut head = [0u8; 8];
-    let got = io::read_full(STDIN_FILENO, &mut head);
-    if got < 8 {
+    let got = streams::read_full(&mut head);
+    if got.count < 8 {
         return false;
     }
     let n = (wide(head[2]) * 256 + wide(head[3])) as usize;

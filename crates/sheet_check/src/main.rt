@@ -3,7 +3,6 @@
 // The records and what is to be printed were made by bench/sheet/cases.py, which reads them by document 01 alone:
 // `python3 bench/sheet/cases.py crates/sheet_check`.
 ghost use Prim.Native.Nat.{_<_};
-use libc::STDIN_FILENO;
 use libc::STDOUT_FILENO;
 use refusal::Verdict;
 
@@ -33,12 +32,12 @@ fn verdict_of(record: &[u8]) -> u32 {
 // Reads one record and prints its verdict; false where there is none left.
 fn step() -> bool {
     let mut record = [0u8; 512];
-    let got = io::read_full(STDIN_FILENO, &mut record);
-    if got < 512 {
+    let input = streams::read_full(&mut record);
+    if input.count < 512 {
         return false;
     }
     io::print_decimal(STDOUT_FILENO, verdict_of(&record) as u64);
-    io::write_all(STDOUT_FILENO, b"\n")
+    streams::print(b"\n")
 }
 
 fn main() {

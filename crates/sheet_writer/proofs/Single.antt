@@ -15,10 +15,9 @@ use Rattle.frame.specs.declared.Frame.{Frame}
 use Rattle.frame.specs.Format.{Format, formats}
 use Rattle.frame.specs.Lines.{cardsOf, formatFor, headerAllowed, entryAllowed, entriesAllowed, frameAllowed, noFrame}
 use Rattle.frame.proofs.Passed.{header-limits}
-use Rattle.sheet.specs.declared.Readout.{Readout}
 use Rattle.sheet.specs.Pages.{pageBytes}
 use Rattle.sheet.specs.Allowed.{framesAllowed}
-use Rattle.sheet.specs.Ring.{ringFrame, ringPage, headerOf, pageOf}
+use Rattle.sheet.specs.Ring.{ringFrame, ringPage}
 use Rattle.write.specs.declared.Written.{Written}
 use Rattle.write.specs.declared.Written.the-variants.{Refused as written-refused}
 use Rattle.write.specs.Write.{ringRows, wroteBytes}
@@ -97,38 +96,29 @@ rows-allowed changes entries h few =
 
 -- ---- the writer's answer
 
--- a card's sheet of a read-out, with its header as the code has it
-module _ (r : Readout) (card : ℕ) (b : List ℕ) {f : Format} {h : Header} {pass : Bool} (is : h ≡ headerOf r card) (picked : f ≡ formatFor formats h) (test : pass ≡ headerAllowed f card 0 h) where
-  abbrev hd : Header
-  hd = headerOf r card
+-- the sheet of a header, in the format that the code picked
+module _ (changes entries : List ℕ) (h : Header) (b : List ℕ) {f : Format} {pass : Bool} (picked : f ≡ formatFor formats h) (test : pass ≡ headerAllowed f (h .card) 0 h) where
+  header-is : headerAllowed (formatFor formats h) (h .card) 0 h ≡ pass
+  header-is = sym (test ∙ ap (λ (g : Format). headerAllowed g (h .card) 0 h) picked)
 
-  format-is : f ≡ formatFor formats hd
-  format-is = picked ∙ ap (λ (x : Header). formatFor formats x) is
-
-  header-is : headerAllowed (formatFor formats hd) card 0 hd ≡ pass
-  header-is = sym (test ∙ ap₂ (λ (g : Format) (x : Header). headerAllowed g card 0 x) format-is is)
-
-  pub told-7 : pass ≡ false → Told (wrote (pageOf r card) b) (written-refused BadHeader) b
+  pub told-7 : pass ≡ false → Told (wrote (ringPage changes entries h) b) (written-refused BadHeader) b
   unfolding wrote pageVerdict
   told-7 t = rw (header-is, t) (refl, refl)
 
-  pub header-passes : pass ≡ true → headerAllowed f (h .card) 0 h ≡ true
-  header-passes t = ap (λ (x : Header). headerAllowed f (x .card) 0 h) is ∙ sym test ∙ t
-
-  module _ (t : pass ≡ true) {frames : Bool} (judged : frames ≡ framesAllowed f (h .card) (cardsOf f h) (h .base + 1) noFrame (ringRows (r .changes) (r .entries) h .frames)) where
-    frames-is : framesAllowed (formatFor formats hd) card (cardsOf (formatFor formats hd) hd) (hd .base + 1) noFrame (pageOf r card .frames) ≡ frames
+  module _ (t : pass ≡ true) {frames : Bool} (judged : frames ≡ framesAllowed f (h .card) (cardsOf f h) (h .base + 1) noFrame (ringRows changes entries h .frames)) where
+    frames-is : framesAllowed (formatFor formats h) (h .card) (cardsOf (formatFor formats h) h) (h .base + 1) noFrame (ringPage changes entries h .frames) ≡ frames
     frames-is =
-        let l = header-limits (formatFor formats hd) card 0 hd (header-is ∙ t) in
-        sym (rows-allowed (r .changes) (r .entries) hd (l .cards))
-        ∙ sym (judged ∙ ap₂ (λ (g : Format) (x : Header). framesAllowed g (x .card) (cardsOf g x) (x .base + 1) noFrame (ringRows (r .changes) (r .entries) x .frames)) format-is is)
+        let l = header-limits (formatFor formats h) (h .card) 0 h (header-is ∙ t) in
+        sym (rows-allowed changes entries h (l .cards))
+        ∙ sym (judged ∙ ap (λ (g : Format). framesAllowed g (h .card) (cardsOf g h) (h .base + 1) noFrame (ringRows changes entries h .frames)) picked)
 
-    pub told-9 : frames ≡ false → Told (wrote (pageOf r card) b) (written-refused BadFrame) b
+    pub told-9 : frames ≡ false → Told (wrote (ringPage changes entries h) b) (written-refused BadFrame) b
     unfolding wrote pageVerdict
     told-9 q = rw (header-is, t, frames-is, q) (refl, refl)
 
-    passes : frames ≡ true → wrote (pageOf r card) b ≡ wroteBytes Accepted (pageBytes formats (ringPage (r .changes) (r .entries) h)) b
+    passes : frames ≡ true → wrote (ringPage changes entries h) b ≡ wroteBytes Accepted (pageBytes formats (ringPage changes entries h)) b
     unfolding wrote pageVerdict
-    passes q = rw (header-is, t, frames-is, q, is)
+    passes q = rw (header-is, t, frames-is, q)
 
-    pub told-passed : {answer : Written} {after : List ℕ} → frames ≡ true → Told (wroteBytes Accepted (pageBytes formats (ringPage (r .changes) (r .entries) h)) b) answer after → Told (wrote (pageOf r card) b) answer after
-    told-passed q = told-by (wroteBytes Accepted (pageBytes formats (ringPage (r .changes) (r .entries) h)) b) (wrote (pageOf r card) b) (passes q)
+    pub told-passed : {answer : Written} {after : List ℕ} → frames ≡ true → Told (wroteBytes Accepted (pageBytes formats (ringPage changes entries h)) b) answer after → Told (wrote (ringPage changes entries h) b) answer after
+    told-passed q = told-by (wroteBytes Accepted (pageBytes formats (ringPage changes entries h)) b) (wrote (ringPage changes entries h) b) (passes q)

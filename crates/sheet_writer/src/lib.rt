@@ -1,19 +1,17 @@
-// The writer of one sheet of a read-out, told its card.
+// The writer of one sheet, which a ring of frames holds for a header: that of a read-out, lent.
 ghost use mathlib.Core.Path.{_≡_};
 ghost use Prim.Native.Nat.{_+_};
 ghost use mathlib.Core.Bool.{true};
-ghost use lib.ListN.{getD};
 ghost use Rattle.frame.specs.Format.{formatOf, Fits};
 ghost use Rattle.frame.specs.Lines.{cardsOf, headerAllowed, noFrame};
 ghost use Rattle.sheet.specs.Allowed.{framesAllowed};
-ghost use Rattle.sheet.specs.Ring.{headerOf, pageOf};
+ghost use Rattle.sheet.specs.Ring.{ringPage};
 ghost use Rattle.write.specs.Write.{ringRows};
 ghost use Rattle.sheet_writer.specs.Single.{wrote};
 use frame::Frame;
 use frame::Header;
 use frame::Layout;
 use refusal::Refusal;
-use sheet::Readout;
 use write::Written;
 
 // Whether refusal 9 lets all frames pass.
@@ -42,40 +40,21 @@ fn frames_pass<'a>(f: Layout, changes: &'a [u32; 768], entries: &'a [u32; 12288]
     true
 }
 
-// A number by its card, and 0 where there is no such card.
-fn at(numbers: [u32; 16], card: u32) -> u32
-    ensures { λ r. ⌜ r ≡ getD numbers card 0 ⌝ }
+// Writes the sheet that a ring holds for a header, and answers its length; a refusal changes no byte.
+pub fn write_sheet<'a, 'b>(
+    b: &'a mut [u8],
+    changes: &'b [u32; 768],
+    entries: &'b [u32; 12288],
+    h: Header,
+) -> Written
+    ensures { λ r. ⌜ (r ≡ wrote (ringPage (now (changes .entry)) (now (entries .entry)) h) (now (b .entry)) .answer) × (now (b .exit) ≡ wrote (ringPage (now (changes .entry)) (now (entries .entry)) h) (now (b .entry)) .buffer) ⌝ }
 {
-    if card < 16 { numbers[card as usize] } else { 0 }
-}
-
-// The header of a card's sheet in a read-out.
-fn header_of(r: Readout, card: u32) -> Header
-    ensures { λ x. ⌜ x ≡ headerOf r card ⌝ }
-{
-    let sessions = r.sessions;
-    let bases = r.bases;
-    let counts = r.counts;
-    Header {
-        session: at(sessions, card),
-        card,
-        cards: r.cards,
-        base: at(bases, card),
-        count: at(counts, card),
-    }
-}
-
-// Writes a card's sheet of a read-out, and answers its length; a refusal changes no byte.
-pub fn write_sheet(r: Readout, card: u32, b: &mut [u8]) -> Written
-    ensures { λ x. ⌜ (x ≡ wrote (pageOf r card) (now (b .entry)) .answer) × (now (b .exit) ≡ wrote (pageOf r card) (now (b .entry)) .buffer) ⌝ }
-{
-    let h = header_of(r, card);
     let f = frame::layout_of(h.cards);
-    if !header_reader::header_allowed(f, h, card, 0) {
+    if !header_reader::header_allowed(f, h, h.card, 0) {
         return Written::Refused(Refusal::BadHeader);
     }
-    if !frames_pass(f, &r.changes, &r.entries, h) {
+    if !frames_pass(f, changes, entries, h) {
         return Written::Refused(Refusal::BadFrame);
     }
-    write::write_page(b, &r.changes, &r.entries, h)
+    write::write_page(b, changes, entries, h)
 }

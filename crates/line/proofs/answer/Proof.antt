@@ -4,10 +4,6 @@ use lib.Seq.{length-take-le}
 use borrow.Author.Needs.{needs}
 use Rattle.line.proofs.answer.Statement.{statement}
 use Rattle.line.proofs.answer.Tie as tie
-use Rattle.line.proofs.answer.Reads as reads
-use Rattle.line.proofs.answer.Lts as lts
-use Rattle.line.proofs.print.Reads as print-reads
-use Rattle.report.proofs.line_text.Reads as line-text-reads
 
 slice-aggregate-line-text : tie.Need-slice-aggregate-line-text
 slice-aggregate-line-text c = sym (length-take-le _ _ (search needs))

@@ -4,15 +4,12 @@ use lib.Seq.{length-take-le}
 use borrow.Author.Needs.{needs}
 use Rattle.restart_check.proofs.print.Statement.{statement}
 use Rattle.restart_check.proofs.print.Tie as tie
-use Rattle.restart_check.proofs.print.Reads as reads
-use Rattle.restart_check.proofs.print.Lts as lts
-use Rattle.io.proofs.write_all.Reads as write-all-reads
 
-slice-aggregate-write-all : tie.Need-slice-aggregate-write-all
-slice-aggregate-write-all c = sym (length-take-le _ _ (search needs))
+slice-aggregate-print : tie.Need-slice-aggregate-print
+slice-aggregate-print c = sym (length-take-le _ _ (search needs))
 
-write-all-requires : tie.Need-write-all-requires
-write-all-requires c κs = search needs
+print-requires : tie.Need-print-requires
+print-requires c κs = search needs
 
 returns : tie.Need-returns
 returns c = search needs
@@ -21,4 +18,4 @@ returns-2 : tie.Need-returns-2
 returns-2 c = search needs
 
 pub print-spec : {M : Type 1} → statement M
-print-spec = tie.close (tie.spec slice-aggregate-write-all write-all-requires returns returns-2)
+print-spec = tie.close (tie.spec slice-aggregate-print print-requires returns returns-2)

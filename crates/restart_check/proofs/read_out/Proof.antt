@@ -4,10 +4,6 @@ use lib.Seq.{length-take-le}
 use borrow.Author.Needs.{needs}
 use Rattle.restart_check.proofs.read_out.Statement.{statement}
 use Rattle.restart_check.proofs.read_out.Tie as tie
-use Rattle.restart_check.proofs.read_out.Reads as reads
-use Rattle.restart_check.proofs.read_out.Lts as lts
-use Rattle.io.proofs.read_full.Reads as read-full-reads
-use Rattle.restart_check.proofs.answer.Reads as answer-reads
 
 returns : tie.Need-returns
 returns c = search needs

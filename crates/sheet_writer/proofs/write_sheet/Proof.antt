@@ -1,22 +1,12 @@
--- `sheet_writer::write_sheet` writes a card's sheet of a read-out, or refuses it and changes no byte. Assumes nothing.
+-- `sheet_writer::write_sheet` writes the sheet that a ring holds for a header, or refuses it and changes no byte. Assumes nothing.
 use mathlib.Core.Path.{sym, _∙_, ap}
 use borrow.Author.Needs.{needs}
 use borrow.Author.Tests.{not-true, not-false}
 use Rattle.frame.specs.Format.{Format}
 use Rattle.frame.specs.Lines.{headerAllowed}
-use Rattle.sheet_writer.proofs.Single.{told-7, header-passes, told-9, told-passed}
+use Rattle.sheet_writer.proofs.Single.{told-7, told-9, told-passed}
 use Rattle.sheet_writer.proofs.write_sheet.Statement.{statement}
 use Rattle.sheet_writer.proofs.write_sheet.Tie as tie
-use Rattle.sheet_writer.proofs.write_sheet.Reads as reads
-use Rattle.sheet_writer.proofs.write_sheet.Lts as lts
-use Rattle.header_reader.proofs.header_allowed.Reads as header-allowed-reads
-use Rattle.frame.proofs.layout_of.Reads as layout-of-reads
-use Rattle.sheet_writer.proofs.frames_pass.Reads as frames-pass-reads
-use Rattle.sheet_writer.proofs.header_of.Reads as header-of-reads
-use Rattle.write.proofs.write_page.Reads as write-page-reads
-
-header-of-requires : tie.Need-header-of-requires
-header-of-requires c κs = search needs
 
 layout-of-requires : tie.Need-layout-of-requires
 layout-of-requires c κs = search needs
@@ -26,40 +16,36 @@ header-allowed-requires c κs = search needs
 
 returns : tie.Need-returns
 returns c =
-    let a = c .before .before .before .before .before .args in
-    told-7 (a .t1) (a .card) (a .b .now) (c .before .before .before .header-of .ensures) (c .before .before .layout-of .ensures .0) (c .before .header-allowed .ensures) (not-true _ (c .if1 .taken))
+    let a = c .before .before .before .before .args in
+    told-7 (a .changes .now) (a .entries .now) (a .h) (a .b .now) (c .before .before .layout-of .ensures .0) (c .before .header-allowed .ensures) (not-true _ (c .if1 .taken))
 
 frames-pass-requires : tie.Need-frames-pass-requires
-frames-pass-requires c κs =
-    let a = c .before .before .before .before .before .before .before .before .args in
-    (c .before .before .before .before .before .layout-of .ensures .1, header-passes (a .t1) (a .card) (a .b .now) (c .before .before .before .before .before .before .header-of .ensures) (c .before .before .before .before .before .layout-of .ensures .0) (c .before .before .before .before .header-allowed .ensures) (not-false _ (c .before .before .before .if1 .left)))
+frames-pass-requires c κs = (c .before .before .layout-of .ensures .1, sym (c .before .header-allowed .ensures) ∙ not-false _ (c .if1 .left))
 
 returns-2 : tie.Need-returns-2
 returns-2 c =
-    let a = c .before .before .before .before .before .before .before .before .before .before .args in
-    told-9 (a .t1) (a .card) (a .b .now) (c .before .before .before .before .before .before .before .before .header-of .ensures) (c .before .before .before .before .before .before .before .layout-of .ensures .0) (c .before .before .before .before .before .before .header-allowed .ensures) (not-false _ (c .before .before .before .before .before .if1 .left)) (c .before .frames-pass .ensures) (not-true _ (c .if2 .taken))
+    let a = c .before .before .before .before .before .before .args in
+    told-9 (a .changes .now) (a .entries .now) (a .h) (a .b .now) (c .before .before .before .before .layout-of .ensures .0) (c .before .before .before .header-allowed .ensures) (not-false _ (c .before .before .if1 .left)) (c .before .frames-pass .ensures) (not-true _ (c .if2 .taken))
 
 write-page-requires : tie.Need-write-page-requires
 write-page-requires c κs =
-    let a = c .before .before .before .before .before .before .before .before .before .before .before .before .before .before .args in
-    let h = c .before .before .before .before .before .before .before .before .before .before .before .before .header-of .result in
-    let e = c .before .before .before .before .before .before .before .before .before .before .before .layout-of .ensures .0 in
-    ap (λ (f : Format). headerAllowed f (h .card) 0 h) (sym e)
-    ∙ header-passes (a .t1) (a .card) (a .b .now) (c .before .before .before .before .before .before .before .before .before .before .before .before .header-of .ensures) e (c .before .before .before .before .before .before .before .before .before .before .header-allowed .ensures) (not-false _ (c .before .before .before .before .before .before .before .before .before .if1 .left))
+    let h = c .before .before .before .before .before .before .before .args .h in
+    ap (λ (f : Format). headerAllowed f (h .card) 0 h) (sym (c .before .before .before .before .before .layout-of .ensures .0))
+    ∙ sym (c .before .before .before .before .header-allowed .ensures)
+    ∙ not-false _ (c .before .before .before .if1 .left)
 
 same-length : tie.Need-same-length
 same-length c = search needs
 
 returns-3 : tie.Need-returns-3
 returns-3 c =
-    let a = c .before .before .before .before .before .before .before .before .before .before .before .before .before .before .before .before .before .args in
-    told-passed (a .t1) (a .card) (a .b .now) (c .before .before .before .before .before .before .before .before .before .before .before .before .before .before .before .header-of .ensures) (c .before .before .before .before .before .before .before .before .before .before .before .before .before .before .layout-of .ensures .0) (c .before .before .before .before .before .before .before .before .before .before .before .before .before .header-allowed .ensures) (not-false _ (c .before .before .before .before .before .before .before .before .before .before .before .before .if1 .left)) (c .before .before .before .before .before .before .before .before .frames-pass .ensures) (not-false _ (c .before .before .before .before .before .before .before .if2 .left)) (c .before .before .write-page .ensures)
+    let a = c .before .before .before .before .before .before .before .before .before .before .args in
+    told-passed (a .changes .now) (a .entries .now) (a .h) (a .b .now) (c .before .before .before .before .before .before .before .before .layout-of .ensures .0) (c .before .before .before .before .before .before .before .header-allowed .ensures) (not-false _ (c .before .before .before .before .before .before .if1 .left)) (c .before .before .before .before .before .frames-pass .ensures) (not-false _ (c .before .before .before .before .if2 .left)) (c .before .before .write-page .ensures)
 
 pub write-sheet-spec : {M : Type 1} → statement M
 write-sheet-spec =
     tie.close
     (tie.spec
-    header-of-requires
     layout-of-requires
     header-allowed-requires
     returns
