@@ -1,58 +1,89 @@
-// What refusal 28 says of numbers by themselves: session, number of cards, state numbers, entries, room to write.
+// The limits of document 01 as constants: the one place where the code has these numbers.
 ghost use mathlib.Core.Path.{_≡_};
-ghost use mathlib.Core.Bool.{cond};
-ghost use Rattle.protocol.specs.Sound.{sessionSound, cardsSound, numbersSound, entriesSound, roomToWrite};
-ghost use Rattle.verdicts.specs.Shape.{limits16, at, presentOf, numbersOf, headModel};
-use verdicts::Head;
-use verdicts::is_rolling;
+ghost use Rattle.limits.specs.Constants.{constants};
 
-// "session 0 (while rolling also 4,294,967,295)"
-pub fn session_sound(head: Head) -> bool
-    ensures { λ r. ⌜ r ≡ sessionSound limits16 (headModel head) ⌝ }
-{
-    let phase = head.phase;
-    let rolling = is_rolling(phase);
-    (head.session != 0) & !(rolling & (head.session == 4294967295))
+// Document 01's "associated constants for the limits", and what follows from them; a value of it has them all.
+pub struct Limits {
+    pub cards: usize,
+    pub in_hand: usize,
+    pub places: usize,
+    pub greatest_state: u32,
+    pub greatest_number: u32,
+    pub longest: usize,
+    pub no_entry: u32,
+    pub frames: usize,
+    pub entries: usize,
+    pub most_lost: usize,
+    pub sets: u32,
+    pub all_cards: u16,
+    pub cards_u32: u32,
+    pub in_hand_u32: u32,
+    pub in_hand_u64: u64,
 }
 
-// "a number of cards .. outside the limits"
-pub fn cards_sound(head: Head) -> bool
-    ensures { λ r. ⌜ r ≡ cardsSound limits16 (headModel head) ⌝ }
-{
-    (1 <= head.cards) & (head.cards <= 16)
-}
+impl Limits {
+    // "A cabinet has 1 to 16 cards"
+    pub const CARDS: usize = 16;
 
-// "a .. state number .. outside the limits"
-pub fn numbers_sound(base: u32, stored: u32, held: u32, reached: u32) -> bool
-    ensures { λ r. ⌜ r ≡ numbersSound limits16 (numbersOf base stored held reached) 0 ⌝ }
-{
-    let hand = (reached as u64) <= (base as u64) + 48;
-    (base <= stored) & (stored <= held) & (held <= reached) & hand & (reached <= 60000)
-}
+    // "reached at most base + 48"
+    pub const IN_HAND: usize = 48;
 
-// The greatest dependency that an entry may hold: none for an absent card.
-pub fn top(there: bool) -> u32
-    ensures { λ r. ⌜ r ≡ cond there (limits16 .greatestState) 0 ⌝ }
-{
-    if there { 60000 } else { 0 }
-}
+    // "more than eight open changes"
+    pub const PLACES: usize = 8;
 
-// "an entry outside the limits .., an entry of an absent card that isn't none": a vector of a cabinet of so many cards.
-pub fn entries_sound(v: [u32; 16], cards: usize) -> bool
-    ensures { λ r. ⌜ r ≡ entriesSound limits16 (presentOf cards) (at v) ⌝ }
-{
-    let mut ok = true;
-    let mut j: usize = 0;
-    while j < 16 {
-        ok = ok & (v[j] <= top(j < cards));
-        j += 1;
+    // "and at most 60,000"
+    pub const GREATEST_STATE: u32 = 60000;
+
+    // "change number or session at 4,294,967,295"
+    pub const GREATEST_NUMBER: u32 = 4294967295;
+
+    // "input over 65,536 bytes"
+    pub const LONGEST: usize = 65536;
+
+    // "none is FFFF", in a sheet
+    pub const NO_ENTRY: u32 = 65535;
+
+    // the frames in hand of all cards
+    pub const FRAMES: usize = Limits::CARDS * Limits::IN_HAND;
+
+    // the entries of these frames
+    pub const ENTRIES: usize = Limits::FRAMES * Limits::CARDS;
+
+    // "the numbers of lost changes into a second list of up to 776"
+    pub const MOST_LOST: usize = Limits::FRAMES + Limits::PLACES;
+
+    // "a set of 16 bits": how many there are, and the one of all cards
+    pub const SETS: u32 = 1 << Limits::CARDS_U32;
+
+    pub const ALL_CARDS: u16 = (Limits::SETS - 1) as u16;
+
+    // the same where they meet numbers of 32 and 64 bits
+    pub const CARDS_U32: u32 = Limits::CARDS as u32;
+
+    pub const IN_HAND_U32: u32 = Limits::IN_HAND as u32;
+
+    pub const IN_HAND_U64: u64 = Limits::IN_HAND as u64;
+
+    // All of them are the definitions' limits.
+    pub fn all() -> Limits
+        ensures { λ r. ⌜ r ≡ constants ⌝ }
+    {
+        Limits {
+            cards: Limits::CARDS,
+            in_hand: Limits::IN_HAND,
+            places: Limits::PLACES,
+            greatest_state: Limits::GREATEST_STATE,
+            greatest_number: Limits::GREATEST_NUMBER,
+            longest: Limits::LONGEST,
+            no_entry: Limits::NO_ENTRY,
+            frames: Limits::FRAMES,
+            entries: Limits::ENTRIES,
+            most_lost: Limits::MOST_LOST,
+            sets: Limits::SETS,
+            all_cards: Limits::ALL_CARDS,
+            cards_u32: Limits::CARDS_U32,
+            in_hand_u32: Limits::IN_HAND_U32,
+            in_hand_u64: Limits::IN_HAND_U64,
+        }
     }
-    ok
-}
-
-// A card may be written: not "at base + 48 or 60,000".
-pub fn room(base: u32, reached: u32) -> bool
-    ensures { λ r. ⌜ r ≡ roomToWrite limits16 (numbersOf base 0 0 reached) 0 ⌝ }
-{
-    ((reached as u64) < (base as u64) + 48) & (reached < 60000)
 }

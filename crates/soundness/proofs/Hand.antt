@@ -26,7 +26,7 @@ use Rattle.verdicts.specs.declared.Core.{Core}
 use Rattle.verdicts.specs.Shape.{limits16, phaseOf, at, presentOf, vectorAt, ring, ringMaker, ringFrame, cut, numbersOf, partOf, inHand, makerInHand, frameInHand, openOf, numbersModel, modelOf, thereSound}
 use Rattle.verdicts.proofs.Limits.{width16}
 use Rattle.verdicts.proofs.Cards.{strays-within}
-use Rattle.limits.proofs.Tests.{entries-absent}
+use Rattle.numbers.proofs.Tests.{entries-absent}
 
 module _ (entries makers base reached : List ℕ) (last pending : List Vector) where
   -- the frames in hand, as the model has them

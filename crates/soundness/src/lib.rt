@@ -24,7 +24,7 @@ fn frame_entries_sound(entries: &[u32; 12288], from: usize, cards: usize) -> boo
     let mut ok = true;
     let mut j: usize = 0;
     while j < 16 {
-        ok = ok & (entries[from + j] <= limits::top(j < cards));
+        ok = ok & (entries[from + j] <= numbers::top(j < cards));
         j += 1;
     }
     ok
@@ -135,7 +135,7 @@ fn there_sound<'a>(
     requires { ⌜ c < 16 ⌝ }
     ensures { λ r. ⌜ r ≡ thereSound (partOf (head .cards) (phaseOf (head .phase)) (numbersOf base stored held reached) (ring (now (entries .entry)) (now (makers .entry))) line) c ⌝ }
 {
-    let numbers = limits::numbers_sound(base, stored, held, reached);
+    let numbers = numbers::numbers_sound(base, stored, held, reached);
     let phase = head.phase;
     let fixed = line_sound(phase, base, stored, line);
     if numbers {
@@ -174,8 +174,8 @@ fn card_sound<'a>(
     let cards = head.cards as usize;
     let there = c < cards;
     let n = seen(there, cards);
-    let lasts = limits::entries_sound(last, n);
-    let pendings = limits::entries_sound(pending, n);
+    let lasts = numbers::entries_sound(last, n);
+    let pendings = numbers::entries_sound(pending, n);
     let whole = there_sound(entries, makers, head, c, base, stored, held, reached, line);
     lasts & pendings & (!there | whole)
 }
@@ -226,7 +226,7 @@ fn writes_fit(o: Place, base: [u32; 16], reached: [u32; 16]) -> bool
     while c < 16 {
         let written = bits::has(o.writes, c as u32);
         let taken = bits::has(o.taken, c as u32);
-        ok = ok & (!(written & !taken) | limits::room(base[c], reached[c]));
+        ok = ok & (!(written & !taken) | numbers::room(base[c], reached[c]));
         c += 1;
     }
     ok
@@ -244,7 +244,7 @@ pub fn place_sound(o: Place, base: [u32; 16], reached: [u32; 16], head: Head) ->
     let fit = writes_fit(o, base, reached);
     let v = o.vector;
     let cards = head.cards as usize;
-    let entries = limits::entries_sound(v, cards);
+    let entries = numbers::entries_sound(v, cards);
     inside & fit & entries
 }
 
@@ -269,8 +269,8 @@ pub fn cabinet_sound<'a>(entries: &'a [u32; 12288], makers: &'a [u32; 768], core
     let base = core.base;
     let reached = core.reached;
     let head = core.head;
-    let session = limits::session_sound(head);
-    let number = limits::cards_sound(head);
+    let session = numbers::session_sound(head);
+    let number = numbers::cards_sound(head);
     let cards = all_cards_sound(entries, makers, core);
     let open = all_places_sound(places, base, reached, head);
     session & number & cards & open

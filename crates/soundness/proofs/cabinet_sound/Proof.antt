@@ -14,8 +14,8 @@ use Rattle.soundness.proofs.cabinet_sound.Reads as reads
 use Rattle.soundness.proofs.cabinet_sound.Lts as lts
 use Rattle.soundness.proofs.all_cards_sound.Reads as all-cards-sound-reads
 use Rattle.soundness.proofs.all_places_sound.Reads as all-places-sound-reads
-use Rattle.limits.proofs.cards_sound.Reads as cards-sound-reads
-use Rattle.limits.proofs.session_sound.Reads as session-sound-reads
+use Rattle.numbers.proofs.cards_sound.Reads as cards-sound-reads
+use Rattle.numbers.proofs.session_sound.Reads as session-sound-reads
 
 -- src/sound.rt:245:9
 session-sound-requires : tie.Need-session-sound-requires

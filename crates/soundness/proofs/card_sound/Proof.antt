@@ -4,7 +4,7 @@ use Rattle.soundness.proofs.card_sound.Statement.{statement}
 use Rattle.soundness.proofs.card_sound.Tie as tie
 use Rattle.soundness.proofs.card_sound.Reads as reads
 use Rattle.soundness.proofs.card_sound.Lts as lts
-use Rattle.limits.proofs.entries_sound.Reads as entries-sound-reads
+use Rattle.numbers.proofs.entries_sound.Reads as entries-sound-reads
 use Rattle.soundness.proofs.seen.Reads as seen-reads
 use Rattle.soundness.proofs.there_sound.Reads as there-sound-reads
 

@@ -12,7 +12,7 @@ use Rattle.soundness.proofs.frame_entries_sound.Statement.{statement}
 use Rattle.soundness.proofs.frame_entries_sound.Tie as tie
 use Rattle.soundness.proofs.frame_entries_sound.Reads as reads
 use Rattle.soundness.proofs.frame_entries_sound.Lts as lts
-use Rattle.limits.proofs.top.Reads as top-reads
+use Rattle.numbers.proofs.top.Reads as top-reads
 
 abbrev Inv-loop : tie.InvT-loop
 Inv-loop entries from cards ok₀ j₀ ok j = AllSoFar 16 (λ k. leb (at entries (from + k)) (cond (ltb k cards) (limits16 .greatestState) 0)) ok j

@@ -6,7 +6,7 @@ use Rattle.soundness.proofs.place_sound.Reads as reads
 use Rattle.soundness.proofs.place_sound.Lts as lts
 use Rattle.bits.proofs.union.Reads as union-reads
 use Rattle.bits.proofs.within.Reads as within-reads
-use Rattle.limits.proofs.entries_sound.Reads as entries-sound-reads
+use Rattle.numbers.proofs.entries_sound.Reads as entries-sound-reads
 use Rattle.soundness.proofs.writes_fit.Reads as writes-fit-reads
 
 -- src/lib.rt:238:9

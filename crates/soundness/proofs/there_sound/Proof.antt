@@ -1,5 +1,5 @@
 use Rattle.protocol.specs.Sound.{numbersSound}
-use Rattle.limits.proofs.Tests.{numbers-order}
+use Rattle.numbers.proofs.Tests.{numbers-order}
 use Rattle.verdicts.specs.Shape.{limits16, at, presentOf, ring, numbersOf, partOf, openOf, openAt, modelOf, phaseOf}
 use Rattle.verdicts.proofs.Limits.{width16, inHand48, places8, greatest60000}
 use Rattle.laws.proofs.Fill.{AllSoFar, all-none, all-more, all-done}
@@ -19,7 +19,7 @@ use Rattle.soundness.proofs.there_sound.Reads as reads
 use Rattle.soundness.proofs.there_sound.Lts as lts
 use Rattle.soundness.proofs.frames_sound.Reads as frames-sound-reads
 use Rattle.soundness.proofs.line_sound.Reads as line-sound-reads
-use Rattle.limits.proofs.numbers_sound.Reads as numbers-sound-reads
+use Rattle.numbers.proofs.numbers_sound.Reads as numbers-sound-reads
 
 -- src/sound.rt:144:9
 numbers-sound-requires : tie.Need-numbers-sound-requires

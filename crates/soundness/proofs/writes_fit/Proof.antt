@@ -18,7 +18,7 @@ use Rattle.soundness.proofs.writes_fit.Tie as tie
 use Rattle.soundness.proofs.writes_fit.Reads as reads
 use Rattle.soundness.proofs.writes_fit.Lts as lts
 use Rattle.bits.proofs.has.Reads as has-reads
-use Rattle.limits.proofs.room.Reads as room-reads
+use Rattle.numbers.proofs.room.Reads as room-reads
 
 abbrev Inv-loop : tie.InvT-loop
 Inv-loop o base reached ok₀ c₀ ok c = AllSoFar 16 (λ k. not (toWrite (openOf o) k) || roomToWrite limits16 (numbersOf (at base k) 0 0 (at reached k)) 0) ok c

@@ -8,12 +8,12 @@ use Rattle.laws.proofs.Fill.{AllSoFar, all-none, all-more, all-done}
 use Rattle.verdicts.specs.Shape.{limits16, at, presentOf}
 use Rattle.laws.specs.Below.{anyBelow}
 use Rattle.verdicts.proofs.Limits.{width16}
-use Rattle.limits.proofs.Tests.{cards-limits}
+use Rattle.numbers.proofs.Tests.{cards-limits}
 use borrow.Author.Needs.{needs}
-use Rattle.limits.proofs.cards_sound.Statement.{statement}
-use Rattle.limits.proofs.cards_sound.Tie as tie
-use Rattle.limits.proofs.cards_sound.Reads as reads
-use Rattle.limits.proofs.cards_sound.Lts as lts
+use Rattle.numbers.proofs.cards_sound.Statement.{statement}
+use Rattle.numbers.proofs.cards_sound.Tie as tie
+use Rattle.numbers.proofs.cards_sound.Reads as reads
+use Rattle.numbers.proofs.cards_sound.Lts as lts
 
 -- src/sound.rt:29:1
 returns : tie.Need-returns

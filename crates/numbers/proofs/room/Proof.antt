@@ -11,10 +11,10 @@ use native.Mathlib.Omega.{arith}
 use lib.ListN.{length, getD, set, List·getD-eq-default}
 use lib.Dec.{leb, ltb, eqb}
 use borrow.Author.Needs.{needs}
-use Rattle.limits.proofs.room.Statement.{statement}
-use Rattle.limits.proofs.room.Tie as tie
-use Rattle.limits.proofs.room.Reads as reads
-use Rattle.limits.proofs.room.Lts as lts
+use Rattle.numbers.proofs.room.Statement.{statement}
+use Rattle.numbers.proofs.room.Tie as tie
+use Rattle.numbers.proofs.room.Reads as reads
+use Rattle.numbers.proofs.room.Lts as lts
 
 -- src/sound.rt:197:25
 add-result : tie.Need-add-result

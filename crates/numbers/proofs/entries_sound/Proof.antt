@@ -8,11 +8,11 @@ use Rattle.laws.proofs.Fill.{AllSoFar, all-none, all-more, all-done}
 use Rattle.verdicts.specs.Shape.{limits16, at}
 use Rattle.verdicts.proofs.Limits.{width16}
 use borrow.Author.Needs.{needs}
-use Rattle.limits.proofs.entries_sound.Statement.{statement}
-use Rattle.limits.proofs.entries_sound.Tie as tie
-use Rattle.limits.proofs.entries_sound.Reads as reads
-use Rattle.limits.proofs.entries_sound.Lts as lts
-use Rattle.limits.proofs.top.Reads as top-reads
+use Rattle.numbers.proofs.entries_sound.Statement.{statement}
+use Rattle.numbers.proofs.entries_sound.Tie as tie
+use Rattle.numbers.proofs.entries_sound.Reads as reads
+use Rattle.numbers.proofs.entries_sound.Lts as lts
+use Rattle.numbers.proofs.top.Reads as top-reads
 
 abbrev Inv-loop : tie.InvT-loop
 Inv-loop cards v ok₀ j₀ ok j = AllSoFar 16 (λ k. leb (at v k) (cond (ltb k cards) (limits16 .greatestState) 0)) ok j

@@ -7,10 +7,10 @@ use lib.Dec.{leb, ltb, eqb}
 use Rattle.laws.proofs.Fill.{AllSoFar, all-none, all-more, all-done}
 use Rattle.verdicts.specs.Shape.{limits16, at}
 use borrow.Author.Needs.{needs}
-use Rattle.limits.proofs.top.Statement.{statement}
-use Rattle.limits.proofs.top.Tie as tie
-use Rattle.limits.proofs.top.Reads as reads
-use Rattle.limits.proofs.top.Lts as lts
+use Rattle.numbers.proofs.top.Statement.{statement}
+use Rattle.numbers.proofs.top.Tie as tie
+use Rattle.numbers.proofs.top.Reads as reads
+use Rattle.numbers.proofs.top.Lts as lts
 
 -- src/sound.rt:44:1
 returns : tie.Need-returns

@@ -7,10 +7,10 @@ use lib.Dec.{leb, ltb, eqb}
 use Rattle.laws.proofs.Fill.{AllSoFar, all-none, all-more, all-done}
 use Rattle.verdicts.specs.Shape.{limits16, at}
 use borrow.Author.Needs.{needs}
-use Rattle.limits.proofs.session_sound.Statement.{statement}
-use Rattle.limits.proofs.session_sound.Tie as tie
-use Rattle.limits.proofs.session_sound.Reads as reads
-use Rattle.limits.proofs.session_sound.Lts as lts
+use Rattle.numbers.proofs.session_sound.Statement.{statement}
+use Rattle.numbers.proofs.session_sound.Tie as tie
+use Rattle.numbers.proofs.session_sound.Reads as reads
+use Rattle.numbers.proofs.session_sound.Lts as lts
 use Rattle.verdicts.proofs.is_rolling.Reads as is-rolling-reads
 
 -- src/sound.rt:24:9

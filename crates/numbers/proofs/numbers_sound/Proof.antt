@@ -7,10 +7,10 @@ use lib.Dec.{leb, ltb, eqb}
 use Rattle.laws.proofs.Fill.{AllSoFar, all-none, all-more, all-done}
 use Rattle.verdicts.specs.Shape.{limits16, at}
 use borrow.Author.Needs.{needs}
-use Rattle.limits.proofs.numbers_sound.Statement.{statement}
-use Rattle.limits.proofs.numbers_sound.Tie as tie
-use Rattle.limits.proofs.numbers_sound.Reads as reads
-use Rattle.limits.proofs.numbers_sound.Lts as lts
+use Rattle.numbers.proofs.numbers_sound.Statement.{statement}
+use Rattle.numbers.proofs.numbers_sound.Tie as tie
+use Rattle.numbers.proofs.numbers_sound.Reads as reads
+use Rattle.numbers.proofs.numbers_sound.Lts as lts
 
 -- src/sound.rt:39:36
 add-hand : tie.Need-add-hand

@@ -1,0 +1,24 @@
+-- What the constants of the code say, in the definitions' numbers.
+use Prim.Native.Nat.{_+_, _*_, _-_, _^_}
+use Rattle.limits.specs.Document.{mostCards, mostInHand, mostOpen, lastState, lastNumber, longestInput}
+use Rattle.limits.specs.declared.Limits.{Limits}
+
+abbrev pub constants : Limits
+constants =
+    record {
+      cards = mostCards;
+      «in_hand» = mostInHand;
+      places = mostOpen;
+      «greatest_state» = lastState;
+      «greatest_number» = lastNumber;
+      longest = longestInput;
+      «no_entry» = 16 ^ 4 - 1;
+      frames = mostCards * mostInHand;
+      entries = mostCards * mostInHand * mostCards;
+      «most_lost» = mostCards * mostInHand + mostOpen;
+      sets = 2 ^ mostCards;
+      «all_cards» = 2 ^ mostCards - 1;
+      «cards_u32» = mostCards;
+      «in_hand_u32» = mostInHand;
+      «in_hand_u64» = mostInHand;
+    }

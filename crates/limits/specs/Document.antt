@@ -1,0 +1,38 @@
+-- The limits of document 01: each number by its name, and the one record of them that plans and claims go over.
+use Prim.Native.Nat.{ℕ}
+
+-- "A cabinet has 1 to 16 cards"
+abbrev pub mostCards : ℕ
+mostCards = 16
+
+-- "reached at most base + 48"
+abbrev pub mostInHand : ℕ
+mostInHand = 48
+
+-- "more than eight open changes"
+abbrev pub mostOpen : ℕ
+mostOpen = 8
+
+-- "and at most 60,000"
+abbrev pub lastState : ℕ
+lastState = 60000
+
+-- "change number or session at 4,294,967,295"
+abbrev pub lastNumber : ℕ
+lastNumber = 4294967295
+
+-- "input over 65,536 bytes"
+abbrev pub longestInput : ℕ
+longestInput = 65536
+
+-- "the limits 16, 48, 8 and 60,000", and 4,294,967,295, the greatest session and change number
+pub record Limits : Type 0 where
+  pub width : ℕ
+  pub inHand : ℕ
+  pub places : ℕ
+  pub greatestState : ℕ
+  pub greatestNumber : ℕ
+
+-- document 01's limits
+unfoldable pub limits : Limits
+limits = record { width = mostCards; inHand = mostInHand; places = mostOpen; greatestState = lastState; greatestNumber = lastNumber }
