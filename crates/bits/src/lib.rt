@@ -6,12 +6,18 @@ ghost use mathlib.Core.Bool.{not};
 ghost use Rattle.laws.specs.Below.{anyBelow, countBelow};
 ghost use Rattle.bits.specs.Sets.{either, both, except, one, below, cut, inside, firstBelow};
 ghost use Rattle.bits.specs.Member.{member};
+use limits::Limits;
+
+// The digits of a set, and the set that has them all.
+const WIDTH: u32 = Limits::CARDS_U32;
+
+const ALL: u16 = Limits::ALL_CARDS;
 
 // Whether the card is in the set.
 pub fn has(set: u16, card: u32) -> bool
     ensures { λ r. ⌜ r ≡ member set card ⌝ }
 {
-    if card < 16 {
+    if card < WIDTH {
         (set >> card) % 2 == 1
     } else {
         false
@@ -43,7 +49,7 @@ pub fn difference(a: u16, b: u16) -> u16
 pub fn single(card: u32) -> u16
     ensures { λ r. ⌜ member r ≡ cut 16 (one card) ⌝ }
 {
-    if card < 16 { 1 << card } else { 0 }
+    if card < WIDTH { 1 << card } else { 0 }
 }
 
 // The set with the card put in.
@@ -64,7 +70,7 @@ pub fn without(set: u16, card: u32) -> u16
 pub fn all_below(n: u32) -> u16
     ensures { λ r. ⌜ member r ≡ cut 16 (below n) ⌝ }
 {
-    if n < 16 { (1 << n) - 1 } else { 65535 }
+    if n < WIDTH { (1 << n) - 1 } else { ALL }
 }
 
 // Whether no card is in the set.
@@ -92,7 +98,7 @@ pub fn lowest(set: u16) -> u32
 pub fn within(set: u16, n: u32) -> bool
     ensures { λ r. ⌜ r ≡ inside 16 n (member set) ⌝ }
 {
-    if n < 16 { set >> n == 0 } else { true }
+    if n < WIDTH { set >> n == 0 } else { true }
 }
 
 // Whether every card that a number of 32 digits names is below n.
@@ -106,5 +112,5 @@ pub fn names_within(set: u32, n: u32) -> bool
 pub fn narrow(set: u32) -> u16
     ensures { λ r. ⌜ member r ≡ cut 16 (member set) ⌝ }
 {
-    (set % 65536) as u16
+    (set % Limits::SETS) as u16
 }

@@ -3,6 +3,7 @@ use Prim.Native.Nat.{ℕ}
 use mathlib.Core.Path.{_≡_}
 use mathlib.Core.Bool.{cond}
 use lib.ListN.{replicate}
+use Rattle.limits.specs.Document.{mostFrames, mostEntries}
 use Rattle.refusal.specs.declared.Refusal.the-variants.{CardCount}
 use Rattle.protocol.specs.Plan.{Reply, accepted, refused, done}
 use Rattle.protocol.specs.Calls.{freshRefused}
@@ -13,7 +14,7 @@ use Rattle.cabinet.specs.declared.Cabinet.{Cabinet}
 
 -- "all state numbers 0, all entries none"
 abbrev pub zeroCabinet : Head → Cabinet
-zeroCabinet h = record { entries = replicate 12288 0; makers = replicate 768 0; core = blankCore h }
+zeroCabinet h = record { entries = replicate mostEntries 0; makers = replicate mostFrames 0; core = blankCore h }
 
 -- "A fresh cabinet has session 1, phase up"
 abbrev pub freshHead : ℕ → Head

@@ -1,7 +1,10 @@
 // The cabinet of 16 cards: its struct, and calls 1 to 10 as methods that hand it back, in the modules below.
+ghost use mathlib.Core.List.{[], _∷_};
 ghost use mathlib.Core.Path.{_≡_};
+ghost use Rattle.limits.specs.Document.{mostCards, mostInHand, mostOpen, lastState};
 ghost use Rattle.verdicts.specs.Answers.{replyOf};
 ghost use Rattle.cabinet.specs.Fresh.{Freshly, zeroCabinet};
+use limits::Limits;
 use refusal::Refusal;
 use verdicts::Core;
 use verdicts::Head;
@@ -19,9 +22,9 @@ pub mod votes;
 // A cabinet by value. Frames stand in a ring: state x of card c has the place c * 48 + x % 48.
 pub struct Cabinet {
     // the vectors of the frames, 16 entries each
-    pub entries: [u32; (Cabinet::WIDTH * Cabinet::IN_HAND * Cabinet::WIDTH) as usize],
+    pub entries: [u32; Limits::ENTRIES],
     // the changes that made the states of the frames
-    pub makers: [u32; (Cabinet::WIDTH * Cabinet::IN_HAND) as usize],
+    pub makers: [u32; Limits::FRAMES],
     // all but the frames; its head stands right after them, and they then are copied once
     pub core: Core,
 }
@@ -48,14 +51,14 @@ pub struct Answer {
 pub fn zeros(head: Head) -> Cabinet
     ensures { λ r. ⌜ r ≡ zeroCabinet head ⌝ }
 {
-    let none = [0u32; 16];
+    let none = [0u32; Limits::CARDS];
     let v = Vector { entries: none };
-    let last = [v; 16];
-    let pending = [v; 16];
+    let last = [v; Limits::CARDS];
+    let pending = [v; Limits::CARDS];
     let free = verdicts::free_place();
-    let places = [free; 8];
-    let entries = [0u32; 12288];
-    let makers = [0u32; 768];
+    let places = [free; Limits::PLACES];
+    let entries = [0u32; Limits::ENTRIES];
+    let makers = [0u32; Limits::FRAMES];
     // written out: a core that `verdicts::blank` hands over would be copied once more
     let core = Core {
         head: head,
@@ -67,7 +70,7 @@ pub fn zeros(head: Head) -> Cabinet
         held: none,
         reached: none,
         line: none,
-        ended: [0u32; 8],
+        ended: [0u32; Limits::PLACES],
         rolled: 0,
     };
     Cabinet {
@@ -79,13 +82,25 @@ pub fn zeros(head: Head) -> Cabinet
 
 impl Cabinet {
     // "the limits 16, 48, 8 and 60,000"
-    pub const WIDTH: u32 = 16;
+    pub const WIDTH: u32 = Limits::CARDS_U32;
 
-    pub const IN_HAND: u32 = 48;
+    pub const IN_HAND: u32 = Limits::IN_HAND_U32;
 
-    pub const PLACES: u32 = 8;
+    pub const PLACES: u32 = Limits::PLACES as u32;
 
-    pub const GREATEST_STATE: u32 = 60000;
+    pub const GREATEST_STATE: u32 = Limits::GREATEST_STATE;
+
+    // These four are the definitions' limits.
+    pub fn limits() -> [u32; 4]
+        ensures { λ r. ⌜ r ≡ mostCards ∷ mostInHand ∷ mostOpen ∷ lastState ∷ [] ⌝ }
+    {
+        [
+            Cabinet::WIDTH,
+            Cabinet::IN_HAND,
+            Cabinet::PLACES,
+            Cabinet::GREATEST_STATE,
+        ]
+    }
 
     // "A fresh cabinet has session 1, phase up, all state numbers 0, all entries none"; refusal 1 hands back the void cabinet.
     pub fn fresh(cards: u32) -> Answer

@@ -10,6 +10,7 @@ ghost use Rattle.cabinet.specs.Fixing.{FixCarried};
 ghost use Rattle.cabinet.specs.Lent.{numbersOf, FixLent, FixPart};
 use crate::Answer;
 use crate::Cabinet;
+use limits::Limits;
 use records::CardNumbers;
 use records::CardRecord;
 use recovery::FixReply;
@@ -25,7 +26,7 @@ pub struct FixAnswer {
 // What fix hands back to a caller whose card records are an array of its own.
 pub struct RecordsAnswer {
     pub answer: FixAnswer,
-    pub records: [CardRecord; 16],
+    pub records: [CardRecord; Limits::CARDS],
 }
 
 // What there is to put into the list of card records: the numbers of every card, and of none where fix is refused.
@@ -54,11 +55,15 @@ fn numbers_of(answer: FixAnswer) -> CardNumbers
 fn lent_records(places: usize) -> usize
     ensures { λ r. ⌜ r ≡ min places 16 ⌝ }
 {
-    if places < 16 { places } else { 16 }
+    if places < Limits::CARDS {
+        places
+    } else {
+        Limits::CARDS
+    }
 }
 
 // The answer and the card records together.
-fn with_records(answer: FixAnswer, records: [CardRecord; 16]) -> RecordsAnswer
+fn with_records(answer: FixAnswer, records: [CardRecord; Limits::CARDS]) -> RecordsAnswer
     ensures { λ r. ⌜ (r .answer ≡ answer) × (r .records ≡ records) ⌝ }
 {
     RecordsAnswer { answer, records }
@@ -104,7 +109,7 @@ impl Cabinet {
             FixReply::Fixed(_) => {
                 let mut after = core;
                 after.line = lines;
-                after.ended = [0u32; 8];
+                after.ended = [0u32; Limits::PLACES];
                 after.rolled = 0;
                 let rolling = verdicts::in_phase(head, Phase::Rolling);
                 after.head = rolling;
@@ -131,7 +136,7 @@ impl Cabinet {
     // 9. fix for a caller whose card records are an array by value: so many places of its front are lent, and the array handed back.
     pub fn fix_array<'a>(
         self,
-        mut records: [CardRecord; 16],
+        mut records: [CardRecord; Limits::CARDS],
         places: usize,
         list: &'a mut [u32],
     ) -> RecordsAnswer

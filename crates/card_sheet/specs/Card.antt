@@ -5,6 +5,7 @@ use mathlib.Core.Bool.{Bool, true, not, _&&_, cond}
 use mathlib.Core.List.{List, []}
 use lib.ListN.{length, take}
 use lib.Seq.{sets}
+use Rattle.limits.specs.Document.{mostCards, mostInHand, lastState, lastNumber}
 use Rattle.bits.specs.Member.{member}
 use Rattle.frame.specs.declared.Header.{Header}
 use Rattle.frame.specs.Format.{formats}
@@ -31,11 +32,11 @@ cardHeader h rolled base stored c = record { session = sessionFor h rolled c; ca
 -- what a cabinet that passes 28 shows of its head, and of the numbers of card c where it is there
 pub record Within (h : Head) (base stored : List ℕ) (c : ℕ) : Type 0 where
   pub session : h .session ≡ 0 → ⊥
-  pub next : isRolling (phaseOf (h .phase)) ≡ true → h .session ≡ 4294967295 → ⊥
-  pub cards : h .cards ≤ 16
+  pub next : isRolling (phaseOf (h .phase)) ≡ true → h .session ≡ lastNumber → ⊥
+  pub cards : h .cards ≤ mostCards
   pub low : c < h .cards → at base c ≤ at stored c
-  pub high : c < h .cards → at stored c ≤ at base c + 48
-  pub top : c < h .cards → at stored c ≤ 60000
+  pub high : c < h .cards → at stored c ≤ at base c + mostInHand
+  pub top : c < h .cards → at stored c ≤ lastState
 
 -- the parts of a cabinet that a sheet is made of: no frame above stored is looked at
 abbrev pub sheetModel : (entries makers : List ℕ) → Head → (rolled : ℕ) (base stored : List ℕ) → Model

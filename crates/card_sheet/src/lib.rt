@@ -7,6 +7,7 @@ ghost use Rattle.protocol.specs.Model.{isRolling};
 ghost use Rattle.verdicts.specs.Shape.{phaseOf};
 ghost use Rattle.card_sheet.specs.Card.{sessionFor, cardHeader, Within, sheetModel, sheetPlanFor, SheetTold};
 use frame::Header;
+use limits::Limits;
 use refusal::Refusal;
 use replies::is_card;
 use verdicts::Head;
@@ -46,13 +47,13 @@ fn header_of(head: Head, rolled: u16, base: u32, stored: u32, card: u32) -> Head
 // Writes a card's sheet at the front of the lent buffer: 28, 2, 4, or its length. A refusal changes no byte.
 pub fn write_card<'a, 'b>(
     b: &'a mut [u8],
-    entries: &'b [u32; 12288],
-    makers: &'b [u32; 768],
+    entries: &'b [u32; Limits::ENTRIES],
+    makers: &'b [u32; Limits::FRAMES],
     sound: bool,
     head: Head,
     rolled: u16,
-    base: [u32; 16],
-    stored: [u32; 16],
+    base: [u32; Limits::CARDS],
+    stored: [u32; Limits::CARDS],
     card: u32,
 ) -> Written
     requires { ⌜ (sound ≡ true → Within head base stored card) ⌝ }

@@ -6,6 +6,7 @@ use mathlib.Core.List.{List, [], _∷_}
 use lib.Dec.{eqb}
 use lib.ListN.{set}
 use lib.Seq.{sets}
+use Rattle.limits.specs.Document.{mostCards}
 use Rattle.laws.specs.Below.{anyBelow}
 use Rattle.bits.specs.Member.{member}
 use Rattle.history.specs.Change.{CardSet}
@@ -57,8 +58,8 @@ takeOn whole s k c =
 -- take: besides the core the frame that the card has made, state 0 for none
 pub record TakeCarriedOn (whole : Bool) (s : Core) (change card : ℕ) (vector : List ℕ) (state maker : ℕ) (reply : Reply) (next : Core) : Type 0 where
   pub carried : CoreCarried s (takeOn whole s change card) reply next
-  pub below : (state ≡ 0 → ⊥) → card < 16
-  pub entries : (l : List ℕ) → cond (eqb state 0) l (sets l (ringPlace card state * 16) (listOf (at vector))) ≡ entriesAll (takeOn whole s change card .edits) s l
+  pub below : (state ≡ 0 → ⊥) → card < mostCards
+  pub entries : (l : List ℕ) → cond (eqb state 0) l (sets l (ringPlace card state * mostCards) (listOf (at vector))) ≡ entriesAll (takeOn whole s change card .edits) s l
   pub makers : (l : List ℕ) → cond (eqb state 0) l (set l (ringPlace card state) maker) ≡ makersAll (takeOn whole s change card .edits) s l
 
 abbrev pub withdrawOn : Bool → Core → (change : ℕ) → Plan

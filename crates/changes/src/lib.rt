@@ -10,6 +10,7 @@ ghost use Rattle.protocol.specs.Calls.{voteChecks, withdrawChecks, votedYes, vo
 ghost use Rattle.verdicts.specs.Shape.{limits16, at, headModel, placesModel, openOf, openAt, placeFor};
 ghost use Rattle.verdicts.specs.Answers.{firstFailing, after28};
 ghost use Rattle.changes.specs.Opening.{standing, OpenVerdict};
+use limits::Limits;
 use refusal::Refusal;
 use replies::is_card;
 use replies::next;
@@ -19,7 +20,7 @@ use verdicts::Reply;
 use verdicts::Vector;
 
 // 2. vote
-pub fn vote_reply(sound: bool, head: Head, all: [Place; 8], k: u32, card: u32) -> Reply
+pub fn vote_reply(sound: bool, head: Head, all: [Place; Limits::PLACES], k: u32, card: u32) -> Reply
     ensures { λ r. ⌜ r ≡ firstFailing (after28 (not sound) (voteChecks limits16 (placesModel head all [] []) k card)) ⌝ }
 {
     let there = is_card(head, card);
@@ -32,13 +33,13 @@ pub fn vote_reply(sound: bool, head: Head, all: [Place; 8], k: u32, card: u32) -
     let r = next(Reply::Done, !sound, Refusal::BadCabinet);
     let r = next(r, !there, Refusal::NoSuchCard);
     let r = next(r, !up, Refusal::WrongPhase);
-    let r = next(r, !(p < 8), Refusal::NotAwaited);
+    let r = next(r, !(p < Limits::PLACES), Refusal::NotAwaited);
     let r = next(r, made, Refusal::AlreadyDecided);
     next(r, !due, Refusal::NotAwaited)
 }
 
 // 4. withdraw
-pub fn withdraw_reply(sound: bool, head: Head, all: [Place; 8], k: u32) -> Reply
+pub fn withdraw_reply(sound: bool, head: Head, all: [Place; Limits::PLACES], k: u32) -> Reply
     ensures { λ r. ⌜ r ≡ firstFailing (after28 (not sound) (withdrawChecks limits16 (placesModel head all [] []) k)) ⌝ }
 {
     let phase = head.phase;
@@ -48,7 +49,7 @@ pub fn withdraw_reply(sound: bool, head: Head, all: [Place; 8], k: u32) -> Reply
     let made = places::is_decided(o);
     let r = next(Reply::Done, !sound, Refusal::BadCabinet);
     let r = next(r, !up, Refusal::WrongPhase);
-    let r = next(r, !(p < 8), Refusal::NotAwaited);
+    let r = next(r, !(p < Limits::PLACES), Refusal::NotAwaited);
     next(r, made, Refusal::AlreadyDecided)
 }
 
@@ -56,9 +57,9 @@ pub fn withdraw_reply(sound: bool, head: Head, all: [Place; 8], k: u32) -> Reply
 fn with_yes(
     o: Place,
     c: u32,
-    reached: [u32; 16],
-    last: [Vector; 16],
-    pending: [Vector; 16],
+    reached: [u32; Limits::CARDS],
+    last: [Vector; Limits::CARDS],
+    pending: [Vector; Limits::CARDS],
 ) -> Place
     requires { ⌜ ((c : ℕ) → c < 16 → member (o .writes) c ≡ true → at reached c < 4294967295) ⌝ }
     ensures { λ r. ⌜ r ≡ placeFor (votedYes limits16 (standing reached last pending) (openOf o) c) ⌝ }
@@ -81,9 +82,9 @@ pub fn after_vote(
     o: Place,
     c: u32,
     agrees: bool,
-    reached: [u32; 16],
-    last: [Vector; 16],
-    pending: [Vector; 16],
+    reached: [u32; Limits::CARDS],
+    last: [Vector; Limits::CARDS],
+    pending: [Vector; Limits::CARDS],
 ) -> Place
     requires { ⌜ ((c : ℕ) → c < 16 → member (o .writes) c ≡ true → at reached c < 4294967295) ⌝ }
     ensures { λ r. ⌜ r ≡ placeFor (voted limits16 (standing reached last pending) (openOf o) c agrees) ⌝ }
@@ -108,12 +109,12 @@ fn bar_set(o: Place, reads: u16, writes: u16) -> u16
 }
 
 // The cards that some open change bars for an opening.
-fn barred_set(all: [Place; 8], reads: u16, writes: u16) -> u16
+fn barred_set(all: [Place; Limits::PLACES], reads: u16, writes: u16) -> u16
     ensures { λ r. ⌜ member r ≡ (λ c. anyBelow (limits16 .places) (λ p. bars (openAt all p) (member reads) (member writes) c)) ⌝ }
 {
     let mut out: u16 = 0;
     let mut p: usize = 0;
-    while p < 8 {
+    while p < Limits::PLACES {
         let o = all[p];
         let more = bar_set(o, reads, writes);
         let both = bits::union(out, more);
@@ -126,16 +127,16 @@ fn barred_set(all: [Place; 8], reads: u16, writes: u16) -> u16
 fn full(base: u32, reached: u32) -> bool
     ensures { λ r. ⌜ r ≡ leb (base + 48) reached ⌝ }
 {
-    (base as u64) + 48 <= (reached as u64)
+    (base as u64) + Limits::IN_HAND_U64 <= (reached as u64)
 }
 
 // "a written card has reached base + 48"
-fn hand_full(writes: u16, base: [u32; 16], reached: [u32; 16]) -> bool
+fn hand_full(writes: u16, base: [u32; Limits::CARDS], reached: [u32; Limits::CARDS]) -> bool
     ensures { λ r. ⌜ r ≡ someWritten limits16 (member writes) (λ c. leb (at base c + limits16 .inHand) (at reached c)) ⌝ }
 {
     let mut found = false;
     let mut c: usize = 0;
-    while c < 16 {
+    while c < Limits::CARDS {
         let written = bits::has(writes, c as u32);
         found = found | (written & full(base[c], reached[c]));
         c += 1;
@@ -144,14 +145,14 @@ fn hand_full(writes: u16, base: [u32; 16], reached: [u32; 16]) -> bool
 }
 
 // "a written card at 60,000"
-fn at_top(writes: u16, reached: [u32; 16]) -> bool
+fn at_top(writes: u16, reached: [u32; Limits::CARDS]) -> bool
     ensures { λ r. ⌜ r ≡ someWritten limits16 (member writes) (λ c. leb (limits16 .greatestState) (at reached c)) ⌝ }
 {
     let mut found = false;
     let mut c: usize = 0;
-    while c < 16 {
+    while c < Limits::CARDS {
         let written = bits::has(writes, c as u32);
-        found = found | (written & (60000 <= reached[c]));
+        found = found | (written & (Limits::GREATEST_STATE <= reached[c]));
         c += 1;
     }
     found
@@ -161,9 +162,9 @@ fn at_top(writes: u16, reached: [u32; 16]) -> bool
 pub fn open_verdict(
     sound: bool,
     head: Head,
-    all: [Place; 8],
-    base: [u32; 16],
-    reached: [u32; 16],
+    all: [Place; Limits::PLACES],
+    base: [u32; Limits::CARDS],
+    reached: [u32; Limits::CARDS],
     reads: u16,
     writes: u16,
 ) -> Reply
@@ -186,9 +187,13 @@ pub fn open_verdict(
     let r = next(r, none_r & none_w, Refusal::BothSetsEmpty);
     let r = next(r, !up, Refusal::WrongPhase);
     let r = next(r, !free, Refusal::Barred(named));
-    let r = next(r, !(p < 8), Refusal::NoPlace);
+    let r = next(r, !(p < Limits::PLACES), Refusal::NoPlace);
     let r = next(r, full, Refusal::InHandFull);
-    next(r, top | (4294967295 <= head.count), Refusal::LimitReached)
+    next(
+        r,
+        top | (Limits::GREATEST_NUMBER <= head.count),
+        Refusal::LimitReached,
+    )
 }
 
 // The change that an opening puts into its place.

@@ -2,18 +2,19 @@
 use mathlib.Core.Path.{refl}
 use lib.Dec.{ltb}
 use Rattle.codec.specs.Sheets.{codec}
-use Rattle.protocol.specs.Model.{Limits}
+use Rattle.limits.specs.Document.{Limits, limits16}
 use Rattle.protocol.proofs.Answers as lists
-use Rattle.codec.specs.Claims.{SheetLimits, Demands, limits, Demands23}
+use Rattle.codec.specs.Claims.{SheetLimits, Demands, Demands23}
 use Rattle.codec.proofs.Retold.{below-carded, sheets-law}
 
 -- demands 2 and 3, for every list of calls
 pub demands : (L : Limits) → SheetLimits L → Demands L
 demands L lim k low high = lists.demands codec L (λ c. ltb c k) (below-carded L lim k low high) (sheets-law L lim k low high)
 
-pub limits-fit : SheetLimits limits
+pub limits-fit : SheetLimits limits16
+unfolding limits16
 limits-fit = record { width = refl; inHand = refl; greatestState = refl; greatestNumber = refl }
 
 -- demands 2 and 3 of document 01
 pub document-demands : Demands23
-document-demands = demands limits limits-fit
+document-demands = demands limits16 limits-fit

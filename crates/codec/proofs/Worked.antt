@@ -3,6 +3,7 @@ use Prim.Native.Nat.{suc, _-_}
 use lib.Dec.{ltb}
 use mathlib.Core.Path.{_≡_, refl}
 use mathlib.Core.List.{[], _∷_, map}
+use Rattle.limits.specs.Document.{limits16}
 use Rattle.refusal.specs.declared.Verdict.the-variants.{Accepted}
 use Rattle.frame.specs.Format.{formats}
 use Rattle.laws.specs.Below.{tabulate}
@@ -16,16 +17,16 @@ use Rattle.two_vectors.specs.Vectors.{twoVectors}
 use Rattle.readout.specs.Joint.{sessionsApart, jointVerdict, pagesRead}
 use Rattle.protocol.specs.Calls.{freshModel}
 use Rattle.codec.specs.Sheets.{joinedSheets, restartReply, restartedFrom}
-use Rattle.codec.specs.Claims.{limits}
 use Rattle.codec.specs.Worked.{followed, fixReply, saidReply, recoveries, workedCalls, workedBytes}
 
 -- each fix of the samples answers what document 01 says
 pub recovered : map fixReply recoveries ≡ map saidReply recoveries
+unfolding limits16
 recovered = refl
 
 -- the sheets that the calls lead to are the worked read-out, byte for byte
-pub worked-written : joinedSheets formats limits (followed (freshModel (λ c. ltb c 2)) workedCalls) ≡ workedBytes
-unfolding isNumeral isLetter isDigit digit digitValue checkOf lineOf dependency entryOf headerLine frameLine
+pub worked-written : joinedSheets formats limits16 (followed (freshModel (λ c. ltb c 2)) workedCalls) ≡ workedBytes
+unfolding limits16 isNumeral isLetter isDigit digit digitValue checkOf lineOf dependency entryOf headerLine frameLine
 worked-written = refl
 
 -- it restarts: "0 2 1", "1 0 0", and the session after recovery is 2
@@ -33,14 +34,14 @@ pub worked-accepted : restartReply workedBytes ≡ Accepted
 unfolding isNumeral isLetter isDigit digit digitValue checkOf lineOf shaped checked shapeOf dependency entryOf headerLine headerIn headerAllowed headerVerdict frameLine stateIn entriesIn frameIn entriesAllowed frameAllowed frameVerdict readSheets apart sessionsApart twoVectors jointVerdict pagesRead
 worked-accepted = refl
 
-pub worked-stored : tabulate 2 (restartedFrom limits workedBytes .numbers .stored) ≡ 2 ∷ 0 ∷ []
-unfolding isNumeral isLetter isDigit digit digitValue checkOf lineOf shaped checked shapeOf dependency entryOf headerLine headerIn headerAllowed headerVerdict frameLine stateIn entriesIn frameIn entriesAllowed frameAllowed frameVerdict readSheets apart sessionsApart twoVectors jointVerdict pagesRead
+pub worked-stored : tabulate 2 (restartedFrom limits16 workedBytes .numbers .stored) ≡ 2 ∷ 0 ∷ []
+unfolding limits16 isNumeral isLetter isDigit digit digitValue checkOf lineOf shaped checked shapeOf dependency entryOf headerLine headerIn headerAllowed headerVerdict frameLine stateIn entriesIn frameIn entriesAllowed frameAllowed frameVerdict readSheets apart sessionsApart twoVectors jointVerdict pagesRead
 worked-stored = refl
 
-pub worked-line : tabulate 2 (restartedFrom limits workedBytes .line) ≡ 1 ∷ 0 ∷ []
-unfolding isNumeral isLetter isDigit digit digitValue checkOf lineOf shaped checked shapeOf dependency entryOf headerLine headerIn headerAllowed headerVerdict frameLine stateIn entriesIn frameIn entriesAllowed frameAllowed frameVerdict readSheets apart sessionsApart twoVectors jointVerdict pagesRead
+pub worked-line : tabulate 2 (restartedFrom limits16 workedBytes .line) ≡ 1 ∷ 0 ∷ []
+unfolding limits16 isNumeral isLetter isDigit digit digitValue checkOf lineOf shaped checked shapeOf dependency entryOf headerLine headerIn headerAllowed headerVerdict frameLine stateIn entriesIn frameIn entriesAllowed frameAllowed frameVerdict readSheets apart sessionsApart twoVectors jointVerdict pagesRead
 worked-line = refl
 
-pub worked-session : suc (restartedFrom limits workedBytes .session) ≡ 2
-unfolding isNumeral isLetter isDigit digit digitValue checkOf lineOf shaped checked shapeOf dependency entryOf headerLine headerIn headerAllowed headerVerdict frameLine stateIn entriesIn frameIn entriesAllowed frameAllowed frameVerdict readSheets apart sessionsApart twoVectors jointVerdict pagesRead
+pub worked-session : suc (restartedFrom limits16 workedBytes .session) ≡ 2
+unfolding limits16 isNumeral isLetter isDigit digit digitValue checkOf lineOf shaped checked shapeOf dependency entryOf headerLine headerIn headerAllowed headerVerdict frameLine stateIn entriesIn frameIn entriesAllowed frameAllowed frameVerdict readSheets apart sessionsApart twoVectors jointVerdict pagesRead
 worked-session = refl

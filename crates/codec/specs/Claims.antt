@@ -2,25 +2,21 @@
 use Prim.Native.Nat.{ℕ, _≤_}
 use mathlib.Core.Path.{_≡_}
 use lib.Dec.{ltb}
-use Rattle.protocol.specs.Model.{Limits}
+use Rattle.limits.specs.Document.{mostCards, mostInHand, lastState, lastNumber, Limits, limits16}
 use Rattle.protocol.specs.Demands as lists
 use Rattle.codec.specs.Sheets.{codec}
 
 -- the limits for which document 01's sheets have room
 pub record SheetLimits (L : Limits) : Type 0 where
-  pub width : L .width ≡ 16
-  pub inHand : L .inHand ≡ 48
-  pub greatestState : L .greatestState ≡ 60000
-  pub greatestNumber : L .greatestNumber ≡ 4294967295
+  pub width : L .width ≡ mostCards
+  pub inHand : L .inHand ≡ mostInHand
+  pub greatestState : L .greatestState ≡ lastState
+  pub greatestNumber : L .greatestNumber ≡ lastNumber
 
 -- demands 2 and 3, for every list of calls from a fresh cabinet of any allowed size, with losses anywhere and restarts in any phase
 abbrev pub Demands : Limits → Type 0
 Demands L = (k : ℕ) → 1 ≤ k → k ≤ L .width → lists.Demands codec L (λ c. ltb c k)
 
--- document 01's limits: 16 cards, 48 states in hand, 8 open changes, states to 60,000, sessions and change numbers to 4,294,967,295
-abbrev pub limits : Limits
-limits = record { width = 16; inHand = 48; places = 8; greatestState = 60000; greatestNumber = 4294967295 }
-
 -- demands 2 and 3 of a cabinet of document 01
 abbrev pub Demands23 : Type 0
-Demands23 = Demands limits
+Demands23 = Demands limits16

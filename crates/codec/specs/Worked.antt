@@ -3,6 +3,7 @@ use Prim.Native.Nat.{ℕ}
 use mathlib.Core.Bool.{true}
 use mathlib.Core.List.{List, [], _∷_, _++_, map}
 use lib.Dec.{ltb}
+use Rattle.limits.specs.Document.{limits16}
 use Rattle.laws.specs.Below.{tabulate}
 use Rattle.digits.specs.Digits.{digit}
 use Rattle.history.specs.Samples.{among}
@@ -11,18 +12,17 @@ use Rattle.protocol.specs.Plan.{CardRow, fixed, Reply, accepted}
 use Rattle.protocol.specs.Calls.{freshModel}
 use Rattle.protocol.specs.Run.{Call, openCall, voteCall, takeCall, storeCall, loseCall, fixCall, planOf, afterCall}
 use Rattle.codec.specs.Sheets.{codec}
-use Rattle.codec.specs.Claims.{limits}
 use Rattle.protocol.specs.Choices.{chosen}
 
 -- the cabinet after calls
 abbrev pub followed : Model → List Call → Model
 followed m [] = m
-followed m (c ∷ cs) = followed (afterCall codec limits m c (chosen limits m c)) cs
+followed m (c ∷ cs) = followed (afterCall codec limits16 m c (chosen limits16 m c)) cs
 
 -- what the last of some calls answers
 abbrev pub lastReply : Model → Call → List Call → Reply
-lastReply m c [] = planOf codec limits m c (chosen limits m c) .reply
-lastReply m c (d ∷ cs) = lastReply (afterCall codec limits m c (chosen limits m c)) d cs
+lastReply m c [] = planOf codec limits16 m c (chosen limits16 m c) .reply
+lastReply m c (d ∷ cs) = lastReply (afterCall codec limits16 m c (chosen limits16 m c)) d cs
 
 -- change k: opened, voted yes by every card that it touches, and taken by every one
 abbrev pub decidedBy : ℕ → (reads writes : List ℕ) → List Call

@@ -4,6 +4,7 @@ use mathlib.Core.Path.{_≡_}
 use mathlib.Core.Bool.{Bool}
 use mathlib.Core.List.{List, []}
 use lib.ListN.{length}
+use Rattle.limits.specs.Document.{mostCards, mostFrames, mostEntries}
 use Rattle.bits.specs.Member.{member}
 use Rattle.protocol.specs.Plan.{Reply, accepted, done}
 use Rattle.protocol.specs.Calls.{votePlan, takePlan, withdrawPlan, storePlan, trimPlan, safePlan, losePlan, rollPlan}
@@ -95,20 +96,20 @@ lent restart = nothingLent
 
 -- what the type of the cabinet says: each list has its length, and a set has 16 bits
 pub record SizedCore (s : Core) : Type 0 where
-  pub last : length (s .last) ≡ 16
-  pub pending : length (s .pending) ≡ 16
+  pub last : length (s .last) ≡ mostCards
+  pub pending : length (s .pending) ≡ mostCards
   pub places : length (s .places) ≡ 8
-  pub base : length (s .base) ≡ 16
-  pub stored : length (s .stored) ≡ 16
-  pub held : length (s .held) ≡ 16
-  pub reached : length (s .reached) ≡ 16
-  pub line : length (s .line) ≡ 16
+  pub base : length (s .base) ≡ mostCards
+  pub stored : length (s .stored) ≡ mostCards
+  pub held : length (s .held) ≡ mostCards
+  pub reached : length (s .reached) ≡ mostCards
+  pub line : length (s .line) ≡ mostCards
   pub ended : length (s .ended) ≡ 8
   pub rolled : s .rolled < 65536
 
 pub record Sized (s : Cabinet) : Type 0 where
-  pub entries : length (s .entries) ≡ 12288
-  pub makers : length (s .makers) ≡ 768
+  pub entries : length (s .entries) ≡ mostEntries
+  pub makers : length (s .makers) ≡ mostFrames
   pub core : SizedCore (s .core)
 
 -- fix: what its contract says, and its reply in document 01's values

@@ -3,6 +3,7 @@ use Prim.Native.Nat.{ℕ, zero, suc, _+_, _-_, _^_, _≤_}
 use mathlib.Core.Path.{_≡_}
 use mathlib.Core.Bool.{Bool, false, cond}
 use lib.Dec.{eqb}
+use Rattle.limits.specs.Document.{mostCards, mostInHand, lastState, lastNumber, noEntry}
 use Rattle.digits.specs.declared.Sums.{Sums}
 use Rattle.frame.specs.declared.Layout.{Layout}
 
@@ -28,21 +29,21 @@ fromZero card session = record { first = 0; second = 0 }
 
 -- document 01's format: state numbers of 4 digits, 16 cards, 48 frames, states to 60,000
 abbrev pub format : Format
-format = record { width = 4; cards = 16; frames = 48; states = 60000; short = false; unraised = λ k. k; start = fromZero }
+format = record { width = 4; cards = mostCards; frames = mostInHand; states = lastState; short = false; unraised = λ k. k; start = fromZero }
 
 -- the format of a layout: what readers and writers of lines are told of it
 abbrev pub formatOf : Layout → Format
-formatOf l = record { width = l .width; cards = 16; frames = 48; states = l .states; short = l .short; unraised = λ k. k - l .raise; start = fromZero }
+formatOf l = record { width = l .width; cards = mostCards; frames = mostInHand; states = l .states; short = l .short; unraised = λ k. k - l .raise; start = fromZero }
 
 -- a layout whose numbers are those of its width
 pub record Fits (l : Layout) : Type 0 where
   pub width : l .width ≤ 8
   pub none : l .none ≡ 16 ^ l .width - 1
-  pub states : l .states ≤ 4294967295
+  pub states : l .states ≤ lastNumber
 
 -- document 01's layout
 abbrev pub plain : Layout
-plain = record { none = 65535; states = 60000; raise = 0; width = 4; short = false }
+plain = record { none = noEntry; states = lastState; raise = 0; width = 4; short = false }
 
 -- Formats by the number of cards that a header tells, raised as it is: a sheet is in the format that its header picks.
 abbrev pub Formats : Type 0

@@ -5,6 +5,7 @@ use mathlib.Core.List.{List, [], _∷_, map}
 use lib.Dec.{leb, ltb, eqb}
 use lib.ListN.{length, take, drop, getD, replicate}
 use lib.Seq.{sets}
+use Rattle.limits.specs.Document.{mostCards}
 use Rattle.refusal.specs.declared.Refusal.{Refusal}
 use Rattle.refusal.specs.declared.Refusal.the-variants.{BadCheck, BadHeader, BadFrame}
 use Rattle.digits.specs.declared.Sums.{Sums}
@@ -145,16 +146,16 @@ frameVerdict f start card n state last input =
 
 -- entries in an array of 16, with 0 beyond them
 unfoldable pub padded : List ℕ → List ℕ
-padded es = sets (replicate 16 0) 0 es
+padded es = sets (replicate mostCards 0) 0 es
 
 -- the frame where the verdict accepts it, else the refusal
 abbrev pub frameReadOf : Verdict → Frame → FrameRead
 frameReadOf Accepted fr = record { entries = padded (fr .entries); line = frame-read (fr .change) }
-frameReadOf (Refused r) fr = record { entries = replicate 16 0; line = frame-fault r }
+frameReadOf (Refused r) fr = record { entries = replicate mostCards 0; line = frame-fault r }
 
 -- what stands before the first frame: change 0, no entries
 abbrev pub noFrame : Frame
-noFrame = record { change = 0; entries = replicate 16 0 }
+noFrame = record { change = 0; entries = replicate mostCards 0 }
 
 -- the verdict that the frame reader's answer tells
 abbrev pub frameTold : FrameLine → Verdict

@@ -3,21 +3,9 @@ ghost use mathlib.Core.Path.{_≡_};
 ghost use Rattle.frame.specs.Format.{format, formatOf, Fits, plain, formats};
 ghost use Rattle.frame.specs.Lines.{headerTold, frameTold};
 use digits::Sums;
+use limits::Limits;
 use refusal::Refusal;
 use refusal::Verdict;
-
-// The limits of document 01, and the number that says none in a sheet.
-pub struct Limits {}
-
-impl Limits {
-    pub const CARDS: u32 = 16;
-
-    pub const FRAMES: u32 = 48;
-
-    pub const STATES: u32 = 60000;
-
-    pub const NONE: u32 = 65535;
-}
 
 // What the readers and writers of lines are told of a sheet's format: the number that says none, the greatest state,
 // what a header's number of cards is raised by, the digits of a state and of an entry, and whether entries are needs.
@@ -40,7 +28,7 @@ pub struct Header {
 // A frame without its state: its change number and its entries, each held as the least state that must be kept, 0 for none.
 pub struct Frame {
     pub change: u32,
-    pub entries: [u32; 16],
+    pub entries: [u32; Limits::CARDS],
 }
 
 // What the reader of a header line answers.
@@ -57,7 +45,7 @@ pub enum FrameLine {
 
 // The entries stand beside the answer; they are 0 where the line is refused.
 pub struct FrameRead {
-    pub entries: [u32; 16],
+    pub entries: [u32; Limits::CARDS],
     pub line: FrameLine,
 }
 
@@ -66,8 +54,8 @@ pub fn plain() -> Layout
     ensures { λ r. ⌜ r ≡ plain ⌝ }
 {
     Layout {
-        none: 65535,
-        states: 60000,
+        none: Limits::NO_ENTRY,
+        states: Limits::GREATEST_STATE,
         raise: 0,
         width: 4,
         short: false,

@@ -16,6 +16,7 @@ use frame::Frame;
 use frame::FrameLine;
 use frame::FrameRead;
 use frame::Layout;
+use limits::Limits;
 use refusal::Refusal;
 
 // What is held for an entry.
@@ -33,11 +34,18 @@ fn held(short: bool, none: u32, e: u32) -> u32
 }
 
 // What is held of n entries from `at` on, and 0 beyond them.
-fn entries_at(s: &[u8], at: usize, n: usize, width: usize, short: bool, none: u32) -> [u32; 16]
+fn entries_at(
+    s: &[u8],
+    at: usize,
+    n: usize,
+    width: usize,
+    short: bool,
+    none: u32,
+) -> [u32; Limits::CARDS]
     requires { ⌜ (n ≤ 16) × (width ≤ 8) × (none ≡ 16 ^ width - 1) × (at + n * width ≤ length (now s)) ⌝ }
     ensures { λ r. ⌜ r ≡ padded (entriesBy width (heldBy short none) n (drop at (now (s .entry)))) ⌝ }
 {
-    let mut entries = [0u32; 16];
+    let mut entries = [0u32; Limits::CARDS];
     let mut j = 0;
     while j < n {
         entries[j] = held(short, none, digits::state_at(s, at + j * width, width));
@@ -77,8 +85,8 @@ fn entries_allowed(
     card: u32,
     state: u32,
     n: u32,
-    last: [u32; 16],
-    next: [u32; 16],
+    last: [u32; Limits::CARDS],
+    next: [u32; Limits::CARDS],
 ) -> bool
     requires { ⌜ n ≤ 16 ⌝ }
     ensures { λ r. ⌜ r ≡ entriesAllowed (formatOf f) card state n last next ⌝ }
@@ -97,14 +105,18 @@ fn entries_allowed(
 fn at_most_16(n: u32) -> u32
     ensures { λ r. ⌜ r ≡ min n 16 ⌝ }
 {
-    if n <= 16 { n } else { 16 }
+    if n <= Limits::CARDS_U32 {
+        n
+    } else {
+        Limits::CARDS_U32
+    }
 }
 
 // Whether refusal 9 lets pass what frames of 16 entries have of further cards, none each.
 fn absent_allowed(card: u32, state: u32, n: u32) -> bool
     ensures { λ r. ⌜ r ≡ allBelow (n - 16) (λ j. not (eqb (16 + j) card) || eqb 0 state) ⌝ }
 {
-    if card < 16 {
+    if card < Limits::CARDS_U32 {
         return true;
     }
     if n <= card {
@@ -142,7 +154,7 @@ fn frame_refused(r: Refusal) -> FrameRead
     ensures { λ x. ⌜ x ≡ frameReadOf (Verdict.Refused r) noFrame ⌝ }
 {
     FrameRead {
-        entries: [0u32; 16],
+        entries: [0u32; Limits::CARDS],
         line: FrameLine::Fault(r),
     }
 }

@@ -13,7 +13,7 @@ use digits::Line;
 use frame::Header;
 use frame::HeaderLine;
 use frame::Layout;
-use frame::Limits;
+use limits::Limits;
 use refusal::Refusal;
 
 // The number of cards that the header line at `at` tells, from as many of its digits as there are.
@@ -83,13 +83,13 @@ pub fn header_allowed(f: Layout, h: Header, due: u32, first: u32) -> bool
     if cards <= h.card {
         return false;
     }
-    if Limits::CARDS < cards {
+    if Limits::CARDS_U32 < cards {
         return false;
     }
     if !agrees(cards, first) {
         return false;
     }
-    if Limits::FRAMES < h.count {
+    if Limits::IN_HAND_U32 < h.count {
         return false;
     }
     if states < h.base {

@@ -13,6 +13,7 @@ ghost use Rattle.cabinet.specs.View.{view};
 ghost use Rattle.joined.specs.Joined.{goingOn, FromOwnSheets};
 use cabinet::Answer;
 use cabinet::Cabinet;
+use limits::Limits;
 use refusal::Refusal;
 use verdicts::Reply;
 use write::Written;
@@ -74,7 +75,7 @@ fn restart_sound(c: Cabinet) -> Answer
     let core = c.core;
     let head = core.head;
     let cards = head.cards;
-    let mut buffer = [0u8; 65536];
+    let mut buffer = [0u8; Limits::LONGEST];
     let n = join(c, cards, &mut buffer);
     let a = restart::restart(&buffer[0..n]);
     going_on(a, c)

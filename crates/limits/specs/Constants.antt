@@ -1,6 +1,6 @@
 -- What the constants of the code say, in the definitions' numbers.
-use Prim.Native.Nat.{_+_, _*_, _-_, _^_}
-use Rattle.limits.specs.Document.{mostCards, mostInHand, mostOpen, lastState, lastNumber, longestInput}
+use Prim.Native.Nat.{_+_, _-_, _^_}
+use Rattle.limits.specs.Document.{mostCards, mostInHand, mostFrames, mostEntries, mostOpen, lastState, lastNumber, longestInput, noEntry}
 use Rattle.limits.specs.declared.Limits.{Limits}
 
 abbrev pub constants : Limits
@@ -12,10 +12,10 @@ constants =
       «greatest_state» = lastState;
       «greatest_number» = lastNumber;
       longest = longestInput;
-      «no_entry» = 16 ^ 4 - 1;
-      frames = mostCards * mostInHand;
-      entries = mostCards * mostInHand * mostCards;
-      «most_lost» = mostCards * mostInHand + mostOpen;
+      «no_entry» = noEntry;
+      frames = mostFrames;
+      entries = mostEntries;
+      «most_lost» = mostFrames + mostOpen;
       sets = 2 ^ mostCards;
       «all_cards» = 2 ^ mostCards - 1;
       «cards_u32» = mostCards;

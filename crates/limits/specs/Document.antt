@@ -1,5 +1,5 @@
 -- The limits of document 01: each number by its name, and the one record of them that plans and claims go over.
-use Prim.Native.Nat.{ℕ}
+use Prim.Native.Nat.{ℕ, _*_}
 
 -- "A cabinet has 1 to 16 cards"
 abbrev pub mostCards : ℕ
@@ -21,11 +21,22 @@ lastState = 60000
 abbrev pub lastNumber : ℕ
 lastNumber = 4294967295
 
+-- the frames in hand of all cards, and their entries
+abbrev pub mostFrames : ℕ
+mostFrames = mostCards * mostInHand
+
+abbrev pub mostEntries : ℕ
+mostEntries = mostFrames * mostCards
+
 -- "input over 65,536 bytes"
 abbrev pub longestInput : ℕ
 longestInput = 65536
 
--- "the limits 16, 48, 8 and 60,000", and 4,294,967,295, the greatest session and change number
+-- "none is FFFF", in a sheet
+abbrev pub noEntry : ℕ
+noEntry = 65535
+
+-- the limits of a cabinet, for any numbers
 pub record Limits : Type 0 where
   pub width : ℕ
   pub inHand : ℕ
@@ -33,6 +44,6 @@ pub record Limits : Type 0 where
   pub greatestState : ℕ
   pub greatestNumber : ℕ
 
--- document 01's limits
-unfoldable pub limits : Limits
-limits = record { width = mostCards; inHand = mostInHand; places = mostOpen; greatestState = lastState; greatestNumber = lastNumber }
+-- "the limits 16, 48, 8 and 60,000", and 4,294,967,295, the greatest session and change number
+unfoldable pub limits16 : Limits
+limits16 = record { width = mostCards; inHand = mostInHand; places = mostOpen; greatestState = lastState; greatestNumber = lastNumber }

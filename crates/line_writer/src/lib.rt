@@ -11,6 +11,7 @@ use digits::Sums;
 use frame::Frame;
 use frame::Header;
 use frame::Layout;
+use limits::Limits;
 
 // The entry that a sheet has for what is held.
 fn entry_of(short: bool, none: u32, d: u32) -> u32
@@ -48,7 +49,7 @@ fn put_entries(
     width: usize,
     short: bool,
     none: u32,
-    entries: [u32; 16],
+    entries: [u32; Limits::CARDS],
 )
     requires { ⌜ (n ≤ 16) × (at + n * width ≤ length (now b)) ⌝ }
     ensures { λ r. ⌜ now (b .exit) ≡ sets (now (b .entry)) at (written (replicate n width) (map (shownBy short none) entries)) ⌝ }

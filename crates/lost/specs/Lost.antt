@@ -6,6 +6,7 @@ use mathlib.Core.List.{List}
 use lib.Dec.{eqb, ltb}
 use lib.ListN.{length}
 use lib.Seq.{sets}
+use Rattle.limits.specs.Document.{mostCards}
 use Rattle.laws.specs.Below.{anyBelow, tabulate, selected}
 use Rattle.merge.specs.Merge.{lesser, leastBelow, leastOf}
 use Rattle.verdicts.specs.Shape.{at, ringMaker}
@@ -38,7 +39,7 @@ leastEnded ended k = leastBelow 8 (λ p. numberAbove (at ended p) k)
 
 -- the last state of each card; a card that is not there has none
 abbrev pub endsOf : (reached : List ℕ) → (cards : ℕ) → List ℕ
-endsOf reached cards = tabulate 16 (λ c. cond (ltb c cards) (at reached c) 0)
+endsOf reached cards = tabulate mostCards (λ c. cond (ltb c cards) (at reached c) 0)
 
 -- the number that comes next: the least at the heads of the cards or, above k, among the changes ended
 abbrev pub nextLost : (heads ended : List ℕ) → ℕ → ℕ
@@ -55,4 +56,4 @@ endedBy ended k = anyBelow 8 (λ p. eqb (at ended p) k)
 -- the change k is lost: it has a frame above the line, or it ended with a written share untaken
 abbrev pub lostBy : (makers line reached ended : List ℕ) → (cards : ℕ) → ℕ → Bool
 lostBy makers line reached ended cards k =
-    not (eqb k 0) && (anyBelow 16 (λ c. ltb c cards && framedBy makers c (at line c) (at reached c) k) || endedBy ended k)
+    not (eqb k 0) && (anyBelow mostCards (λ c. ltb c cards && framedBy makers c (at line c) (at reached c) k) || endedBy ended k)

@@ -10,6 +10,7 @@ ghost use Rattle.protocol.specs.Calls.{fixChecks, fixPlan};
 ghost use Rattle.verdicts.specs.Shape.{limits16, presentOf, headModel, modelOf};
 ghost use Rattle.verdicts.specs.Answers.{firstFailing, after28};
 ghost use Rattle.recovery.specs.Fix.{butLast, FixWorked};
+use limits::Limits;
 use listing::count_lost;
 use listing::write_lost;
 use recovery::FixReply;
@@ -31,7 +32,11 @@ fn fix_reply(sound: bool, head: Head) -> Reply
     let down = is_down(phase);
     let r = next(Reply::Done, !sound, Refusal::BadCabinet);
     let r = next(r, !down, Refusal::WrongPhase);
-    next(r, 4294967295 <= head.session, Refusal::LimitReached)
+    next(
+        r,
+        Limits::GREATEST_NUMBER <= head.session,
+        Refusal::LimitReached,
+    )
 }
 
 // The last check: "lent list or buffer too short for the whole answer".
@@ -47,8 +52,8 @@ fn is_short(head: Head, places: usize, room: usize, lost: usize) -> bool
 // `places` are the places for card records.
 pub fn fix<'a, 'b>(
     list: &'a mut [u32],
-    entries: &'b [u32; 12288],
-    makers: &'b [u32; 768],
+    entries: &'b [u32; Limits::ENTRIES],
+    makers: &'b [u32; Limits::FRAMES],
     core: Core,
     places: usize,
 ) -> Outcome
@@ -68,7 +73,7 @@ pub fn fix<'a, 'b>(
             let short = is_short(head, places, list.len(), n);
             if short {
                 Outcome {
-                    line: [0u32; 16],
+                    line: [0u32; Limits::CARDS],
                     reply: FixReply::NotFixed(Refusal::TooShort),
                 }
             } else {
@@ -80,7 +85,7 @@ pub fn fix<'a, 'b>(
             }
         }
         Reply::Refused(q) => Outcome {
-            line: [0u32; 16],
+            line: [0u32; Limits::CARDS],
             reply: FixReply::NotFixed(q),
         },
     }

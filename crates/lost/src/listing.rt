@@ -5,6 +5,7 @@ ghost use mathlib.Core.Bool.{cond};
 ghost use lib.ListN.{set};
 ghost use Rattle.merge.specs.Merge.{Rises};
 ghost use Rattle.lost.specs.Lost.{Counted, Written, numberAbove, leastEnded, endsOf, nextLost, lostBy};
+use limits::Limits;
 
 // A number above k, and 0 for another.
 fn number_above(x: u32, k: u32) -> u32
@@ -14,12 +15,12 @@ fn number_above(x: u32, k: u32) -> u32
 }
 
 // The least number above k of the changes that a loss ended with a written share untaken, and 0 where there is none.
-fn next_ended(ended: [u32; 8], k: u32) -> u32
+fn next_ended(ended: [u32; Limits::PLACES], k: u32) -> u32
     ensures { λ r. ⌜ r ≡ leastEnded ended k ⌝ }
 {
     let mut best: u32 = 0;
     let mut p: usize = 0;
-    while p < 8 {
+    while p < Limits::PLACES {
         let v = number_above(ended[p], k);
         let b = merge::lesser(best, v);
         best = b;
@@ -36,12 +37,12 @@ fn end_of(there: bool, reached: u32) -> u32
 }
 
 // The last state of each card.
-fn ends_of(reached: [u32; 16], cards: u32) -> [u32; 16]
+fn ends_of(reached: [u32; Limits::CARDS], cards: u32) -> [u32; Limits::CARDS]
     ensures { λ r. ⌜ r ≡ endsOf reached cards ⌝ }
 {
-    let mut out = [0u32; 16];
+    let mut out = [0u32; Limits::CARDS];
     let mut c: usize = 0;
-    while c < 16 {
+    while c < Limits::CARDS {
         let x = end_of(c < cards as usize, reached[c]);
         out[c] = x;
         c += 1;
@@ -50,7 +51,7 @@ fn ends_of(reached: [u32; 16], cards: u32) -> [u32; 16]
 }
 
 // The number of the change lost that comes next, where those up to k are met, and 0 where there is none.
-fn next_lost(heads: [u32; 16], ended: [u32; 8], k: u32) -> u32
+fn next_lost(heads: [u32; Limits::CARDS], ended: [u32; Limits::PLACES], k: u32) -> u32
     ensures { λ r. ⌜ r ≡ nextLost heads ended k ⌝ }
 {
     let head = merge::least(heads);
@@ -60,10 +61,10 @@ fn next_lost(heads: [u32; 16], ended: [u32; 8], k: u32) -> u32
 
 // How many changes are lost.
 pub fn count_lost(
-    makers: &[u32; 768],
-    line: [u32; 16],
-    reached: [u32; 16],
-    ended: [u32; 8],
+    makers: &[u32; Limits::FRAMES],
+    line: [u32; Limits::CARDS],
+    reached: [u32; Limits::CARDS],
+    ended: [u32; Limits::PLACES],
     cards: u32,
 ) -> usize
     ensures { λ r. ⌜ (Rises (now (makers .entry)) line (endsOf reached cards) → Counted (lostBy (now (makers .entry)) line reached ended cards) r) ⌝ }
@@ -99,10 +100,10 @@ fn put(list: &mut [u32], n: usize, x: u32)
 // The numbers of the changes lost, in rising order; places beyond them keep what they held.
 pub fn write_lost<'a, 'b>(
     list: &'a mut [u32],
-    makers: &'b [u32; 768],
-    line: [u32; 16],
-    reached: [u32; 16],
-    ended: [u32; 8],
+    makers: &'b [u32; Limits::FRAMES],
+    line: [u32; Limits::CARDS],
+    reached: [u32; Limits::CARDS],
+    ended: [u32; Limits::PLACES],
     cards: u32,
 )
     ensures { λ r. ⌜ (Rises (now (makers .entry)) line (endsOf reached cards) → Written (lostBy (now (makers .entry)) line reached ended cards) (now (list .entry)) (now (list .exit))) ⌝ }

@@ -1,11 +1,12 @@
 -- One merge over the cards' frames: the least change number ahead, and the cards brought past it.
--- Frames stand in a ring, state x of card c at place c * 48 + x % 48. Of each card `passed` is the last state met and `end` its last state.
+-- Frames stand in a ring, state x of card c at place c * mostInHand + x % mostInHand. Of each card `passed` is the last state met and `end` its last state.
 use Prim.Native.Nat.{ℕ, zero, suc, _+_, _*_, _-_, _%_, _≤_, _<_}
 use mathlib.Core.Path.{_≡_}
 use mathlib.Core.Bool.{Bool, true, false, _&&_, cond}
 use mathlib.Core.List.{List}
 use lib.Dec.{eqb, ltb}
 use lib.ListN.{getD}
+use Rattle.limits.specs.Document.{mostCards, mostInHand}
 use Rattle.laws.specs.Below.{anyBelow, tabulate}
 
 -- the number that a list holds for card c
@@ -14,7 +15,7 @@ at l c = getD l c 0
 
 -- the change that made state x of card c
 abbrev pub maker : List ℕ → ℕ → ℕ → ℕ
-maker makers c x = getD makers (c * 48 + x % 48) 0
+maker makers c x = getD makers (c * mostInHand + x % mostInHand) 0
 
 -- the lesser of two numbers of which 0 is none
 abbrev pub lesser : ℕ → ℕ → ℕ
@@ -31,11 +32,11 @@ headNumber f passed end = cond (ltb passed end) (f (suc passed)) 0
 
 -- those of all cards
 abbrev pub headNumbers : (makers passed ends : List ℕ) → List ℕ
-headNumbers makers passed ends = tabulate 16 (λ c. headNumber (maker makers c) (at passed c) (at ends c))
+headNumbers makers passed ends = tabulate mostCards (λ c. headNumber (maker makers c) (at passed c) (at ends c))
 
 -- the least of the cards' numbers, and 0 where there is none
 abbrev pub leastOf : (heads : List ℕ) → ℕ
-leastOf heads = leastBelow 16 (at heads)
+leastOf heads = leastBelow mostCards (at heads)
 
 -- the card brought past k: by one state where k is the number at its head
 abbrev pub cardPast : (passed end head k : ℕ) → ℕ
@@ -43,7 +44,7 @@ cardPast passed end head k = cond (ltb passed end && eqb head k) (suc passed) pa
 
 -- each card brought past k
 abbrev pub allPast : (passed ends heads : List ℕ) → ℕ → List ℕ
-allPast passed ends heads k = tabulate 16 (λ c. cardPast (at passed c) (at ends c) (at heads c) k)
+allPast passed ends heads k = tabulate mostCards (λ c. cardPast (at passed c) (at ends c) (at heads c) k)
 
 -- ---- of what the laws speak
 
@@ -54,7 +55,7 @@ pub record CardRises (f : ℕ → ℕ) (from end : ℕ) : Type 0 where
 
 -- those of every card do
 pub record Rises (makers from ends : List ℕ) : Type 0 where
-  pub card : (c : ℕ) → c < 16 → CardRises (maker makers c) (at from c) (at ends c)
+  pub card : (c : ℕ) → c < mostCards → CardRises (maker makers c) (at from c) (at ends c)
 
 -- a state of the card behind `from`, up to its end, has the number k
 abbrev pub cardAhead : (ℕ → ℕ) → ℕ → ℕ → ℕ → Bool
@@ -62,7 +63,7 @@ cardAhead f from end k = anyBelow (end - from) (λ s. eqb (f (suc (from + s))) k
 
 -- a state of some card has
 abbrev pub ahead : (makers from ends : List ℕ) → ℕ → Bool
-ahead makers from ends k = anyBelow 16 (λ c. cardAhead (maker makers c) (at from c) (at ends c) k)
+ahead makers from ends k = anyBelow mostCards (λ c. cardAhead (maker makers c) (at from c) (at ends c) k)
 
 -- r is the least number above k that passes the test, and 0 where there is none
 pub record NextOf (p : ℕ → Bool) (k r : ℕ) : Type 0 where
@@ -79,4 +80,4 @@ pub record CardPassed (f : ℕ → ℕ) (from end passed k : ℕ) : Type 0 where
 
 -- every card has
 pub record Passed (makers from ends passed : List ℕ) (k : ℕ) : Type 0 where
-  pub card : (c : ℕ) → c < 16 → CardPassed (maker makers c) (at from c) (at ends c) (at passed c) k
+  pub card : (c : ℕ) → c < mostCards → CardPassed (maker makers c) (at from c) (at ends c) (at passed c) k

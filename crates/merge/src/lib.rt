@@ -2,6 +2,7 @@
 ghost use Prim.Native.Nat.{ℕ, _<_};
 ghost use mathlib.Core.Path.{_≡_};
 ghost use Rattle.merge.specs.Merge.{lesser, maker, headNumber, headNumbers, leastOf, cardPast, allPast};
+use limits::Limits;
 
 // The lesser of two numbers of which 0 is none.
 pub fn lesser(a: u32, b: u32) -> u32
@@ -15,25 +16,29 @@ pub fn lesser(a: u32, b: u32) -> u32
 }
 
 // The change number of the next state of card c, and 0 where its end is passed.
-fn head_number(makers: &[u32; 768], c: usize, passed: u32, end: u32) -> u32
+fn head_number(makers: &[u32; Limits::FRAMES], c: usize, passed: u32, end: u32) -> u32
     requires { ⌜ c < 16 ⌝ }
     ensures { λ r. ⌜ r ≡ headNumber (maker (now (makers .entry)) c) passed end ⌝ }
 {
     if passed < end {
         let x = passed + 1;
-        makers[c * 48 + (x % 48) as usize]
+        makers[c * Limits::IN_HAND + (x % Limits::IN_HAND_U32) as usize]
     } else {
         0
     }
 }
 
 // The number at the head of each card, and 0 where its end is passed.
-pub fn heads(makers: &[u32; 768], passed: [u32; 16], ends: [u32; 16]) -> [u32; 16]
+pub fn heads(
+    makers: &[u32; Limits::FRAMES],
+    passed: [u32; Limits::CARDS],
+    ends: [u32; Limits::CARDS],
+) -> [u32; Limits::CARDS]
     ensures { λ r. ⌜ r ≡ headNumbers (now (makers .entry)) passed ends ⌝ }
 {
-    let mut out = [0u32; 16];
+    let mut out = [0u32; Limits::CARDS];
     let mut c: usize = 0;
-    while c < 16 {
+    while c < Limits::CARDS {
         let x = head_number(makers, c, passed[c], ends[c]);
         out[c] = x;
         c += 1;
@@ -42,12 +47,12 @@ pub fn heads(makers: &[u32; 768], passed: [u32; 16], ends: [u32; 16]) -> [u32; 1
 }
 
 // The least of the cards' numbers, and 0 where there is none.
-pub fn least(heads: [u32; 16]) -> u32
+pub fn least(heads: [u32; Limits::CARDS]) -> u32
     ensures { λ r. ⌜ r ≡ leastOf heads ⌝ }
 {
     let mut best: u32 = 0;
     let mut c: usize = 0;
-    while c < 16 {
+    while c < Limits::CARDS {
         let b = lesser(best, heads[c]);
         best = b;
         c += 1;
@@ -67,12 +72,17 @@ fn card_past(passed: u32, end: u32, head: u32, k: u32) -> u32
 }
 
 // Each card brought past the number k, by the numbers at their heads.
-pub fn past(passed: [u32; 16], ends: [u32; 16], heads: [u32; 16], k: u32) -> [u32; 16]
+pub fn past(
+    passed: [u32; Limits::CARDS],
+    ends: [u32; Limits::CARDS],
+    heads: [u32; Limits::CARDS],
+    k: u32,
+) -> [u32; Limits::CARDS]
     ensures { λ r. ⌜ r ≡ allPast passed ends heads k ⌝ }
 {
-    let mut out = [0u32; 16];
+    let mut out = [0u32; Limits::CARDS];
     let mut c: usize = 0;
-    while c < 16 {
+    while c < Limits::CARDS {
         let x = card_past(passed[c], ends[c], heads[c], k);
         out[c] = x;
         c += 1;

@@ -3,6 +3,7 @@ ghost use mathlib.Core.Path.{_≡_};
 ghost use mathlib.Core.Bool.{cond};
 ghost use Rattle.protocol.specs.Sound.{sessionSound, cardsSound, numbersSound, entriesSound, roomToWrite};
 ghost use Rattle.verdicts.specs.Shape.{limits16, at, presentOf, numbersOf, headModel};
+use limits::Limits;
 use verdicts::Head;
 use verdicts::is_rolling;
 
@@ -12,38 +13,42 @@ pub fn session_sound(head: Head) -> bool
 {
     let phase = head.phase;
     let rolling = is_rolling(phase);
-    (head.session != 0) & !(rolling & (head.session == 4294967295))
+    (head.session != 0) & !(rolling & (head.session == Limits::GREATEST_NUMBER))
 }
 
 // "a number of cards .. outside the limits"
 pub fn cards_sound(head: Head) -> bool
     ensures { λ r. ⌜ r ≡ cardsSound limits16 (headModel head) ⌝ }
 {
-    (1 <= head.cards) & (head.cards <= 16)
+    (1 <= head.cards) & (head.cards <= Limits::CARDS_U32)
 }
 
 // "a .. state number .. outside the limits"
 pub fn numbers_sound(base: u32, stored: u32, held: u32, reached: u32) -> bool
     ensures { λ r. ⌜ r ≡ numbersSound limits16 (numbersOf base stored held reached) 0 ⌝ }
 {
-    let hand = (reached as u64) <= (base as u64) + 48;
-    (base <= stored) & (stored <= held) & (held <= reached) & hand & (reached <= 60000)
+    let hand = (reached as u64) <= (base as u64) + Limits::IN_HAND_U64;
+    (base <= stored)
+        & (stored <= held)
+        & (held <= reached)
+        & hand
+        & (reached <= Limits::GREATEST_STATE)
 }
 
 // The greatest dependency that an entry may hold: none for an absent card.
 pub fn top(there: bool) -> u32
     ensures { λ r. ⌜ r ≡ cond there (limits16 .greatestState) 0 ⌝ }
 {
-    if there { 60000 } else { 0 }
+    if there { Limits::GREATEST_STATE } else { 0 }
 }
 
 // "an entry outside the limits .., an entry of an absent card that isn't none": a vector of a cabinet of so many cards.
-pub fn entries_sound(v: [u32; 16], cards: usize) -> bool
+pub fn entries_sound(v: [u32; Limits::CARDS], cards: usize) -> bool
     ensures { λ r. ⌜ r ≡ entriesSound limits16 (presentOf cards) (at v) ⌝ }
 {
     let mut ok = true;
     let mut j: usize = 0;
-    while j < 16 {
+    while j < Limits::CARDS {
         ok = ok & (v[j] <= top(j < cards));
         j += 1;
     }
@@ -54,5 +59,5 @@ pub fn entries_sound(v: [u32; 16], cards: usize) -> bool
 pub fn room(base: u32, reached: u32) -> bool
     ensures { λ r. ⌜ r ≡ roomToWrite limits16 (numbersOf base 0 0 reached) 0 ⌝ }
 {
-    ((reached as u64) < (base as u64) + 48) & (reached < 60000)
+    ((reached as u64) < (base as u64) + Limits::IN_HAND_U64) & (reached < Limits::GREATEST_STATE)
 }

@@ -11,18 +11,19 @@ ghost use Rattle.protocol.specs.Edit.{remembered};
 ghost use Rattle.protocol.specs.Model.{freePlace};
 ghost use Rattle.verdicts.specs.Shape.{limits16, at, ringPlace, listOf, vectorFor, openAt, placeFor};
 ghost use Rattle.parts.specs.Opening.{openAnswer};
+use limits::Limits;
 use verdicts::OpenReply;
 use verdicts::Place;
 use verdicts::Reply;
 use verdicts::Vector;
 
 // The vector of a frame, at its place in the ring.
-fn put_frame(entries: &mut [u32; 12288], from: usize, v: [u32; 16])
+fn put_frame(entries: &mut [u32; Limits::ENTRIES], from: usize, v: [u32; Limits::CARDS])
     requires { ⌜ from + 16 ≤ 12288 ⌝ }
     ensures { λ r. ⌜ now (entries .exit) ≡ sets (now (entries .entry)) from (listOf (at v)) ⌝ }
 {
     let mut j: usize = 0;
-    while j < 16 {
+    while j < Limits::CARDS {
         entries[from + j] = v[j];
         j += 1;
     }
@@ -48,21 +49,21 @@ pub fn raised(pending: Vector, v: Vector) -> Vector
 }
 
 // The vector of state x of card c, at its place in the ring.
-pub fn put_vector(entries: &mut [u32; 12288], c: usize, x: u32, v: Vector)
+pub fn put_vector(entries: &mut [u32; Limits::ENTRIES], c: usize, x: u32, v: Vector)
     requires { ⌜ c < 16 ⌝ }
     ensures { λ r. ⌜ now (entries .exit) ≡ sets (now (entries .entry)) (ringPlace c x * 16) (listOf (at (v .entries))) ⌝ }
 {
-    let place = c * 48 + (x % 48) as usize;
+    let place = c * Limits::IN_HAND + (x % Limits::IN_HAND_U32) as usize;
     let w = v.entries;
-    put_frame(entries, place * 16, w);
+    put_frame(entries, place * Limits::CARDS, w);
 }
 
 // The change that made state x of card c, at its place in the ring.
-pub fn put_maker(makers: &mut [u32; 768], c: usize, x: u32, maker: u32)
+pub fn put_maker(makers: &mut [u32; Limits::FRAMES], c: usize, x: u32, maker: u32)
     requires { ⌜ c < 16 ⌝ }
     ensures { λ r. ⌜ now (makers .exit) ≡ set (now (makers .entry)) (ringPlace c x) maker ⌝ }
 {
-    let place = c * 48 + (x % 48) as usize;
+    let place = c * Limits::IN_HAND + (x % Limits::IN_HAND_U32) as usize;
     makers[place] = maker;
 }
 
@@ -74,12 +75,16 @@ fn pick(first: bool, a: u32, b: u32) -> u32
 }
 
 // The held numbers of a set of cards fall to stored.
-pub fn fallen(held: [u32; 16], stored: [u32; 16], cards: u16) -> [u32; 16]
+pub fn fallen(
+    held: [u32; Limits::CARDS],
+    stored: [u32; Limits::CARDS],
+    cards: u16,
+) -> [u32; Limits::CARDS]
     ensures { λ r. ⌜ r ≡ listOf (λ c. cond (member cards c) (at stored c) (at held c)) ⌝ }
 {
-    let mut out = [0u32; 16];
+    let mut out = [0u32; Limits::CARDS];
     let mut c: usize = 0;
-    while c < 16 {
+    while c < Limits::CARDS {
         let lost = bits::has(cards, c as u32);
         out[c] = pick(lost, stored[c], held[c]);
         c += 1;
@@ -88,20 +93,20 @@ pub fn fallen(held: [u32; 16], stored: [u32; 16], cards: u16) -> [u32; 16]
 }
 
 // Eight free places.
-pub fn no_places() -> [Place; 8]
+pub fn no_places() -> [Place; Limits::PLACES]
     ensures { λ r. ⌜ r ≡ tabulate (limits16 .places) (λ p. placeFor freePlace) ⌝ }
 {
     let free = verdicts::free_place();
-    [free; 8]
+    [free; Limits::PLACES]
 }
 
 // By place, the number that a change is remembered by when a loss ends it.
-pub fn ended_numbers(places: [Place; 8]) -> [u32; 8]
+pub fn ended_numbers(places: [Place; Limits::PLACES]) -> [u32; Limits::PLACES]
     ensures { λ r. ⌜ r ≡ tabulate (limits16 .places) (λ p. remembered limits16 (openAt places p)) ⌝ }
 {
-    let mut out = [0u32; 8];
+    let mut out = [0u32; Limits::PLACES];
     let mut p: usize = 0;
-    while p < 8 {
+    while p < Limits::PLACES {
         let o = places[p];
         let k = places::remembered_number(o);
         out[p] = k;

@@ -11,13 +11,14 @@ ghost use Rattle.protocol.specs.Model.{isOpen, decided, closed, toWrite, awaits
 ghost use Rattle.protocol.specs.Edit.{remembered};
 ghost use Rattle.protocol.specs.Calls.{bars, tookShare, openedChange};
 ghost use Rattle.verdicts.specs.Shape.{limits16, at, listOf, setOf, openOf, openAt, placeFor};
+use limits::Limits;
 use verdicts::Place;
 
 // The change in place p; a free place where there is no place p.
-pub fn place_at(places: [Place; 8], p: usize) -> Place
+pub fn place_at(places: [Place; Limits::PLACES], p: usize) -> Place
     ensures { λ r. ⌜ openOf r ≡ openAt places p ⌝ }
 {
-    if p < 8 {
+    if p < Limits::PLACES {
         places[p]
     } else {
         verdicts::free_place()
@@ -25,11 +26,11 @@ pub fn place_at(places: [Place; 8], p: usize) -> Place
 }
 
 // The first place whose open change has that number, and 8 where there is none.
-pub fn place_of(places: [Place; 8], k: u32) -> usize
+pub fn place_of(places: [Place; Limits::PLACES], k: u32) -> usize
     ensures { λ r. ⌜ r ≡ firstBelow (limits16 .places) (λ p. isOpen (openAt places p) && eqb (openAt places p .change .number) k) ⌝ }
 {
     let mut p: usize = 0;
-    while p < 8 {
+    while p < Limits::PLACES {
         let o = places[p];
         if (o.number != 0) & (o.number == k) {
             return p;
@@ -40,11 +41,11 @@ pub fn place_of(places: [Place; 8], k: u32) -> usize
 }
 
 // The first free place, and 8 where there is none.
-pub fn free_at(places: [Place; 8]) -> usize
+pub fn free_at(places: [Place; Limits::PLACES]) -> usize
     ensures { λ r. ⌜ r ≡ firstBelow (limits16 .places) (λ p. not (isOpen (openAt places p))) ⌝ }
 {
     let mut p: usize = 0;
-    while p < 8 {
+    while p < Limits::PLACES {
         let o = places[p];
         if !(o.number != 0) {
             return p;

@@ -5,14 +5,7 @@ use lib.Dec.{eqb, ltb}
 use Rattle.laws.specs.Below.{allBelow, anyBelow, firstBelow}
 use Rattle.history.specs.Change.{CardSet, Change, Numbers, touches, noChange}
 use Rattle.history.specs.Vector.{Vector, noEntries, Tracked}
-
--- "the limits 16, 48, 8 and 60,000", and 4,294,967,295, the greatest session and change number
-pub record Limits : Type 0 where
-  pub width : ℕ
-  pub inHand : ℕ
-  pub places : ℕ
-  pub greatestState : ℕ
-  pub greatestNumber : ℕ
+pub use Rattle.limits.specs.Document.{Limits}
 
 pub data Phase : Type 0 where
   up down rolling : Phase

@@ -4,6 +4,7 @@ use mathlib.Core.Bool.{Bool, true, cond}
 use mathlib.Core.List.{List, []}
 use lib.Dec.{ltb, eqb}
 use lib.ListN.{length}
+use Rattle.limits.specs.Document.{lastNumber, longestInput}
 use Rattle.refusal.specs.declared.Refusal.the-variants.{TwoVectors, SessionsApart, TooLong, LimitReached}
 use Rattle.refusal.specs.declared.Verdict.{Verdict}
 use Rattle.refusal.specs.declared.Verdict.the-variants.{Accepted, Refused}
@@ -26,7 +27,7 @@ sessionsApart ps = apart (λ c. pageAt ps c .header .session) (λ c. length (pag
 -- "then 11, 24, 10"
 unfoldable pub jointVerdict : List Page → Verdict
 jointVerdict ps =
-    cond (sessionsApart ps) (Refused SessionsApart) (cond (eqb (lowestSession ps) 4294967295) (Refused LimitReached) (cond (twoVectors ps) (Refused TwoVectors) Accepted))
+    cond (sessionsApart ps) (Refused SessionsApart) (cond (eqb (lowestSession ps) lastNumber) (Refused LimitReached) (cond (twoVectors ps) (Refused TwoVectors) Accepted))
 
 -- the sheets of a read-out, and the verdict on it
 pub record PagesRead : Type 0 where
@@ -46,7 +47,7 @@ lined (Refused x) ps = judged (Refused x) ps
 -- what any bytes are as the sheets of all cards: "12 comes before any line"
 unfoldable pub pagesRead : List ℕ → PagesRead
 pagesRead input =
-    cond (ltb 65536 (length input)) (judged (Refused TooLong) []) (lined (readSheets formats true 0 input .verdict) (readSheets formats true 0 input .pages))
+    cond (ltb longestInput (length input)) (judged (Refused TooLong) []) (lined (readSheets formats true 0 input .verdict) (readSheets formats true 0 input .pages))
 
 -- sheets with their verdict as the reader gives them, by value; of no sheets that is the read-out of zeros
 abbrev pub given : PagesRead → Reading

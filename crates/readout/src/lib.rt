@@ -7,6 +7,7 @@ ghost use Rattle.sheet.specs.Ring.{pagesOf};
 ghost use Rattle.two_vectors.specs.Heads.{Orderly, listsRead};
 ghost use Rattle.readout.specs.Joint.{jointVerdict, judged, given, readoutOf};
 ghost use Rattle.readout.specs.Laid.{Laid};
+use limits::Limits;
 use refusal::Refusal;
 use refusal::Verdict;
 use sheet::Reading;
@@ -14,11 +15,11 @@ use sheet::Readout;
 
 // The verdict on the sheets beside each other.
 fn joint_verdict<'a>(
-    changes: &'a [u32; 768],
-    entries: &'a [u32; 12288],
-    sessions: [u32; 16],
-    bases: [u32; 16],
-    counts: [u32; 16],
+    changes: &'a [u32; Limits::FRAMES],
+    entries: &'a [u32; Limits::ENTRIES],
+    sessions: [u32; Limits::CARDS],
+    bases: [u32; Limits::CARDS],
+    counts: [u32; Limits::CARDS],
     n: u32,
 ) -> Verdict
     requires { ⌜ (1 ≤ n) × (n ≤ 16) × Orderly (now changes) bases counts n ⌝ }
@@ -28,7 +29,7 @@ fn joint_verdict<'a>(
     if sessions::sessions_apart(sessions, counts, low, n) {
         return Verdict::Refused(Refusal::SessionsApart);
     }
-    if low == 4294967295 {
+    if low == Limits::GREATEST_NUMBER {
         return Verdict::Refused(Refusal::LimitReached);
     }
     if two_vectors::two_vectors(changes, entries, bases, counts, n) {
@@ -42,11 +43,11 @@ fn no_readout(x: Refusal) -> Reading
     ensures { λ r. ⌜ r ≡ given (judged (Verdict.Refused x) []) ⌝ }
 {
     let readout = Readout {
-        changes: [0u32; 768],
-        entries: [0u32; 12288],
-        sessions: [0u32; 16],
-        bases: [0u32; 16],
-        counts: [0u32; 16],
+        changes: [0u32; Limits::FRAMES],
+        entries: [0u32; Limits::ENTRIES],
+        sessions: [0u32; Limits::CARDS],
+        bases: [0u32; Limits::CARDS],
+        counts: [0u32; Limits::CARDS],
         cards: 0,
     };
     Reading {
@@ -78,7 +79,7 @@ fn judged_jointly(r: Readout) -> Reading
 pub fn read_readout(s: &[u8]) -> Reading
     ensures { λ r. ⌜ r ≡ readoutOf (now (s .entry)) ⌝ }
 {
-    if 65536 < s.len() {
+    if Limits::LONGEST < s.len() {
         return no_readout(Refusal::TooLong);
     }
     let read = sheet::read_sheets(s, 0, true);

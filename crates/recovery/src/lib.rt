@@ -12,6 +12,7 @@ ghost use Rattle.protocol.specs.Model.{isCard, withCard};
 ghost use Rattle.protocol.specs.Calls.{lines, trimChecks, rollChecks, allRolled};
 ghost use Rattle.verdicts.specs.Shape.{limits16, at, listOf, setOf, vectorFor, ringFrame, headModel, bare, withNumbers, withLine, modelOf};
 ghost use Rattle.verdicts.specs.Answers.{firstFailing, after28};
+use limits::Limits;
 use refusal::Refusal;
 use replies::is_card;
 use replies::next;
@@ -29,7 +30,7 @@ pub enum FixReply {
 
 // What the core of fix hands back.
 pub struct Outcome {
-    pub line: [u32; 16],
+    pub line: [u32; Limits::CARDS],
     pub reply: FixReply,
 }
 
@@ -41,13 +42,13 @@ fn hits(entry: u32, stored: u32) -> bool
 }
 
 // "A state is hit when some entry of its vector, for card j, is at or above stored of j": the vector that begins at a place of the ring.
-fn orphan_from(entries: &[u32; 12288], stored: [u32; 16], from: usize) -> bool
+fn orphan_from(entries: &[u32; Limits::ENTRIES], stored: [u32; Limits::CARDS], from: usize) -> bool
     requires { ⌜ from + 16 ≤ 12288 ⌝ }
     ensures { λ r. ⌜ r ≡ orphan (limits16 .width) (at stored) (λ j. at (now (entries .entry)) (from + j)) ⌝ }
 {
     let mut hit = false;
     let mut j: usize = 0;
-    while j < 16 {
+    while j < Limits::CARDS {
         hit = hit | hits(entries[from + j], stored[j]);
         j += 1;
     }
@@ -55,16 +56,27 @@ fn orphan_from(entries: &[u32; 12288], stored: [u32; 16], from: usize) -> bool
 }
 
 // State x of the card is an orphan.
-fn is_orphan(entries: &[u32; 12288], stored: [u32; 16], card: usize, x: u32) -> bool
+fn is_orphan(
+    entries: &[u32; Limits::ENTRIES],
+    stored: [u32; Limits::CARDS],
+    card: usize,
+    x: u32,
+) -> bool
     requires { ⌜ card < 16 ⌝ }
     ensures { λ r. ⌜ r ≡ orphan (limits16 .width) (at stored) (ringFrame (now (entries .entry)) card x) ⌝ }
 {
-    let place = card * 48 + (x % 48) as usize;
-    orphan_from(entries, stored, place * 16)
+    let place = card * Limits::IN_HAND + (x % Limits::IN_HAND_U32) as usize;
+    orphan_from(entries, stored, place * Limits::CARDS)
 }
 
 // "The line of a card is its greatest state, from base to reached, with no hit from base + 1 up to it."
-fn climbed(entries: &[u32; 12288], stored: [u32; 16], card: usize, base: u32, reached: u32) -> u32
+fn climbed(
+    entries: &[u32; Limits::ENTRIES],
+    stored: [u32; Limits::CARDS],
+    card: usize,
+    base: u32,
+    reached: u32,
+) -> u32
     requires { ⌜ card < 16 ⌝ }
     ensures { λ r. ⌜ r ≡ lineFrom (limits16 .width) (at stored) (ringFrame (now (entries .entry)) card) base reached ⌝ }
 {
@@ -81,16 +93,16 @@ fn climbed(entries: &[u32; 12288], stored: [u32; 16], card: usize, base: u32, re
 
 // The line of a card whose numbers are base and reached; of a card that is not there, its base.
 pub fn line_of(
-    entries: &[u32; 12288],
+    entries: &[u32; Limits::ENTRIES],
     head: Head,
-    stored: [u32; 16],
+    stored: [u32; Limits::CARDS],
     card: u32,
     base: u32,
     reached: u32,
 ) -> u32
     ensures { λ r. ⌜ r ≡ cond (isCard limits16 (headModel head) card) (lineFrom (limits16 .width) (at stored) (ringFrame (now (entries .entry)) card) base reached) base ⌝ }
 {
-    if (card < 16) & (card < head.cards) {
+    if (card < Limits::CARDS_U32) & (card < head.cards) {
         climbed(entries, stored, card as usize, base, reached)
     } else {
         base
@@ -99,17 +111,17 @@ pub fn line_of(
 
 // The line of each card; of a card that is not there, its base.
 pub fn lines(
-    entries: &[u32; 12288],
+    entries: &[u32; Limits::ENTRIES],
     head: Head,
-    base: [u32; 16],
-    stored: [u32; 16],
-    reached: [u32; 16],
-) -> [u32; 16]
+    base: [u32; Limits::CARDS],
+    stored: [u32; Limits::CARDS],
+    reached: [u32; Limits::CARDS],
+) -> [u32; Limits::CARDS]
     ensures { λ r. ⌜ r ≡ listOf (lines limits16 (modelOf (now (entries .entry)) [] (withNumbers (bare head) base stored [] reached))) ⌝ }
 {
-    let mut out = [0u32; 16];
+    let mut out = [0u32; Limits::CARDS];
     let mut c: usize = 0;
-    while c < 16 {
+    while c < Limits::CARDS {
         let x = line_of(entries, head, stored, c as u32, base[c], reached[c]);
         out[c] = x;
         c += 1;
@@ -159,11 +171,11 @@ pub fn is_last(head: Head, rolled: u16, card: u32) -> bool
 }
 
 // "all entries are none"
-pub fn no_vectors() -> [Vector; 16]
+pub fn no_vectors() -> [Vector; Limits::CARDS]
     ensures { λ r. ⌜ r ≡ tabulate (limits16 .width) (λ c. vectorFor noEntries) ⌝ }
 {
     let none = Vector {
-        entries: [0u32; 16],
+        entries: [0u32; Limits::CARDS],
     };
-    [none; 16]
+    [none; Limits::CARDS]
 }

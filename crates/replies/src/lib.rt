@@ -7,6 +7,7 @@ ghost use Rattle.protocol.specs.Model.{isCard};
 ghost use Rattle.protocol.specs.Calls.{storeChecks, takeChecks, loseChecks};
 ghost use Rattle.verdicts.specs.Shape.{limits16, headModel, numbersModel, placesModel};
 ghost use Rattle.verdicts.specs.Answers.{next, firstFailing, after28};
+use limits::Limits;
 use refusal::Refusal;
 use verdicts::Head;
 use verdicts::Place;
@@ -34,15 +35,15 @@ pub fn next(earlier: Reply, fails: bool, r: Refusal) -> Reply
 pub fn is_card(head: Head, c: u32) -> bool
     ensures { λ r. ⌜ r ≡ isCard limits16 (headModel head) c ⌝ }
 {
-    (c < 16) & (c < head.cards)
+    (c < Limits::CARDS_U32) & (c < head.cards)
 }
 
 // 5. store
 pub fn store_reply(
     sound: bool,
     head: Head,
-    stored: [u32; 16],
-    held: [u32; 16],
+    stored: [u32; Limits::CARDS],
+    held: [u32; Limits::CARDS],
     card: u32,
     state: u32,
 ) -> Reply
@@ -64,7 +65,7 @@ pub fn store_reply(
 }
 
 // 3. take
-pub fn take_reply(sound: bool, head: Head, all: [Place; 8], k: u32, card: u32) -> Reply
+pub fn take_reply(sound: bool, head: Head, all: [Place; Limits::PLACES], k: u32, card: u32) -> Reply
     ensures { λ r. ⌜ r ≡ firstFailing (after28 (not sound) (takeChecks limits16 (placesModel head all [] []) k card)) ⌝ }
 {
     let there = is_card(head, card);
@@ -77,7 +78,7 @@ pub fn take_reply(sound: bool, head: Head, all: [Place; 8], k: u32, card: u32) -
     let r = next(Reply::Done, !sound, Refusal::BadCabinet);
     let r = next(r, !there, Refusal::NoSuchCard);
     let r = next(r, !up, Refusal::WrongPhase);
-    let r = next(r, !(p < 8), Refusal::NotAwaited);
+    let r = next(r, !(p < Limits::PLACES), Refusal::NotAwaited);
     let r = next(r, !made, Refusal::NotDecided);
     next(r, !due, Refusal::NotAwaited)
 }

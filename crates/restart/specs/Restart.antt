@@ -3,6 +3,7 @@ use Prim.Native.Nat.{ℕ, _+_, _*_, _≤_, _<_}
 use mathlib.Core.Path.{_≡_}
 use mathlib.Core.Bool.{true, false}
 use mathlib.Core.List.{List}
+use Rattle.limits.specs.Document.{mostCards, lastState}
 use Rattle.laws.specs.Below.{tabulate}
 use Rattle.frame.specs.Format.{formats}
 use Rattle.refusal.specs.declared.Verdict.{Verdict}
@@ -61,12 +62,12 @@ pub record Restarted (bytes : List ℕ) (reply : Reply) (next : Cabinet) : Type 
 -- what an accepted read-out shows of its numbers: within the limits, and 0 of cards that are not there
 pub record Within (r : Readout) : Type 0 where
   pub some : 1 ≤ r .cards
-  pub few : r .cards ≤ 16
-  pub states : (c : ℕ) → c < 16 → at (r .bases) c + at (r .counts) c ≤ 60000
+  pub few : r .cards ≤ mostCards
+  pub states : (c : ℕ) → c < mostCards → at (r .bases) c + at (r .counts) c ≤ lastState
   pub no-session : (c : ℕ) → r .cards ≤ c → at (r .sessions) c ≡ 0
   pub no-base : (c : ℕ) → r .cards ≤ c → at (r .bases) c ≡ 0
   pub no-count : (c : ℕ) → r .cards ≤ c → at (r .counts) c ≡ 0
-  pub no-entry : (c x j : ℕ) → c < r .cards → at (r .bases) c < x → x ≤ at (r .bases) c + at (r .counts) c → r .cards ≤ j → j < 16 → at (r .entries) (placeOf c x * 16 + j) ≡ 0
+  pub no-entry : (c x j : ℕ) → c < r .cards → at (r .bases) c < x → x ≤ at (r .bases) c + at (r .counts) c → r .cards ≤ j → j < mostCards → at (r .entries) (placeOf c x * mostCards + j) ≡ 0
 
 -- The cabinet behind an accepted restart shows the model that the demands speak of, is never refused with 28, and writes the very bytes that it restarted from.
 pub record GoesOn (bytes : List ℕ) (next : Cabinet) : Type 0 where

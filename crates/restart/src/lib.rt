@@ -12,6 +12,7 @@ ghost use Rattle.verdicts.specs.Answers.{replyOf};
 ghost use Rattle.restart.specs.Restart.{Within, restartedCabinet, Restarted};
 use cabinet::Answer;
 use cabinet::Cabinet;
+use limits::Limits;
 use refusal::Verdict;
 use sheet::Readout;
 use verdicts::Phase;
@@ -19,13 +20,13 @@ use verdicts::Reply;
 use verdicts::Vector;
 
 // The state that each card has stored: base plus the count of its frames.
-fn stored_numbers(bases: [u32; 16], counts: [u32; 16]) -> [u32; 16]
+fn stored_numbers(bases: [u32; Limits::CARDS], counts: [u32; Limits::CARDS]) -> [u32; Limits::CARDS]
     requires { ⌜ ((c : ℕ) → c < 16 → at bases c + at counts c ≤ 60000) ⌝ }
     ensures { λ r. ⌜ r ≡ listOf (λ c. at bases c + at counts c) ⌝ }
 {
-    let mut out = [0u32; 16];
+    let mut out = [0u32; Limits::CARDS];
     let mut c: usize = 0;
-    while c < 16 {
+    while c < Limits::CARDS {
         out[c] = bases[c] + counts[c];
         c += 1;
     }
@@ -33,22 +34,22 @@ fn stored_numbers(bases: [u32; 16], counts: [u32; 16]) -> [u32; 16]
 }
 
 // The vector of state x of a card.
-fn vector_of(entries: &[u32; 12288], card: usize, x: u32) -> [u32; 16]
+fn vector_of(entries: &[u32; Limits::ENTRIES], card: usize, x: u32) -> [u32; Limits::CARDS]
     requires { ⌜ card < 16 ⌝ }
     ensures { λ r. ⌜ r ≡ listOf (ringFrame (now (entries .entry)) card x) ⌝ }
 {
-    let place = card * 48 + (x % 48) as usize;
-    let mut out = [0u32; 16];
+    let place = card * Limits::IN_HAND + (x % Limits::IN_HAND_U32) as usize;
+    let mut out = [0u32; Limits::CARDS];
     let mut j: usize = 0;
-    while j < 16 {
-        out[j] = entries[place * 16 + j];
+    while j < Limits::CARDS {
+        out[j] = entries[place * Limits::CARDS + j];
         j += 1;
     }
     out
 }
 
 // "last and pending are those of the card's last frame or all none"
-fn last_vector(entries: &[u32; 12288], card: usize, base: u32, stored: u32) -> Vector
+fn last_vector(entries: &[u32; Limits::ENTRIES], card: usize, base: u32, stored: u32) -> Vector
     requires { ⌜ card < 16 ⌝ }
     ensures { λ r. ⌜ r ≡ vectorFor (cond (ltb base stored) (ringFrame (now (entries .entry)) card stored) noEntries) ⌝ }
 {
@@ -57,21 +58,25 @@ fn last_vector(entries: &[u32; 12288], card: usize, base: u32, stored: u32) -> V
         Vector { entries: v }
     } else {
         Vector {
-            entries: [0u32; 16],
+            entries: [0u32; Limits::CARDS],
         }
     }
 }
 
 // The vector of each card's last frame.
-fn last_vectors(entries: &[u32; 12288], base: [u32; 16], stored: [u32; 16]) -> [Vector; 16]
+fn last_vectors(
+    entries: &[u32; Limits::ENTRIES],
+    base: [u32; Limits::CARDS],
+    stored: [u32; Limits::CARDS],
+) -> [Vector; Limits::CARDS]
     ensures { λ r. ⌜ r ≡ tabulate (limits16 .width) (λ c. vectorFor (cond (ltb (at base c) (at stored c)) (ringFrame (now (entries .entry)) c (at stored c)) noEntries)) ⌝ }
 {
     let none = Vector {
-        entries: [0u32; 16],
+        entries: [0u32; Limits::CARDS],
     };
-    let mut out = [none; 16];
+    let mut out = [none; Limits::CARDS];
     let mut c: usize = 0;
-    while c < 16 {
+    while c < Limits::CARDS {
         let v = last_vector(entries, c, base[c], stored[c]);
         out[c] = v;
         c += 1;
@@ -87,12 +92,12 @@ fn with_if(set: u16, ahead: bool, card: u32) -> u16
 }
 
 // "cards one session ahead count as rolled"
-fn rolled_cards(sessions: [u32; 16], low: u32) -> u16
+fn rolled_cards(sessions: [u32; Limits::CARDS], low: u32) -> u16
     ensures { λ r. ⌜ r ≡ setOf (λ c. ltb low (at sessions c)) ⌝ }
 {
     let mut rolled: u16 = 0;
     let mut c: u32 = 0;
-    while c < 16 {
+    while c < Limits::CARDS {
         let s = sessions[c as usize];
         let more = with_if(rolled, low < s, c);
         rolled = more;

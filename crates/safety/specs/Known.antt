@@ -2,6 +2,7 @@
 use Prim.Native.Nat.{ℕ, _≤_, _<_}
 use mathlib.Core.Bool.{Bool, cond}
 use mathlib.Core.List.{List}
+use Rattle.limits.specs.Document.{mostCards, lastState}
 use Rattle.protocol.specs.Plan.{Reply, accepted, refused, safe, unsafe}
 use Rattle.verdicts.specs.declared.Reply as verdict
 use Rattle.verdicts.specs.declared.Reply.the-variants.{Done, Refused}
@@ -9,8 +10,8 @@ use Rattle.verdicts.specs.Shape.{at}
 
 -- base ≤ stored, and reached within the limit, for the n cards that are there
 pub record InOrder (base stored reached : List ℕ) (n : ℕ) : Type 0 where
-  pub low : (c : ℕ) → c < 16 → c < n → at base c ≤ at stored c
-  pub high : (c : ℕ) → c < 16 → c < n → at reached c ≤ 60000
+  pub low : (c : ℕ) → c < mostCards → c < n → at base c ≤ at stored c
+  pub high : (c : ℕ) → c < mostCards → c < n → at reached c ≤ lastState
 
 -- the answer of safe, where its checks gave the reply r
 abbrev pub gradedOf : verdict.Reply → Bool → Reply

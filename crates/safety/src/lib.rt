@@ -10,6 +10,7 @@ ghost use Rattle.protocol.specs.Plan.{checked, accepted, safe, unsafe};
 ghost use Rattle.verdicts.specs.Shape.{limits16, at, ringMaker, bare, withPlaces, withNumbers, modelOf};
 ghost use Rattle.verdicts.specs.Answers.{safeReplyOf, after28};
 ghost use Rattle.safety.specs.Known.{InOrder, gradedOf};
+use limits::Limits;
 use refusal::Refusal;
 use replies::next;
 use verdicts::Head;
@@ -25,7 +26,7 @@ fn above(x: u32, reached: u32) -> u32
 }
 
 // Card c has a frame of change k above state x.
-fn frame_above(makers: &[u32; 768], c: usize, x: u32, reached: u32, k: u32) -> bool
+fn frame_above(makers: &[u32; Limits::FRAMES], c: usize, x: u32, reached: u32, k: u32) -> bool
     requires { ⌜ (c < 16) × (reached ≤ 60000) ⌝ }
     ensures { λ r. ⌜ r ≡ anyBelow (reached - x) (λ s. eqb (ringMaker (now (makers .entry)) c (suc (x + s))) k) ⌝ }
 {
@@ -33,7 +34,7 @@ fn frame_above(makers: &[u32; 768], c: usize, x: u32, reached: u32, k: u32) -> b
     let mut found = false;
     let mut s: u32 = 0;
     while s < n {
-        let place = c * 48 + ((x + s + 1) % 48) as usize;
+        let place = c * Limits::IN_HAND + ((x + s + 1) % Limits::IN_HAND_U32) as usize;
         found = found | (makers[place] == k);
         s += 1;
     }
@@ -41,7 +42,14 @@ fn frame_above(makers: &[u32; 768], c: usize, x: u32, reached: u32, k: u32) -> b
 }
 
 // The same of a card that is there.
-fn there_above(makers: &[u32; 768], there: bool, c: usize, x: u32, reached: u32, k: u32) -> bool
+fn there_above(
+    makers: &[u32; Limits::FRAMES],
+    there: bool,
+    c: usize,
+    x: u32,
+    reached: u32,
+    k: u32,
+) -> bool
     requires { ⌜ (c < 16) × (there ≡ true → reached ≤ 60000) ⌝ }
     ensures { λ r. ⌜ r ≡ (there && anyBelow (reached - x) (λ s. eqb (ringMaker (now (makers .entry)) c (suc (x + s))) k)) ⌝ }
 {
@@ -54,10 +62,10 @@ fn there_above(makers: &[u32; 768], there: bool, c: usize, x: u32, reached: u32,
 
 // Some card of the cabinet has a frame of change k above its number.
 fn some_above(
-    makers: &[u32; 768],
+    makers: &[u32; Limits::FRAMES],
     cards: usize,
-    numbers: [u32; 16],
-    reached: [u32; 16],
+    numbers: [u32; Limits::CARDS],
+    reached: [u32; Limits::CARDS],
     k: u32,
 ) -> bool
     requires { ⌜ ((c : ℕ) → c < 16 → c < cards → at reached c ≤ 60000) ⌝ }
@@ -65,7 +73,7 @@ fn some_above(
 {
     let mut found = false;
     let mut c: usize = 0;
-    while c < 16 {
+    while c < Limits::CARDS {
         let there = c < cards;
         found = found | there_above(makers, there, c, numbers[c], reached[c], k);
         c += 1;
@@ -96,12 +104,12 @@ fn answered(r: Reply, good: bool) -> SafeReply
 // 7. safe
 pub fn safe_reply(
     sound: bool,
-    makers: &[u32; 768],
+    makers: &[u32; Limits::FRAMES],
     head: Head,
-    all: [Place; 8],
-    base: [u32; 16],
-    stored: [u32; 16],
-    reached: [u32; 16],
+    all: [Place; Limits::PLACES],
+    base: [u32; Limits::CARDS],
+    stored: [u32; Limits::CARDS],
+    reached: [u32; Limits::CARDS],
     k: u32,
 ) -> SafeReply
     requires { ⌜ (sound ≡ true → InOrder base stored reached (head .cards)) ⌝ }
@@ -120,5 +128,5 @@ pub fn safe_reply(
     let waits = places::awaits_write(o);
     let r = next(Reply::Done, !up, Refusal::WrongPhase);
     let r = next(r, !((k != 0) & known), Refusal::NotAwaited);
-    answered(r, !left & !((p < 8) & waits))
+    answered(r, !left & !((p < Limits::PLACES) & waits))
 }

@@ -5,6 +5,7 @@ ghost use mathlib.Core.Bool.{_&&_, _||_};
 ghost use lib.ListN.{getD};
 ghost use lib.Dec.{ltb};
 ghost use Rattle.sessions.specs.Sessions.{lowestTo, apart};
+use limits::Limits;
 
 // The lesser of two numbers.
 fn least(a: u32, b: u32) -> u32
@@ -14,7 +15,7 @@ fn least(a: u32, b: u32) -> u32
 }
 
 // The lowest of the sessions from the first to number `last`.
-pub fn lowest(sessions: [u32; 16], last: u32) -> u32
+pub fn lowest(sessions: [u32; Limits::CARDS], last: u32) -> u32
     requires { ⌜ last < 16 ⌝ }
     ensures { λ r. ⌜ r ≡ lowestTo (λ i. getD sessions i 0) last ⌝ }
 {
@@ -41,7 +42,12 @@ fn ahead(session: u32, count: u32, low: u32) -> bool
 }
 
 // 11: "sessions more than one apart, or a sheet one ahead has frames".
-pub fn sessions_apart(sessions: [u32; 16], counts: [u32; 16], low: u32, n: u32) -> bool
+pub fn sessions_apart(
+    sessions: [u32; Limits::CARDS],
+    counts: [u32; Limits::CARDS],
+    low: u32,
+    n: u32,
+) -> bool
     requires { ⌜ n ≤ 16 ⌝ }
     ensures { λ r. ⌜ r ≡ apart (λ c. getD sessions c 0) (λ c. getD counts c 0) low n ⌝ }
 {

@@ -2,6 +2,7 @@
 use Prim.Native.Nat.{ℕ, suc, _+_, _*_}
 use mathlib.Core.List.{List, []}
 use lib.ListN.{getD}
+use Rattle.limits.specs.Document.{mostCards}
 use Rattle.laws.specs.Below.{tabulate}
 use Rattle.frame.specs.declared.Header.{Header}
 use Rattle.frame.specs.declared.Frame.{Frame}
@@ -13,7 +14,7 @@ use Rattle.sheet.specs.Walk.{placeOf}
 
 -- the frame of state x of card c: its change, and an entry for each of n cards
 abbrev pub ringFrame : (changes entries : List ℕ) → (n c x : ℕ) → Frame
-ringFrame changes entries n c x = record { change = getD changes (placeOf c x) 0; entries = tabulate n (λ j. getD entries (placeOf c x * 16 + j) 0) }
+ringFrame changes entries n c x = record { change = getD changes (placeOf c x) 0; entries = tabulate n (λ j. getD entries (placeOf c x * mostCards + j) 0) }
 
 -- the sheet of a header: "Frames run from base + 1 to stored."
 abbrev pub ringPage : (changes entries : List ℕ) → Header → Page

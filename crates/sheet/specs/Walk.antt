@@ -4,6 +4,7 @@ use mathlib.Core.Bool.{Bool}
 use mathlib.Core.List.{List, [], _∷_}
 use lib.ListN.{set, replicate}
 use lib.Seq.{sets}
+use Rattle.limits.specs.Document.{mostCards, mostInHand, mostFrames, mostEntries}
 use Rattle.refusal.specs.declared.Verdict.{Verdict}
 use Rattle.frame.specs.declared.Header.{Header}
 use Rattle.frame.specs.declared.Frame.{Frame}
@@ -15,17 +16,17 @@ use Rattle.sheet.specs.Pages.{Page, Sheets, readSheets}
 
 -- the place of a card's state among the frames
 abbrev pub placeOf : ℕ → ℕ → ℕ
-placeOf card state = card * 48 + state % 48
+placeOf card state = card * mostInHand + state % mostInHand
 
 -- the read-out of zeros
 abbrev pub noReadout : Readout
 noReadout =
     record {
-      changes = replicate 768 0;
-      entries = replicate 12288 0;
-      sessions = replicate 16 0;
-      bases = replicate 16 0;
-      counts = replicate 16 0;
+      changes = replicate mostFrames 0;
+      entries = replicate mostEntries 0;
+      sessions = replicate mostCards 0;
+      bases = replicate mostCards 0;
+      counts = replicate mostCards 0;
       cards = 0;
     }
 
@@ -46,7 +47,7 @@ abbrev pub layFrame : ℕ → ℕ → ℕ → Frame → Readout → Readout
 layFrame card state k fr r =
     record {
       changes = set (r .changes) (placeOf card state) (fr .change);
-      entries = sets (r .entries) (placeOf card state * 16) (padded (fr .entries));
+      entries = sets (r .entries) (placeOf card state * mostCards) (padded (fr .entries));
       sessions = r .sessions;
       bases = r .bases;
       counts = set (r .counts) card (k + 1);

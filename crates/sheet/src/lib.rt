@@ -10,17 +10,18 @@ ghost use Rattle.sheet.specs.Walk.{readingOf};
 use frame::Frame;
 use frame::FrameLine;
 use frame::HeaderLine;
+use limits::Limits;
 use refusal::Refusal;
 use refusal::Verdict;
 
 // A read-out: for each card its session, base and number of frames, and the frames of all cards. The frame of a
 // card's state stands at card * 48 + state % 48, with 16 entries for each.
 pub struct Readout {
-    pub changes: [u32; 768],
-    pub entries: [u32; 12288],
-    pub sessions: [u32; 16],
-    pub bases: [u32; 16],
-    pub counts: [u32; 16],
+    pub changes: [u32; Limits::FRAMES],
+    pub entries: [u32; Limits::ENTRIES],
+    pub sessions: [u32; Limits::CARDS],
+    pub bases: [u32; Limits::CARDS],
+    pub counts: [u32; Limits::CARDS],
     pub cards: u32,
 }
 
@@ -53,12 +54,12 @@ fn sheets_left(all: bool, first: u32, left: u32, cards: u32) -> u32
 }
 
 // Stores the entries of a frame.
-fn store_entries(to: &mut [u32; 12288], at: usize, entries: [u32; 16])
+fn store_entries(to: &mut [u32; Limits::ENTRIES], at: usize, entries: [u32; Limits::CARDS])
     requires { ⌜ at + 16 ≤ 12288 ⌝ }
     ensures { λ r. ⌜ now (to .exit) ≡ sets (now (to .entry)) at entries ⌝ }
 {
     let mut j = 0;
-    while j < 16 {
+    while j < Limits::CARDS {
         to[at + j] = entries[j];
         j += 1;
     }
@@ -70,11 +71,11 @@ pub fn read_sheets(s: &[u8], card: u32, all: bool) -> Reading
     ensures { λ r. ⌜ r ≡ readingOf all card (now (s .entry)) ⌝ }
 {
     let mut r = Readout {
-        changes: [0u32; 768],
-        entries: [0u32; 12288],
-        sessions: [0u32; 16],
-        bases: [0u32; 16],
-        counts: [0u32; 16],
+        changes: [0u32; Limits::FRAMES],
+        entries: [0u32; Limits::ENTRIES],
+        sessions: [0u32; Limits::CARDS],
+        bases: [0u32; Limits::CARDS],
+        counts: [0u32; Limits::CARDS],
         cards: 0,
     };
     let mut at: usize = 0;
@@ -103,7 +104,7 @@ pub fn read_sheets(s: &[u8], card: u32, all: bool) -> Reading
         at += width + 16 + 5;
         let mut last = Frame {
             change: 0,
-            entries: [0u32; 16],
+            entries: [0u32; Limits::CARDS],
         };
         let mut k: u32 = 0;
         while k < count {
@@ -115,10 +116,10 @@ pub fn read_sheets(s: &[u8], card: u32, all: bool) -> Reading
                 break 'sheets frame::frame_told(told);
             };
             let entries = read.entries;
-            let place = (due * 48 + state % 48) as usize;
+            let place = (due * Limits::IN_HAND_U32 + state % Limits::IN_HAND_U32) as usize;
             r.counts[i] = k + 1;
             r.changes[place] = change;
-            store_entries(&mut r.entries, place * 16, entries);
+            store_entries(&mut r.entries, place * Limits::CARDS, entries);
             last = Frame { change, entries };
             at += width + 8 + n as usize * width + 5;
             k += 1;

@@ -10,6 +10,7 @@ ghost use Rattle.bits.specs.Member.{member};
 ghost use Rattle.protocol.specs.Model.{toWrite, up};
 ghost use Rattle.protocol.specs.Sound.{entriesSound, frameSound, risesSound, framesSound, lineSound, cardSound, roomToWrite, placeSound, sound};
 ghost use Rattle.verdicts.specs.Shape.{limits16, phaseOf, at, presentOf, ring, ringFrame, ringPlace, numbersOf, openOf, openAt, partOf, numbersModel, modelOf, thereSound};
+use limits::Limits;
 use verdicts::Core;
 use verdicts::Head;
 use verdicts::Phase;
@@ -17,13 +18,13 @@ use verdicts::Place;
 use verdicts::is_rolling;
 
 // The same of the vector of a frame.
-fn frame_entries_sound(entries: &[u32; 12288], from: usize, cards: usize) -> bool
+fn frame_entries_sound(entries: &[u32; Limits::ENTRIES], from: usize, cards: usize) -> bool
     requires { ⌜ from + 16 ≤ 12288 ⌝ }
     ensures { λ r. ⌜ r ≡ entriesSound limits16 (presentOf cards) (λ j. at (now (entries .entry)) (from + j)) ⌝ }
 {
     let mut ok = true;
     let mut j: usize = 0;
-    while j < 16 {
+    while j < Limits::CARDS {
         ok = ok & (entries[from + j] <= numbers::top(j < cards));
         j += 1;
     }
@@ -32,8 +33,8 @@ fn frame_entries_sound(entries: &[u32; 12288], from: usize, cards: usize) -> boo
 
 // "a kept frame that breaks 9": the frame of state x of card c, by itself, at its place in the ring.
 fn frame_sound<'a>(
-    entries: &'a [u32; 12288],
-    makers: &'a [u32; 768],
+    entries: &'a [u32; Limits::ENTRIES],
+    makers: &'a [u32; Limits::FRAMES],
     c: usize,
     place: usize,
     x: u32,
@@ -42,19 +43,19 @@ fn frame_sound<'a>(
     requires { ⌜ (c < 16) × (place < 768) ⌝ }
     ensures { λ r. ⌜ r ≡ not (eqb (at (now (makers .entry)) place) 0) && eqb (at (now (entries .entry)) (place * 16 + c)) x && entriesSound limits16 (presentOf cards) (λ j. at (now (entries .entry)) (place * 16 + j)) ⌝ }
 {
-    let from = place * 16;
+    let from = place * Limits::CARDS;
     let whole = frame_entries_sound(entries, from, cards);
     (makers[place] != 0) & (entries[from + c] == x) & whole
 }
 
 // "an entry falling from frame to frame": no entry of the frame at one place is above that of the frame at the next.
-fn rising_entries(entries: &[u32; 12288], from: usize, next: usize) -> bool
+fn rising_entries(entries: &[u32; Limits::ENTRIES], from: usize, next: usize) -> bool
     requires { ⌜ (from + 16 ≤ 12288) × (next + 16 ≤ 12288) ⌝ }
     ensures { λ r. ⌜ r ≡ allBelow (limits16 .width) (λ j. leb (at (now (entries .entry)) (from + j)) (at (now (entries .entry)) (next + j))) ⌝ }
 {
     let mut ok = true;
     let mut j: usize = 0;
-    while j < 16 {
+    while j < Limits::CARDS {
         ok = ok & (entries[from + j] <= entries[next + j]);
         j += 1;
     }
@@ -63,29 +64,32 @@ fn rising_entries(entries: &[u32; 12288], from: usize, next: usize) -> bool
 
 // "change .. not rising, .. an entry falling": the frames at two places of the ring, one after the other.
 fn rises_sound<'a>(
-    entries: &'a [u32; 12288],
-    makers: &'a [u32; 768],
+    entries: &'a [u32; Limits::ENTRIES],
+    makers: &'a [u32; Limits::FRAMES],
     place: usize,
     next: usize,
 ) -> bool
     requires { ⌜ (place < 768) × (next < 768) ⌝ }
     ensures { λ r. ⌜ r ≡ ltb (at (now (makers .entry)) place) (at (now (makers .entry)) next) && allBelow (limits16 .width) (λ j. leb (at (now (entries .entry)) (place * 16 + j)) (at (now (entries .entry)) (next * 16 + j))) ⌝ }
 {
-    let whole = rising_entries(entries, place * 16, next * 16);
+    let whole = rising_entries(entries, place * Limits::CARDS, next * Limits::CARDS);
     (makers[place] < makers[next]) & whole
 }
+
+// The last of the 48 places of a card.
+const LAST_PLACE: u32 = Limits::IN_HAND_U32 - 1;
 
 // The place after this one among the 48 of a card: the first comes after the last.
 fn after(slot: u32) -> u32
     ensures { λ r. ⌜ r ≡ cond (ltb slot 47) (slot + 1) 0 ⌝ }
 {
-    if slot < 47 { slot + 1 } else { 0 }
+    if slot < LAST_PLACE { slot + 1 } else { 0 }
 }
 
 // The frames of card c, from base + 1 to reached.
 fn frames_sound<'a>(
-    entries: &'a [u32; 12288],
-    makers: &'a [u32; 768],
+    entries: &'a [u32; Limits::ENTRIES],
+    makers: &'a [u32; Limits::FRAMES],
     c: usize,
     base: u32,
     reached: u32,
@@ -95,9 +99,9 @@ fn frames_sound<'a>(
     ensures { λ r. ⌜ r ≡ framesSound limits16 (partOf cards up (numbersOf base 0 0 reached) (ring (now (entries .entry)) (now (makers .entry))) 0) c ⌝ }
 {
     let n = reached - base;
-    let first = c * 48;
+    let first = c * Limits::IN_HAND;
     let mut ok = true;
-    let mut slot = base % 48;
+    let mut slot = base % Limits::IN_HAND_U32;
     let mut k: u32 = 0;
     while k < n {
         let x = base + k + 1;
@@ -122,8 +126,8 @@ fn line_sound(phase: Phase, base: u32, stored: u32, line: u32) -> bool
 
 // The numbers, the fixed line and the frames of a card that is there.
 fn there_sound<'a>(
-    entries: &'a [u32; 12288],
-    makers: &'a [u32; 768],
+    entries: &'a [u32; Limits::ENTRIES],
+    makers: &'a [u32; Limits::FRAMES],
     head: Head,
     c: usize,
     base: u32,
@@ -156,10 +160,10 @@ fn seen(there: bool, cards: usize) -> usize
 
 // What is looked at of card c: its two vectors, its numbers and its frames.
 fn card_sound<'a>(
-    entries: &'a [u32; 12288],
-    makers: &'a [u32; 768],
-    last: [u32; 16],
-    pending: [u32; 16],
+    entries: &'a [u32; Limits::ENTRIES],
+    makers: &'a [u32; Limits::FRAMES],
+    last: [u32; Limits::CARDS],
+    pending: [u32; Limits::CARDS],
     base: u32,
     stored: u32,
     held: u32,
@@ -180,7 +184,11 @@ fn card_sound<'a>(
     lasts & pendings & (!there | whole)
 }
 
-fn all_cards_sound<'a>(entries: &'a [u32; 12288], makers: &'a [u32; 768], core: Core) -> bool
+fn all_cards_sound<'a>(
+    entries: &'a [u32; Limits::ENTRIES],
+    makers: &'a [u32; Limits::FRAMES],
+    core: Core,
+) -> bool
     ensures { λ r. ⌜ r ≡ allBelow (limits16 .width) (cardSound limits16 (modelOf (now (entries .entry)) (now (makers .entry)) core)) ⌝ }
 {
     let last = core.last;
@@ -193,7 +201,7 @@ fn all_cards_sound<'a>(entries: &'a [u32; 12288], makers: &'a [u32; 768], core: 
     let head = core.head;
     let mut ok = true;
     let mut c: usize = 0;
-    while c < 16 {
+    while c < Limits::CARDS {
         let l = last[c];
         let l = l.entries;
         let p = pending[c];
@@ -218,12 +226,12 @@ fn all_cards_sound<'a>(entries: &'a [u32; 12288], makers: &'a [u32; 768], core: 
 }
 
 // Every card that the change has yet to write has room.
-fn writes_fit(o: Place, base: [u32; 16], reached: [u32; 16]) -> bool
+fn writes_fit(o: Place, base: [u32; Limits::CARDS], reached: [u32; Limits::CARDS]) -> bool
     ensures { λ r. ⌜ r ≡ allBelow (limits16 .width) (λ c. not (toWrite (openOf o) c) || roomToWrite limits16 (numbersOf (at base c) 0 0 (at reached c)) 0) ⌝ }
 {
     let mut ok = true;
     let mut c: usize = 0;
-    while c < 16 {
+    while c < Limits::CARDS {
         let written = bits::has(o.writes, c as u32);
         let taken = bits::has(o.taken, c as u32);
         ok = ok & (!(written & !taken) | numbers::room(base[c], reached[c]));
@@ -233,7 +241,12 @@ fn writes_fit(o: Place, base: [u32; 16], reached: [u32; 16]) -> bool
 }
 
 // An open change "that touches an absent card or has yet to write a card at base + 48 or 60,000", or whose vector is outside the limits, is not. A free place is.
-pub fn place_sound(o: Place, base: [u32; 16], reached: [u32; 16], head: Head) -> bool
+pub fn place_sound(
+    o: Place,
+    base: [u32; Limits::CARDS],
+    reached: [u32; Limits::CARDS],
+    head: Head,
+) -> bool
     ensures { λ r. ⌜ r ≡ placeSound limits16 (numbersModel head base [] [] reached) (openOf o) ⌝ }
 {
     if o.number == 0 {
@@ -248,12 +261,17 @@ pub fn place_sound(o: Place, base: [u32; 16], reached: [u32; 16], head: Head) ->
     inside & fit & entries
 }
 
-fn all_places_sound(places: [Place; 8], base: [u32; 16], reached: [u32; 16], head: Head) -> bool
+fn all_places_sound(
+    places: [Place; Limits::PLACES],
+    base: [u32; Limits::CARDS],
+    reached: [u32; Limits::CARDS],
+    head: Head,
+) -> bool
     ensures { λ r. ⌜ r ≡ allBelow (limits16 .places) (λ p. placeSound limits16 (numbersModel head base [] [] reached) (openAt places p)) ⌝ }
 {
     let mut ok = true;
     let mut p: usize = 0;
-    while p < 8 {
+    while p < Limits::PLACES {
         let o = places[p];
         ok = ok & place_sound(o, base, reached, head);
         p += 1;
@@ -262,7 +280,11 @@ fn all_places_sound(places: [Place; 8], base: [u32; 16], reached: [u32; 16], hea
 }
 
 // A cabinet that is not refused with 28.
-pub fn cabinet_sound<'a>(entries: &'a [u32; 12288], makers: &'a [u32; 768], core: Core) -> bool
+pub fn cabinet_sound<'a>(
+    entries: &'a [u32; Limits::ENTRIES],
+    makers: &'a [u32; Limits::FRAMES],
+    core: Core,
+) -> bool
     ensures { λ r. ⌜ r ≡ sound limits16 (modelOf (now (entries .entry)) (now (makers .entry)) core) ⌝ }
 {
     let places = core.places;

@@ -3,6 +3,7 @@ ghost use mathlib.Core.Path.{_≡_};
 ghost use mathlib.Core.Bool.{true};
 ghost use Rattle.verdicts.specs.Answers.{replyOf};
 ghost use Rattle.carried.specs.Plans.{Stands, TakeCarriedOn};
+use limits::Limits;
 use verdicts::Core;
 use verdicts::Reply;
 use verdicts::Vector;
@@ -25,7 +26,7 @@ pub fn take(sound: bool, mut core: Core, change: u32, card: u32) -> TakenCore
     let head = core.head;
     let r = replies::take_reply(sound, head, places, change, card);
     let mut frame = Vector {
-        entries: [0u32; 16],
+        entries: [0u32; Limits::CARDS],
     };
     let mut state: u32 = 0;
     let mut maker: u32 = 0;

@@ -9,6 +9,7 @@ ghost use Rattle.merge.specs.Merge.{at};
 ghost use Rattle.sheet.specs.Ring.{pagesOf};
 ghost use Rattle.two_vectors.specs.Vectors.{twoVectors};
 ghost use Rattle.two_vectors.specs.Heads.{endsOf, Orderly, listsRead, headPlace, sameEntries, firstWith, headDiffers, headsDiffer};
+use limits::Limits;
 
 // The last state of a card that is there; of another, none.
 fn end_of(there: bool, base: u32, count: u32) -> u32
@@ -19,13 +20,17 @@ fn end_of(there: bool, base: u32, count: u32) -> u32
 }
 
 // The last state of each of n cards.
-fn ends_of(bases: [u32; 16], counts: [u32; 16], n: u32) -> [u32; 16]
+fn ends_of(
+    bases: [u32; Limits::CARDS],
+    counts: [u32; Limits::CARDS],
+    n: u32,
+) -> [u32; Limits::CARDS]
     requires { ⌜ ((c : ℕ) → c < 16 → at bases c + at counts c ≤ 60000) ⌝ }
     ensures { λ r. ⌜ r ≡ endsOf bases counts n ⌝ }
 {
-    let mut out = [0u32; 16];
+    let mut out = [0u32; Limits::CARDS];
     let mut c: usize = 0;
-    while c < 16 {
+    while c < Limits::CARDS {
         let x = end_of(c < n as usize, bases[c], counts[c]);
         out[c] = x;
         c += 1;
@@ -39,16 +44,16 @@ fn head_place(card: usize, passed: u32) -> usize
     ensures at { λ r. ⌜ r ≡ headPlace card passed ⌝ }
     ensures small { λ r. ⌜ r < 768 ⌝ }
 {
-    card * 48 + (passed as usize + 1) % 48
+    card * Limits::IN_HAND + (passed as usize + 1) % Limits::IN_HAND
 }
 
-fn same_entries(entries: &[u32; 12288], p: usize, q: usize, n: usize) -> bool
+fn same_entries(entries: &[u32; Limits::ENTRIES], p: usize, q: usize, n: usize) -> bool
     requires { ⌜ (p < 768) × (q < 768) × (n ≤ 16) ⌝ }
     ensures { λ r. ⌜ r ≡ sameEntries (now (entries .entry)) n p q ⌝ }
 {
     let mut k = 0;
     while k < n {
-        if entries[p * 16 + k] != entries[q * 16 + k] {
+        if entries[p * Limits::CARDS + k] != entries[q * Limits::CARDS + k] {
             return false;
         }
         k += 1;
@@ -57,22 +62,22 @@ fn same_entries(entries: &[u32; 12288], p: usize, q: usize, n: usize) -> bool
 }
 
 // The first card at whose head the change k stands, and 16 where there is none.
-fn first_with(heads: [u32; 16], k: u32) -> usize
+fn first_with(heads: [u32; Limits::CARDS], k: u32) -> usize
     ensures { λ r. ⌜ r ≡ firstWith heads k ⌝ }
 {
     let mut c: usize = 0;
-    while c < 16 {
+    while c < Limits::CARDS {
         if heads[c] == k {
             return c;
         }
         c += 1;
     }
-    16
+    Limits::CARDS
 }
 
 // Whether card c has the change k at its head, with another vector than that at place p.
 fn head_differs(
-    entries: &[u32; 12288],
+    entries: &[u32; Limits::ENTRIES],
     head: u32,
     c: usize,
     passed: u32,
@@ -93,9 +98,9 @@ fn head_differs(
 
 // Whether some card has.
 fn some_differs(
-    entries: &[u32; 12288],
-    heads: [u32; 16],
-    passed: [u32; 16],
+    entries: &[u32; Limits::ENTRIES],
+    heads: [u32; Limits::CARDS],
+    passed: [u32; Limits::CARDS],
     k: u32,
     p: usize,
     n: usize,
@@ -104,7 +109,7 @@ fn some_differs(
     ensures { λ r. ⌜ r ≡ anyBelow 16 (headDiffers (now (entries .entry)) heads passed n k p) ⌝ }
 {
     let mut other: usize = 0;
-    while other < 16 {
+    while other < Limits::CARDS {
         if head_differs(entries, heads[other], other, passed[other], k, p, n) {
             return true;
         }
@@ -115,9 +120,9 @@ fn some_differs(
 
 // Whether two cards have the change k at their heads, with two vectors.
 fn heads_differ(
-    entries: &[u32; 12288],
-    heads: [u32; 16],
-    passed: [u32; 16],
+    entries: &[u32; Limits::ENTRIES],
+    heads: [u32; Limits::CARDS],
+    passed: [u32; Limits::CARDS],
     k: u32,
     n: usize,
 ) -> bool
@@ -125,7 +130,7 @@ fn heads_differ(
     ensures { λ r. ⌜ r ≡ headsDiffer (now (entries .entry)) heads passed n k ⌝ }
 {
     let first = first_with(heads, k);
-    if first < 16 {
+    if first < Limits::CARDS {
         let p = head_place(first, passed[first]);
         some_differs(entries, heads, passed, k, p, n)
     } else {
@@ -135,10 +140,10 @@ fn heads_differ(
 
 // Whether one change has two vectors on two sheets, by one merge over the sheets' frames.
 pub fn two_vectors<'a>(
-    changes: &'a [u32; 768],
-    entries: &'a [u32; 12288],
-    bases: [u32; 16],
-    counts: [u32; 16],
+    changes: &'a [u32; Limits::FRAMES],
+    entries: &'a [u32; Limits::ENTRIES],
+    bases: [u32; Limits::CARDS],
+    counts: [u32; Limits::CARDS],
     n: u32,
 ) -> bool
     requires { ⌜ (n ≤ 16) × Orderly (now changes) bases counts n ⌝ }

@@ -5,6 +5,7 @@ ghost use Prim.Native.Nat.{ℕ, _<_, max};
 ghost use Rattle.bits.specs.Member.{member};
 ghost use Rattle.history.specs.Vector.{joined, noEntries, withOwn, vectorOf};
 ghost use Rattle.verdicts.specs.Shape.{limits16, at, listOf, openOf, trackedOf};
+use limits::Limits;
 use verdicts::Place;
 use verdicts::Vector;
 
@@ -15,12 +16,12 @@ fn greater(a: u32, b: u32) -> u32
 }
 
 // The greater of two vectors, entry by entry.
-pub fn join(u: [u32; 16], v: [u32; 16]) -> [u32; 16]
+pub fn join(u: [u32; Limits::CARDS], v: [u32; Limits::CARDS]) -> [u32; Limits::CARDS]
     ensures { λ r. ⌜ r ≡ listOf (joined (at u) (at v)) ⌝ }
 {
-    let mut out = [0u32; 16];
+    let mut out = [0u32; Limits::CARDS];
     let mut j: usize = 0;
-    while j < 16 {
+    while j < Limits::CARDS {
         out[j] = greater(u[j], v[j]);
         j += 1;
     }
@@ -28,14 +29,14 @@ pub fn join(u: [u32; 16], v: [u32; 16]) -> [u32; 16]
 }
 
 // The vector as a list of 16 entries.
-pub fn copied(v: [u32; 16]) -> [u32; 16]
+pub fn copied(v: [u32; Limits::CARDS]) -> [u32; Limits::CARDS]
     ensures { λ r. ⌜ (r ≡ v) × (v ≡ listOf (at v)) ⌝ }
 {
     v
 }
 
 // The vector with the entry for card c set to the state overwritten.
-fn with_own(v: [u32; 16], c: usize, reached: u32) -> [u32; 16]
+fn with_own(v: [u32; Limits::CARDS], c: usize, reached: u32) -> [u32; Limits::CARDS]
     requires { ⌜ (c < 16) × (reached < 4294967295) ⌝ }
     ensures { λ r. ⌜ r ≡ listOf (withOwn c reached (at v)) ⌝ }
 {
@@ -50,9 +51,9 @@ fn share_of(
     read: bool,
     c: usize,
     reached: u32,
-    last: [u32; 16],
-    pending: [u32; 16],
-) -> [u32; 16]
+    last: [u32; Limits::CARDS],
+    pending: [u32; Limits::CARDS],
+) -> [u32; Limits::CARDS]
     requires { ⌜ (c < 16) × (written ≡ true → reached < 4294967295) ⌝ }
     ensures { λ r. ⌜ r ≡ listOf (cond written (withOwn c reached (at pending)) (cond read (at last) noEntries)) ⌝ }
 {
@@ -63,22 +64,22 @@ fn share_of(
         let r = copied(last);
         return r;
     }
-    [0u32; 16]
+    [0u32; Limits::CARDS]
 }
 
 // "The vector is the greatest, entry by entry, over all touched cards as they stood at the decision"
 pub fn decision(
     o: Place,
-    reached: [u32; 16],
-    last: [Vector; 16],
-    pending: [Vector; 16],
-) -> [u32; 16]
+    reached: [u32; Limits::CARDS],
+    last: [Vector; Limits::CARDS],
+    pending: [Vector; Limits::CARDS],
+) -> [u32; Limits::CARDS]
     requires { ⌜ ((c : ℕ) → c < 16 → member (o .writes) c ≡ true → at reached c < 4294967295) ⌝ }
     ensures { λ r. ⌜ r ≡ listOf (vectorOf (limits16 .width) (trackedOf reached last pending) (openOf o .change)) ⌝ }
 {
-    let mut out = [0u32; 16];
+    let mut out = [0u32; Limits::CARDS];
     let mut c: usize = 0;
-    while c < 16 {
+    while c < Limits::CARDS {
         let written = bits::has(o.writes, c as u32);
         let read = bits::has(o.reads, c as u32);
         let l = last[c];

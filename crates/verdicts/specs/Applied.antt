@@ -5,6 +5,7 @@ use mathlib.Core.Bool.{cond}
 use mathlib.Core.List.{List, [], _∷_}
 use lib.ListN.{set}
 use lib.Seq.{sets}
+use Rattle.limits.specs.Document.{mostCards}
 use Rattle.laws.specs.Below.{tabulate}
 use Rattle.bits.specs.Member.{member}
 use Rattle.history.specs.Vector.{noEntries, joined}
@@ -71,7 +72,7 @@ made edit.renew none f = none
 
 -- what an edit leaves in the lists of frames that stand beside the core
 abbrev pub entriesAfter : Edit → Core → List ℕ → List ℕ
-entriesAfter e s l = made e l (λ c k v. sets l (ringPlace c (suc (at (s .reached) c)) * 16) (listOf v))
+entriesAfter e s l = made e l (λ c k v. sets l (ringPlace c (suc (at (s .reached) c)) * mostCards) (listOf v))
 
 abbrev pub makersAfter : Edit → Core → List ℕ → List ℕ
 makersAfter e s l = made e l (λ c k v. set l (ringPlace c (suc (at (s .reached) c))) k)

@@ -4,7 +4,9 @@ use mathlib.Core.Bool.{Bool, _&&_, cond}
 use mathlib.Core.List.{List, []}
 use lib.Dec.{leb, ltb}
 use lib.ListN.{getD, replicate}
+use Rattle.limits.specs.Document.{mostCards, mostInHand, mostOpen}
 use Rattle.laws.specs.Below.{tabulate}
+unfoldable pub use Rattle.limits.specs.Document.{limits16}
 use Rattle.bits.specs.Member.{member, number}
 use Rattle.history.specs.Change.{CardSet, Numbers}
 use Rattle.history.specs.Vector.{noEntries, Tracked}
@@ -20,10 +22,6 @@ use Rattle.verdicts.specs.declared.Head.{Head}
 use Rattle.verdicts.specs.declared.Vector.{Vector}
 use Rattle.verdicts.specs.declared.Place.{Place}
 use Rattle.verdicts.specs.declared.Core.{Core}
-
--- "the limits 16, 48, 8 and 60,000", and 4,294,967,295
-unfoldable pub limits16 : Limits
-limits16 = record { width = 16; inHand = 48; places = 8; greatestState = 60000; greatestNumber = 4294967295 }
 
 abbrev pub phaseOf : Phase → model.Phase
 phaseOf Up = model.up
@@ -44,14 +42,14 @@ vectorAt l c = at (getD l c (record { entries = [] }) .entries)
 
 -- Frames stand in a ring: state x of card c has the place c * 48 + x % 48, and its entries begin at 16 times that place.
 abbrev pub ringPlace : ℕ → ℕ → ℕ
-ringPlace c x = c * 48 + x % 48
+ringPlace c x = c * mostInHand + x % mostInHand
 
 -- what stands at the ring's places, whether or not the state is in hand
 abbrev pub ringMaker : List ℕ → ℕ → ℕ → ℕ
 ringMaker makers c x = at makers (ringPlace c x)
 
 abbrev pub ringFrame : List ℕ → ℕ → ℕ → history.Vector
-ringFrame entries c x j = at entries (ringPlace c x * 16 + j)
+ringFrame entries c x j = at entries (ringPlace c x * mostCards + j)
 
 -- "Frames run from base + 1": state x of card c is in hand
 abbrev pub inHand : (base reached : List ℕ) → ℕ → ℕ → Bool
@@ -230,9 +228,9 @@ bare h =
 -- "all state numbers 0, all entries none", every place free
 abbrev pub blankCore : Head → Core
 blankCore h =
-    let none : List ℕ = replicate 16 0 in
-    let vectors : List Vector = replicate 16 (record { entries = none }) in
-    withLine (withPlaces (withNumbers (withVectors (bare h) vectors vectors) none none none none) (replicate 8 (placeFor freePlace)) (replicate 8 0)) none 0
+    let none : List ℕ = replicate mostCards 0 in
+    let vectors : List Vector = replicate mostCards (record { entries = none }) in
+    withLine (withPlaces (withNumbers (withVectors (bare h) vectors vectors) none none none none) (replicate mostOpen (placeFor freePlace)) (replicate mostOpen 0)) none 0
 
 -- the model of a cabinet of these frames and this core
 abbrev pub modelOf : (entries makers : List ℕ) → Core → Model

@@ -2,6 +2,7 @@
 ghost use mathlib.Core.Path.{_≡_};
 ghost use Rattle.protocol.specs.Model.{isUp, isDown, isRolling, freePlace};
 ghost use Rattle.verdicts.specs.Shape.{phaseOf, at, placeFor, headOf, inPhase, counted, blankCore};
+use limits::Limits;
 use refusal::Refusal;
 
 pub enum Phase {
@@ -33,12 +34,12 @@ pub struct Head {
 
 // A vector: a dependency for each card, 0 for none and a state's number plus one otherwise.
 pub struct Vector {
-    pub entries: [u32; 16],
+    pub entries: [u32; Limits::CARDS],
 }
 
 // One of the eight places for open changes. Number 0: free.
 pub struct Place {
-    pub vector: [u32; 16],
+    pub vector: [u32; Limits::CARDS],
     pub number: u32,
     pub reads: u16,
     pub writes: u16,
@@ -49,17 +50,17 @@ pub struct Place {
 // A cabinet but for its frames: what 28 looks at, and what a loss and a roll remember.
 pub struct Core {
     pub head: Head,
-    pub last: [Vector; 16],
-    pub pending: [Vector; 16],
-    pub places: [Place; 8],
-    pub base: [u32; 16],
-    pub stored: [u32; 16],
-    pub held: [u32; 16],
-    pub reached: [u32; 16],
+    pub last: [Vector; Limits::CARDS],
+    pub pending: [Vector; Limits::CARDS],
+    pub places: [Place; Limits::PLACES],
+    pub base: [u32; Limits::CARDS],
+    pub stored: [u32; Limits::CARDS],
+    pub held: [u32; Limits::CARDS],
+    pub reached: [u32; Limits::CARDS],
     // while rolling: the line fixed
-    pub line: [u32; 16],
+    pub line: [u32; Limits::CARDS],
     // by place, the decided changes that a loss ended with a written share untaken
-    pub ended: [u32; 8],
+    pub ended: [u32; Limits::PLACES],
     // while rolling: the cards already rolled
     pub rolled: u16,
 }
@@ -113,7 +114,7 @@ pub fn free_place() -> Place
     ensures { λ r. ⌜ r ≡ placeFor freePlace ⌝ }
 {
     Place {
-        vector: [0u32; 16],
+        vector: [0u32; Limits::CARDS],
         number: 0,
         reads: 0,
         writes: 0,
@@ -126,12 +127,12 @@ pub fn free_place() -> Place
 pub fn blank(head: Head) -> Core
     ensures { λ r. ⌜ r ≡ blankCore head ⌝ }
 {
-    let none = [0u32; 16];
+    let none = [0u32; Limits::CARDS];
     let v = Vector { entries: none };
-    let last = [v; 16];
-    let pending = [v; 16];
+    let last = [v; Limits::CARDS];
+    let pending = [v; Limits::CARDS];
     let free = free_place();
-    let places = [free; 8];
+    let places = [free; Limits::PLACES];
     Core {
         head: head,
         last: last,
@@ -142,7 +143,7 @@ pub fn blank(head: Head) -> Core
         held: none,
         reached: none,
         line: none,
-        ended: [0u32; 8],
+        ended: [0u32; Limits::PLACES],
         rolled: 0,
     }
 }
@@ -178,9 +179,9 @@ pub fn is_rolling(phase: Phase) -> bool
 }
 
 // The number for card i; 0 for a card above 15.
-pub fn at(numbers: [u32; 16], i: u32) -> u32
+pub fn at(numbers: [u32; Limits::CARDS], i: u32) -> u32
     ensures { λ r. ⌜ r ≡ at numbers i ⌝ }
 {
     let k = i as usize;
-    if k < 16 { numbers[k] } else { 0 }
+    if k < Limits::CARDS { numbers[k] } else { 0 }
 }

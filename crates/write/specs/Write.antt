@@ -5,6 +5,7 @@ use mathlib.Core.List.{List}
 use lib.Dec.{leb}
 use lib.ListN.{length}
 use lib.Seq.{sets}
+use Rattle.limits.specs.Document.{mostCards}
 use Rattle.laws.specs.Below.{tabulate}
 use Rattle.refusal.specs.declared.Refusal.the-variants.{TooShort}
 use Rattle.refusal.specs.declared.Verdict.{Verdict}
@@ -28,4 +29,4 @@ wroteBytes Accepted bytes buffer =
 
 -- the sheet that a ring holds for a header, each frame with all 16 entries of its place: as many are looked at as there are cards
 abbrev pub ringRows : (changes entries : List ℕ) → Header → Page
-ringRows changes entries h = record { header = h; frames = tabulate (h .count) (λ k. ringFrame changes entries 16 (h .card) (suc (h .base + k))) }
+ringRows changes entries h = record { header = h; frames = tabulate (h .count) (λ k. ringFrame changes entries mostCards (h .card) (suc (h .base + k))) }

@@ -14,6 +14,7 @@ ghost use Rattle.write.specs.Write.{ringRows, wroteBytes};
 use frame::Frame;
 use frame::Header;
 use frame::Layout;
+use limits::Limits;
 use refusal::Refusal;
 
 pub enum Written {
@@ -22,14 +23,14 @@ pub enum Written {
 }
 
 // The 16 entries at a place of the ring.
-fn row_at(entries: &[u32; 12288], place: usize) -> [u32; 16]
+fn row_at(entries: &[u32; Limits::ENTRIES], place: usize) -> [u32; Limits::CARDS]
     requires { ⌜ place < 768 ⌝ }
     ensures { λ r. ⌜ r ≡ tabulate 16 (λ j. getD (now (entries .entry)) (place * 16 + j) 0) ⌝ }
 {
-    let mut row = [0u32; 16];
+    let mut row = [0u32; Limits::CARDS];
     let mut j: usize = 0;
-    while j < 16 {
-        row[j] = entries[place * 16 + j];
+    while j < Limits::CARDS {
+        row[j] = entries[place * Limits::CARDS + j];
         j += 1;
     }
     row
@@ -37,15 +38,15 @@ fn row_at(entries: &[u32; 12288], place: usize) -> [u32; 16]
 
 // The frame of a card's state, with all 16 entries of its place.
 pub fn frame_of<'a>(
-    changes: &'a [u32; 768],
-    entries: &'a [u32; 12288],
+    changes: &'a [u32; Limits::FRAMES],
+    entries: &'a [u32; Limits::ENTRIES],
     card: u32,
     state: u32,
 ) -> Frame
     requires { ⌜ card < 16 ⌝ }
     ensures { λ r. ⌜ r ≡ ringFrame (now (changes .entry)) (now (entries .entry)) 16 card state ⌝ }
 {
-    let place = (card * 48 + state % 48) as usize;
+    let place = (card * Limits::IN_HAND_U32 + state % Limits::IN_HAND_U32) as usize;
     let row = row_at(entries, place);
     Frame {
         change: changes[place],
@@ -57,8 +58,8 @@ pub fn frame_of<'a>(
 fn put_sheet<'a, 'b>(
     f: Layout,
     b: &'a mut [u8],
-    changes: &'b [u32; 768],
-    entries: &'b [u32; 12288],
+    changes: &'b [u32; Limits::FRAMES],
+    entries: &'b [u32; Limits::ENTRIES],
     h: Header,
 )
     requires { ⌜ Fits f × (headerAllowed (formatOf f) (h .card) 0 h ≡ true) × (headerDigits (formatOf f) + 5 + h .count * (frameDigits (formatOf f) (cardsOf (formatOf f) h) + 5) ≤ length (now b)) ⌝ }
@@ -88,8 +89,8 @@ fn put_sheet<'a, 'b>(
 fn write_in<'a, 'b>(
     f: Layout,
     b: &'a mut [u8],
-    changes: &'b [u32; 768],
-    entries: &'b [u32; 12288],
+    changes: &'b [u32; Limits::FRAMES],
+    entries: &'b [u32; Limits::ENTRIES],
     h: Header,
 ) -> Written
     requires { ⌜ Fits f × (headerAllowed (formatOf f) (h .card) 0 h ≡ true) ⌝ }
@@ -109,8 +110,8 @@ fn write_in<'a, 'b>(
 // Writes the sheet that a ring holds for a header that refusal 7 lets pass, in the layout that it picks.
 pub fn write_page<'a, 'b>(
     b: &'a mut [u8],
-    changes: &'b [u32; 768],
-    entries: &'b [u32; 12288],
+    changes: &'b [u32; Limits::FRAMES],
+    entries: &'b [u32; Limits::ENTRIES],
     h: Header,
 ) -> Written
     requires { ⌜ headerAllowed (formatFor formats h) (h .card) 0 h ≡ true ⌝ }
