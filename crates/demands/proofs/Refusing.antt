@@ -39,7 +39,7 @@ use Rattle.readout.specs.Joint.{readoutOf}
 use Rattle.restart.specs.Restart.{cabinetFor}
 use Rattle.joined.specs.Joined.{ownSheets, goingOn}
 use Rattle.demands.specs.Lists.{Asked, opening, vote, take, withdraw, store, trim, safe, lose, fix, roll, sheet, restart, Typed, Lent, nothingLent, Answered}
-use Rattle.demands.specs.Claims.{Outcome, answers, refuses, Gets, CallsAnswer}
+use Rattle.demands.specs.Claims.{Said, answers, refuses, Outcome, Gets, CallsAnswer}
 use Rattle.demands.proofs.Some.{some}
 
 no-choice : Choice
@@ -70,11 +70,13 @@ barred-below m reads writes c hr hw e =
         none-of (inr y) = clash (and-left (member reads c) (o .change .writes c) y) (member-above 16 reads c hr h)
 
 -- by the plan of a call
+said-of : (s : Cabinet) (call : Call) (x : Choice) (reply : Reply) → reply ≡ planOf codec limits16 (view s) call x .reply → Said (checksOf codec limits16 (view s) call x) reply
+said-of s call x (accepted a) e = answers a (demand-1 codec limits16 (view s) call x .passed a (sym e))
+said-of s call x (refused r) e = refuses r (demand-1 codec limits16 (view s) call x .due r (sym e)) (demand-1 codec limits16 (view s) call x .listed r (sym e))
+
 outcome-of : (s : Cabinet) (call : Call) (x : Choice) (t : Cabinet) (before after : Lent) (reply : Reply) → reply ≡ planOf codec limits16 (view s) call x .reply
     → ((r : Refusal) → reply ≡ refused r → (t ≡ s) × (after ≡ before)) → Outcome (checksOf codec limits16 (view s) call x) s t before after reply
-outcome-of s call x t before after (accepted a) e keeps = answers a (demand-1 codec limits16 (view s) call x .passed a (sym e))
-outcome-of s call x t before after (refused r) e keeps =
-    refuses r (demand-1 codec limits16 (view s) call x .due r (sym e)) (demand-1 codec limits16 (view s) call x .listed r (sym e)) (keeps r refl .0) (keeps r refl .1)
+outcome-of s call x t before after reply e keeps = record { said = said-of s call x reply e; unchanged = keeps }
 
 -- a call that lends nothing
 by-plan : (s : Cabinet) (call : Call) → Proper limits16 (view s) call no-choice → (cs : List Check) (a : Answer) (es : List Edit) → planOf codec limits16 (view s) call no-choice ≡ checked cs a es

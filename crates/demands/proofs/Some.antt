@@ -49,14 +49,14 @@ front xs l h = ap (take (length xs)) (sets-eq xs l 0 (omega arith)) ∙ take-at 
 roomy : (xs l : List ℕ) → length xs ≤ length l → length xs ≤ length (sets l 0 xs)
 roomy xs l h = let z : length (sets l 0 xs) ≡ length l = length-sets l 0 xs in omega arith
 
+-- an answer, by a plan
+pub record ReachedBy (s : Cabinet) (asked : Asked) (p : Plan) : Type 0 where
+  pub reached : Reached s asked
+  pub reply-is : reached .reply ≡ p .reply
+  pub next-is : reached .next ≡ applyAll (p .edits) s
+
 -- ---- fix
-module _ (s : Cabinet) (records : List CardRecord) (list : List ℕ) where
-  abbrev lost : List ℕ
-  lost = chosen limits16 (view s) (run.fixCall 0 0) .lost
-
-  once : (k : ℕ) → occurs k (chosen limits16 (view s) (run.fixCall 0 0) .lost) ≡ one-if (isLost limits16 (view s) k)
-  once = choosable limits16 (view s) (run.fixCall 0 0)
-
+module _ (s : Cabinet) (records : List CardRecord) (list lost : List ℕ) (once : (k : ℕ) → occurs k lost ≡ one-if (isLost limits16 (view s) k)) where
   abbrev plan : Plan
   plan = fixPlan limits16 (view s) (length records) (length list) lost
 
@@ -68,72 +68,83 @@ module _ (s : Cabinet) (records : List CardRecord) (list : List ℕ) where
       selected-same (limits16 .width) (presentOf (s .core .head .cards)) _ _
       (λ c l e. ap (λ (x : ℕ). record { card = c; stored = at (s .core .stored) c; line = x }) (at-list (lines limits16 (view s)) c (omega (arith, l, width16)) ∙ rw (lt-ltb c (limits16 .width) l, e)))
 
-  fix-refused : (r : Refusal) → plan ≡ record { reply = refused r; edits = [] } → Reached s (fix records list)
+  fix-refused : (r : Refusal) → plan ≡ record { reply = refused r; edits = [] } → ReachedBy s (fix records list) plan
   fix-refused r e =
       record {
-        reply = refused r;
-        next = s;
-        after = record { records = records; numbers = list };
-        answered =
-            record {
-              told = NotFixed r;
-              both =
-                  record {
-                    carried =
-                        record {
-                          told =
-                              record {
-                                lost = lost;
-                                once = once;
-                                answer = sym (ap (λ (p : Plan). p .reply) e);
-                                inside = zero-le;
-                                list = sym (ap (λ (p : Plan). listAfter (p .reply) list) e);
-                              };
-                          cabinet = sym (ap (λ (p : Plan). applyAll (p .edits) s) e);
-                        };
-                    filled = sym (ap (λ (p : Plan). recordsAfter (p .reply) records) e);
-                  };
-              answer = refl;
-            };
+        reached = record {
+          reply = refused r;
+          next = s;
+          after = record { records = records; numbers = list };
+          answered =
+              record {
+                told = NotFixed r;
+                both =
+                    record {
+                      carried =
+                          record {
+                            told =
+                                record {
+                                  lost = lost;
+                                  once = once;
+                                  answer = sym (ap (λ (p : Plan). p .reply) e);
+                                  inside = zero-le;
+                                  list = sym (ap (λ (p : Plan). listAfter (p .reply) list) e);
+                                };
+                            cabinet = sym (ap (λ (p : Plan). applyAll (p .edits) s) e);
+                          };
+                      filled = sym (ap (λ (p : Plan). recordsAfter (p .reply) records) e);
+                    };
+                answer = refl;
+              };
+        };
+        reply-is = sym (ap (λ (p : Plan). p .reply) e);
+        next-is = sym (ap (λ (p : Plan). applyAll (p .edits) s) e);
       }
 
-  fix-done : Passed (fixChecks limits16 (view s) (length records) (length list) lost) → plan ≡ record { reply = accepted (fixed (cardRows limits16 (view s)) lost); edits = fixes } → Reached s (fix records list)
+  fix-done : Passed (fixChecks limits16 (view s) (length records) (length list) lost) → plan ≡ record { reply = accepted (fixed (cardRows limits16 (view s)) lost); edits = fixes } → ReachedBy s (fix records list) plan
   fix-done ps e =
       record {
-        reply = accepted (fixed (rowsOf (s .core .head .cards) (s .core .stored) (listOf (lines limits16 (view s)))) (take (length lost) (sets list 0 lost)));
-        next = applyAll fixes s;
-        after = record { records = recordsAfter (plan .reply) records; numbers = sets list 0 lost };
-        answered =
-            record {
-              told = Fixed (length lost);
-              both =
-                  record {
-                    carried =
-                        record {
-                          told =
-                              record {
-                                lost = lost;
-                                once = once;
-                                answer = ap₂ (λ (rows : List CardRow) (ls : List ℕ). accepted (fixed rows ls)) rows-same (front lost list short) ∙ sym (ap (λ (p : Plan). p .reply) e);
-                                inside = roomy lost list short;
-                                list = sym (ap (λ (p : Plan). listAfter (p .reply) list) e);
-                              };
-                          cabinet = sym (ap (λ (p : Plan). applyAll (p .edits) s) e);
-                        };
-                    filled = refl;
-                  };
-              answer = refl;
-            };
+        reached = record {
+          reply = accepted (fixed (rowsOf (s .core .head .cards) (s .core .stored) (listOf (lines limits16 (view s)))) (take (length lost) (sets list 0 lost)));
+          next = applyAll fixes s;
+          after = record { records = recordsAfter (plan .reply) records; numbers = sets list 0 lost };
+          answered =
+              record {
+                told = Fixed (length lost);
+                both =
+                    record {
+                      carried =
+                          record {
+                            told =
+                                record {
+                                  lost = lost;
+                                  once = once;
+                                  answer = reply-same;
+                                  inside = roomy lost list short;
+                                  list = sym (ap (λ (p : Plan). listAfter (p .reply) list) e);
+                                };
+                            cabinet = sym (ap (λ (p : Plan). applyAll (p .edits) s) e);
+                          };
+                      filled = refl;
+                    };
+                answer = refl;
+              };
+        };
+        reply-is = reply-same;
+        next-is = sym (ap (λ (p : Plan). applyAll (p .edits) s) e);
       }
     where
-      short : length (chosen limits16 (view s) (run.fixCall 0 0) .lost) ≤ length list
+      short : length lost ≤ length list
       short =
           ltb-false (length list) (length lost)
           (fails (ltb (length list) (length lost)) (λ z. clash (or-right (ltb (length records) (length (cardRows limits16 (view s)))) z) (ps .1 .1 .1 .0)))
 
-  fix-some : Reached s (fix records list)
-  fix-some =
-      checked-case (λ (p : Plan). plan ≡ p → Reached s (fix records list)) (fixChecks limits16 (view s) (length records) (length list) lost) (fixed (cardRows limits16 (view s)) lost) fixes fix-refused fix-done refl
+      reply-same : accepted (fixed (rowsOf (s .core .head .cards) (s .core .stored) (listOf (lines limits16 (view s)))) (take (length lost) (sets list 0 lost))) ≡ plan .reply
+      reply-same = ap₂ (λ (rows : List CardRow) (ls : List ℕ). accepted (fixed rows ls)) rows-same (front lost list short) ∙ sym (ap (λ (p : Plan). p .reply) e)
+
+  pub fix-by : ReachedBy s (fix records list) plan
+  fix-by =
+      checked-case (λ (p : Plan). plan ≡ p → ReachedBy s (fix records list) plan) (fixChecks limits16 (view s) (length records) (length list) lost) (fixed (cardRows limits16 (view s)) lost) fixes fix-refused fix-done refl
 
 -- ---- a card's sheet
 module _ (s : Cabinet) (c : ℕ) (buffer : List ℕ) where
@@ -143,52 +154,61 @@ module _ (s : Cabinet) (c : ℕ) (buffer : List ℕ) where
   abbrev written-plan : Plan
   written-plan = sheetPlan codec limits16 (view s) c (length buffer)
 
-  sheet-refused : (r : Refusal) → written-plan ≡ record { reply = refused r; edits = [] } → Reached s (sheet c buffer)
+  sheet-refused : (r : Refusal) → written-plan ≡ record { reply = refused r; edits = [] } → ReachedBy s (sheet c buffer) written-plan
   sheet-refused r e =
       record {
-        reply = refused r;
-        next = s;
-        after = record { records = []; numbers = buffer };
-        answered =
-            record {
-              told = Refused r;
-              carried =
-                  record {
-                    told = record { answer = sym (ap (λ (p : Plan). p .reply) e); inside = zero-le; buffer = sym (ap (λ (p : Plan). bufferAfter (p .reply) buffer) e) };
-                    cabinet = sym (ap (λ (p : Plan). applyAll (p .edits) s) e);
-                  };
-              answer = refl;
-              noRecords = refl;
-            };
+        reached = record {
+          reply = refused r;
+          next = s;
+          after = record { records = []; numbers = buffer };
+          answered =
+              record {
+                told = Refused r;
+                carried =
+                    record {
+                      told = record { answer = sym (ap (λ (p : Plan). p .reply) e); inside = zero-le; buffer = sym (ap (λ (p : Plan). bufferAfter (p .reply) buffer) e) };
+                      cabinet = sym (ap (λ (p : Plan). applyAll (p .edits) s) e);
+                    };
+                answer = refl;
+                noRecords = refl;
+              };
+        };
+        reply-is = sym (ap (λ (p : Plan). p .reply) e);
+        next-is = sym (ap (λ (p : Plan). applyAll (p .edits) s) e);
       }
 
-  sheet-done : Passed (sheetChecks codec limits16 (view s) c (length buffer)) → written-plan ≡ record { reply = accepted (written bytes); edits = [] } → Reached s (sheet c buffer)
+  sheet-done : Passed (sheetChecks codec limits16 (view s) c (length buffer)) → written-plan ≡ record { reply = accepted (written bytes); edits = [] } → ReachedBy s (sheet c buffer) written-plan
   sheet-done ps e =
       let short : length bytes ≤ length buffer = ltb-false (length buffer) (length bytes) (ps .1 .1 .0) in
+      let reply-same : accepted (written (take (length bytes) (sets buffer 0 bytes))) ≡ written-plan .reply = ap (λ (l : List ℕ). accepted (written l)) (front bytes buffer short) ∙ sym (ap (λ (p : Plan). p .reply) e) in
       record {
-        reply = accepted (written (take (length bytes) (sets buffer 0 bytes)));
-        next = s;
-        after = record { records = []; numbers = sets buffer 0 bytes };
-        answered =
-            record {
-              told = Length (length bytes);
-              carried =
-                  record {
-                    told =
-                        record {
-                          answer = ap (λ (l : List ℕ). accepted (written l)) (front bytes buffer short) ∙ sym (ap (λ (p : Plan). p .reply) e);
-                          inside = roomy bytes buffer short;
-                          buffer = sym (ap (λ (p : Plan). bufferAfter (p .reply) buffer) e);
-                        };
-                    cabinet = sym (ap (λ (p : Plan). applyAll (p .edits) s) e);
-                  };
-              answer = refl;
-              noRecords = refl;
-            };
+        reached = record {
+          reply = accepted (written (take (length bytes) (sets buffer 0 bytes)));
+          next = s;
+          after = record { records = []; numbers = sets buffer 0 bytes };
+          answered =
+              record {
+                told = Length (length bytes);
+                carried =
+                    record {
+                      told =
+                          record {
+                            answer = reply-same;
+                            inside = roomy bytes buffer short;
+                            buffer = sym (ap (λ (p : Plan). bufferAfter (p .reply) buffer) e);
+                          };
+                      cabinet = sym (ap (λ (p : Plan). applyAll (p .edits) s) e);
+                    };
+                answer = refl;
+                noRecords = refl;
+              };
+        };
+        reply-is = reply-same;
+        next-is = sym (ap (λ (p : Plan). applyAll (p .edits) s) e);
       }
 
-  sheet-some : Reached s (sheet c buffer)
-  sheet-some = checked-case (λ (p : Plan). written-plan ≡ p → Reached s (sheet c buffer)) (sheetChecks codec limits16 (view s) c (length buffer)) (written bytes) [] sheet-refused sheet-done refl
+  pub sheet-by : ReachedBy s (sheet c buffer) written-plan
+  sheet-by = checked-case (λ (p : Plan). written-plan ≡ p → ReachedBy s (sheet c buffer) written-plan) (sheetChecks codec limits16 (view s) c (length buffer)) (written bytes) [] sheet-refused sheet-done refl
 
 pub some : (s : Cabinet) (asked : Asked) → Reached s asked
 some s (opening reads writes) =
@@ -206,7 +226,7 @@ some s (store c x) = record { reply = _; next = _; after = nothingLent; answered
 some s trim = record { reply = _; next = _; after = nothingLent; answered = (record { answer = refl; cabinet = refl }, refl) }
 some s (safe k) = record { reply = _; next = _; after = nothingLent; answered = (record { answer = refl; cabinet = refl }, refl) }
 some s (lose cards) = record { reply = _; next = _; after = nothingLent; answered = (record { answer = refl; cabinet = refl }, refl) }
-some s (fix records list) = fix-some s records list
+some s (fix records list) = fix-by s records list (chosen limits16 (view s) (run.fixCall 0 0) .lost) (choosable limits16 (view s) (run.fixCall 0 0)) .reached
 some s (roll c) = record { reply = _; next = _; after = nothingLent; answered = (record { answer = refl; cabinet = refl }, refl) }
-some s (sheet c buffer) = sheet-some s c buffer
+some s (sheet c buffer) = sheet-by s c buffer .reached
 some s restart = record { reply = _; next = _; after = nothingLent; answered = (record { answer = refl; cabinet = refl }, refl) }

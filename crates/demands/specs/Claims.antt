@@ -19,10 +19,15 @@ use Rattle.restart.specs.Restart.{Restarted}
 use Rattle.demands.specs.Lists.{Asked, callOf, Typed, Lent, lent, Answered, List16, start, next}
 
 -- ---- Demand 1, for any cabinet, a forged one too, and any arguments: "gets an answer or a refusal from document 01. A refusal changes neither the cabinet nor any lent list or buffer."
--- what comes of a call with this table: an answer, where no row fails; else the refusal of the first row that does, and cabinet and lent lists as they were
-pub data Outcome (table : List Check) (s t : Cabinet) (before after : Lent) : Reply → Type 0 where
-  answers : (a : Answer) → Passed table → Outcome table s t before after (accepted a)
-  refuses : (r : Refusal) → Due table r → Listed (numberOf r) → t ≡ s → after ≡ before → Outcome table s t before after (refused r)
+-- what is said where this is the table: an answer, where no row fails; else the refusal of the first row that does
+pub data Said (table : List Check) : Reply → Type 0 where
+  answers : (a : Answer) → Passed table → Said table (accepted a)
+  refuses : (r : Refusal) → Due table r → Listed (numberOf r) → Said table (refused r)
+
+-- and with a refusal cabinet and lent lists are as they were
+pub record Outcome (table : List Check) (s t : Cabinet) (before after : Lent) (reply : Reply) : Type 0 where
+  pub said : Said table reply
+  pub unchanged : (r : Refusal) → reply ≡ refused r → (t ≡ s) × (after ≡ before)
 
 -- the table is the call's, for some choice of what document 01 leaves to the program
 pub record Gets (s : Cabinet) (asked : Asked) (reply : Reply) (t : Cabinet) (after : Lent) : Type 0 where

@@ -19,7 +19,7 @@ use Rattle.protocol.specs.Demands.{Listed, Demand1}
 use Rattle.protocol.proofs.Steps.{checked-case}
 
 -- ---- demand 1
-all-listed : (r : Refusal) → Listed (numberOf r)
+pub all-listed : (r : Refusal) → Listed (numberOf r)
 all-listed CardCount = inl (lit≤ tt, lit≤ tt)
 all-listed NoSuchCard = inl (lit≤ tt, lit≤ tt)
 all-listed BothSetsEmpty = inl (lit≤ tt, lit≤ tt)

@@ -69,7 +69,7 @@ lined-or : (v : Verdict) (ps : List Page) → (lined v ps .verdict ≡ Accepted)
 lined-or Accepted ps = judged-or (jointVerdict ps) ps
 lined-or (Refused x) ps = inr refl
 
-read-or : (input : List ℕ) → (pagesRead input .verdict ≡ Accepted) ⊎ (pagesRead input .pages ≡ [])
+pub read-or : (input : List ℕ) → (pagesRead input .verdict ≡ Accepted) ⊎ (pagesRead input .pages ≡ [])
 unfolding pagesRead
 read-or input =
     cond-case (λ (x : PagesRead). (x .verdict ≡ Accepted) ⊎ (x .pages ≡ [])) (ltb 65536 (length input)) (λ t. inr refl)

@@ -1,0 +1,56 @@
+-- Demand 1, of all that a caller can call: "Any caller, any bytes, sets or numbers, gets an answer or a refusal from document 01. A refusal changes neither the cabinet nor any lent list or buffer."
+-- Statements alone: the proofs are in proofs/Demand1.antt. What a function's contract says by an equation has an answer for every input.
+use Prim.Native.Nat.{ℕ}
+use mathlib.Core.Path.{_≡_}
+use mathlib.Core.List.{List, [], _∷_}
+use Rattle.refusal.specs.declared.Refusal.{Refusal}
+use Rattle.refusal.specs.declared.Refusal.the-variants.{CardCount}
+use Rattle.refusal.specs.Number.{numberOf}
+use Rattle.refusal.specs.declared.Verdict.the-variants.{Refused}
+use Rattle.sheet.specs.declared.Reading.{Reading}
+use Rattle.sheet.specs.Pages.{Page}
+use Rattle.sheet.specs.Walk.{noReadout}
+use Rattle.readout.specs.Joint.{readoutOf}
+use Rattle.sheet_reader.specs.Single.{sheetReadOf}
+use Rattle.sheet_writer.specs.Single.{wrote}
+use Rattle.write.specs.declared.Written.the-variants.{Refused as written-refused}
+use Rattle.protocol.specs.Plan.{Reply, refused, Check, _⇒_}
+use Rattle.protocol.specs.Calls.{freshRefused}
+use Rattle.protocol.specs.Codec.{verdictChecks}
+use Rattle.protocol.specs.Demands.{Listed}
+use Rattle.codec.specs.Sheets.{restartReply}
+use Rattle.verdicts.specs.Shape.{limits16}
+use Rattle.cabinet.specs.declared.Cabinet.{Cabinet}
+use Rattle.cabinet.specs.Fresh.{Freshly, zeroCabinet, voidHead}
+use Rattle.restart.specs.Restart.{Restarted}
+use Rattle.demands.specs.Claims.{Said, CallsAnswer}
+
+-- "1: number of cards not 1 to 16"; the cabinet handed back then is void, and every call refuses it with 28
+pub record FreshGets (n : ℕ) (reply : Reply) (next : Cabinet) : Type 0 where
+  pub said : Said (freshRefused limits16 n ⇒ CardCount ∷ []) reply
+  pub void : (r : Refusal) → reply ≡ refused r → next ≡ zeroCabinet voidHead
+
+-- a restart from any bytes: refused with the verdict on them, it hands back the void cabinet too
+pub record RestartGets (bytes : List ℕ) (reply : Reply) (next : Cabinet) : Type 0 where
+  pub said : Said (verdictChecks (restartReply bytes)) reply
+  pub void : (r : Refusal) → reply ≡ refused r → next ≡ zeroCabinet voidHead
+
+-- what a reader answers with a refusal: a number of the tables, and "nothing of the sheet is used"
+pub record ReaderRefuses (x : Reading) (r : Refusal) : Type 0 where
+  pub listed : Listed (numberOf r)
+  pub nothing : x .readout ≡ noReadout
+
+-- what a writer of a sheet by value leaves with a refusal
+pub record WriterRefuses (p : Page) (buffer : List ℕ) (r : Refusal) : Type 0 where
+  pub listed : Listed (numberOf r)
+  pub unchanged : wrote p buffer .buffer ≡ buffer
+
+pub record Demand1 : Type 0 where
+  pub fresh : (n : ℕ) (reply : Reply) (next : Cabinet) → Freshly n reply next → FreshGets n reply next
+  -- calls 1 to 10, sheet writing, and restart from a cabinet's own sheets
+  pub calls : CallsAnswer
+  pub restart : (bytes : List ℕ) (reply : Reply) (next : Cabinet) → Restarted bytes reply next → RestartGets bytes reply next
+  -- the reader of one sheet, and the reader of a read-out
+  pub reads-sheet : (card : ℕ) (bytes : List ℕ) (r : Refusal) → sheetReadOf card bytes .verdict ≡ Refused r → ReaderRefuses (sheetReadOf card bytes) r
+  pub reads-readout : (bytes : List ℕ) (r : Refusal) → readoutOf bytes .verdict ≡ Refused r → ReaderRefuses (readoutOf bytes) r
+  pub writes-sheet : (p : Page) (buffer : List ℕ) (r : Refusal) → wrote p buffer .answer ≡ written-refused r → WriterRefuses p buffer r
