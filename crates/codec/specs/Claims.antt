@@ -2,6 +2,7 @@
 use Prim.Native.Nat.{ℕ, _≤_}
 use mathlib.Core.Path.{_≡_}
 use lib.Dec.{ltb}
+use Rattle.limits.specs.Document.{mostCards, mostInHand, lastState, lastNumber}
 use Rattle.limits.specs.Document.{mostCards, mostInHand, lastState, lastNumber, Limits, limits16}
 use Rattle.protocol.specs.Demands as lists
 use Rattle.codec.specs.Sheets.{codec}

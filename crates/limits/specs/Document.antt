@@ -1,5 +1,5 @@
 -- The limits of document 01: each number by its name, and the one record of them that plans and claims go over.
-use Prim.Native.Nat.{ℕ, _*_}
+use Prim.Native.Nat.{ℕ, _+_, _*_}
 
 -- "A cabinet has 1 to 16 cards"
 abbrev pub mostCards : ℕ
@@ -27,6 +27,10 @@ mostFrames = mostCards * mostInHand
 
 abbrev pub mostEntries : ℕ
 mostEntries = mostFrames * mostCards
+
+-- "a second list of up to 776"
+abbrev pub longestLost : ℕ
+longestLost = mostFrames + mostOpen
 
 -- "input over 65,536 bytes"
 abbrev pub longestInput : ℕ

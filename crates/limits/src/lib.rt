@@ -19,6 +19,8 @@ pub struct Limits {
     pub cards_u32: u32,
     pub in_hand_u32: u32,
     pub in_hand_u64: u64,
+    pub most_lost_u32: u32,
+    pub longest_u32: u32,
 }
 
 impl Limits {
@@ -64,6 +66,10 @@ impl Limits {
 
     pub const IN_HAND_U64: u64 = Limits::IN_HAND as u64;
 
+    pub const MOST_LOST_U32: u32 = Limits::MOST_LOST as u32;
+
+    pub const LONGEST_U32: u32 = Limits::LONGEST as u32;
+
     // All of them are the definitions' limits.
     pub fn all() -> Limits
         ensures { λ r. ⌜ r ≡ constants ⌝ }
@@ -84,6 +90,8 @@ impl Limits {
             cards_u32: Limits::CARDS_U32,
             in_hand_u32: Limits::IN_HAND_U32,
             in_hand_u64: Limits::IN_HAND_U64,
+            most_lost_u32: Limits::MOST_LOST_U32,
+            longest_u32: Limits::LONGEST_U32,
         }
     }
 }

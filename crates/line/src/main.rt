@@ -1,5 +1,6 @@
 // The line program: a read-out on standard input; card, stored and line of each card and the session after recovery on
 // standard output, or the refusal. Where the input can't be read to its end there is no answer.
+use limits::Limits;
 
 fn print(text: &[u8], n: usize) {
     if n <= text.len() {
@@ -17,7 +18,7 @@ fn answer(input: &[u8], n: usize) {
 
 // One byte more than a read-out may have, so that a longer input is refused.
 fn main() {
-    let mut space = [0u8; 65537];
+    let mut space = [0u8; Limits::LONGEST + 1];
     let input = streams::read_full(&mut space);
     if !input.failed {
         answer(&space, input.count);

@@ -5,6 +5,7 @@ use mathlib.Core.List.{List}
 use lib.Dec.{leb}
 use lib.ListN.{length, getD}
 use lib.Seq.{sets}
+use Rattle.limits.specs.Document.{mostCards}
 use Rattle.laws.specs.Below.{tabulate}
 use Rattle.records.specs.declared.CardRecord.{CardRecord}
 use Rattle.records.specs.declared.CardNumbers.{CardNumbers}
@@ -15,7 +16,7 @@ recordAt a c = record { card = c; stored = getD (a .first) c 0; line = getD (a .
 
 -- how many places are written: one for each card where all have a place, else none
 abbrev pub placesUsed : CardNumbers → ℕ → ℕ
-placesUsed a places = cond (leb (a .cards) 16 && leb (a .cards) places) (a .cards) 0
+placesUsed a places = cond (leb (a .cards) mostCards && leb (a .cards) places) (a .cards) 0
 
 -- the lent list after the call: the records in card order, and beyond them what it held
 abbrev pub filled : CardNumbers → List CardRecord → List CardRecord

@@ -2,6 +2,7 @@
 ghost use mathlib.Core.Path.{_≡_};
 ghost use Prim.Native.Nat.{_<_};
 ghost use Rattle.records.specs.Records.{recordAt, placesUsed, filled};
+use limits::Limits;
 
 // One card's numbers as call 9 answers them.
 pub struct CardRecord {
@@ -13,8 +14,8 @@ pub struct CardRecord {
 // So many cards, and two numbers of each: of fix, the stored number and the line.
 pub struct CardNumbers {
     pub cards: usize,
-    pub first: [u32; 16],
-    pub second: [u32; 16],
+    pub first: [u32; Limits::CARDS],
+    pub second: [u32; Limits::CARDS],
 }
 
 // One card's record.
@@ -34,7 +35,11 @@ fn places_used(numbers: CardNumbers, places: usize) -> usize
     ensures { λ r. ⌜ r ≡ placesUsed numbers places ⌝ }
 {
     let n = numbers.cards;
-    if (n <= 16) & (n <= places) { n } else { 0 }
+    if (n <= Limits::CARDS) & (n <= places) {
+        n
+    } else {
+        0
+    }
 }
 
 // The records go into the lent list.

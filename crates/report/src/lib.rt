@@ -6,6 +6,7 @@ ghost use Rattle.decimal.specs.Digits.{decimal};
 ghost use Rattle.verdicts.specs.Shape.{at};
 ghost use Rattle.report.specs.Report.{pushed, textOf, rowText, rowsText, sessionText, refusedText, lineText};
 use decimal::Writing;
+use limits::Limits;
 use verdicts::Reply;
 
 // A text of so many bytes, at the front of an array.
@@ -79,7 +80,7 @@ fn push_row(t: Text, card: u32, stored: u32, line: u32) -> Text
 }
 
 // The lines of the first cards.
-fn rows(cards: u32, stored: [u32; 16], line: [u32; 16]) -> Text
+fn rows(cards: u32, stored: [u32; Limits::CARDS], line: [u32; Limits::CARDS]) -> Text
     requires { ⌜ cards ≤ 16 ⌝ }
     ensures so { λ r. ⌜ r ≡ textOf (rowsText cards (at stored) (at line)) ⌝ }
     ensures room { λ r. ⌜ r .length ≤ 528 ⌝ }
@@ -99,7 +100,12 @@ fn rows(cards: u32, stored: [u32; 16], line: [u32; 16]) -> Text
 }
 
 // "then the session after recovery"
-fn accepted_text(cards: u32, session: u32, stored: [u32; 16], line: [u32; 16]) -> Text
+fn accepted_text(
+    cards: u32,
+    session: u32,
+    stored: [u32; Limits::CARDS],
+    line: [u32; Limits::CARDS],
+) -> Text
     requires { ⌜ (cards ≤ 16) × (session ≡ 4294967295 → ⊥) ⌝ }
     ensures { λ r. ⌜ r ≡ textOf (rowsText cards (at stored) (at line) ++ sessionText (session + 1)) ⌝ }
 {

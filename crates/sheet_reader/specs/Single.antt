@@ -4,6 +4,7 @@ use mathlib.Core.Bool.{false, cond}
 use mathlib.Core.List.{List, []}
 use lib.Dec.{ltb}
 use lib.ListN.{length}
+use Rattle.limits.specs.Document.{longestInput}
 use Rattle.refusal.specs.declared.Refusal.the-variants.{TooLong}
 use Rattle.refusal.specs.declared.Verdict.{Verdict}
 use Rattle.refusal.specs.declared.Verdict.the-variants.{Accepted, Refused}
@@ -22,7 +23,7 @@ answered v ps = record { readout = layPages (pagesFor v ps) noReadout; verdict =
 
 -- the verdict on any bytes: "12 comes before any line"
 abbrev pub sheetVerdict : ℕ → List ℕ → Verdict
-sheetVerdict card input = cond (ltb 65536 (length input)) (Refused TooLong) (readSheets formats false card input .verdict)
+sheetVerdict card input = cond (ltb longestInput (length input)) (Refused TooLong) (readSheets formats false card input .verdict)
 
 -- what the reader answers to any bytes
 unfoldable pub sheetReadOf : ℕ → List ℕ → Reading

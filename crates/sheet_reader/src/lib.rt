@@ -3,6 +3,7 @@ ghost use mathlib.Core.Path.{_≡_};
 ghost use mathlib.Core.List.{[]};
 ghost use Rattle.refusal.specs.declared.Verdict.{Verdict};
 ghost use Rattle.sheet_reader.specs.Single.{answered, sheetReadOf};
+use limits::Limits;
 use refusal::Refusal;
 use refusal::Verdict;
 use sheet::Reading;
@@ -13,11 +14,11 @@ fn no_sheet(x: Refusal) -> Reading
     ensures { λ r. ⌜ r ≡ answered (Verdict.Refused x) [] ⌝ }
 {
     let readout = Readout {
-        changes: [0u32; 768],
-        entries: [0u32; 12288],
-        sessions: [0u32; 16],
-        bases: [0u32; 16],
-        counts: [0u32; 16],
+        changes: [0u32; Limits::FRAMES],
+        entries: [0u32; Limits::ENTRIES],
+        sessions: [0u32; Limits::CARDS],
+        bases: [0u32; Limits::CARDS],
+        counts: [0u32; Limits::CARDS],
         cards: 0,
     };
     Reading {
@@ -30,7 +31,7 @@ fn no_sheet(x: Refusal) -> Reading
 pub fn read_sheet(s: &[u8], card: u32) -> Reading
     ensures { λ r. ⌜ r ≡ sheetReadOf card (now (s .entry)) ⌝ }
 {
-    if 65536 < s.len() {
+    if Limits::LONGEST < s.len() {
         return no_sheet(Refusal::TooLong);
     }
     let read = sheet::read_sheets(s, card, false);

@@ -11,11 +11,17 @@ ghost use Rattle.sheet_writer.specs.Single.{wrote};
 use frame::Frame;
 use frame::Header;
 use frame::Layout;
+use limits::Limits;
 use refusal::Refusal;
 use write::Written;
 
 // Whether refusal 9 lets all frames pass.
-fn frames_pass<'a>(f: Layout, changes: &'a [u32; 768], entries: &'a [u32; 12288], h: Header) -> bool
+fn frames_pass<'a>(
+    f: Layout,
+    changes: &'a [u32; Limits::FRAMES],
+    entries: &'a [u32; Limits::ENTRIES],
+    h: Header,
+) -> bool
     requires { ⌜ Fits f × (headerAllowed (formatOf f) (h .card) 0 h ≡ true) ⌝ }
     ensures { λ r. ⌜ r ≡ framesAllowed (formatOf f) (h .card) (cardsOf (formatOf f) h) (h .base + 1) noFrame (ringRows (now (changes .entry)) (now (entries .entry)) h .frames) ⌝ }
 {
@@ -25,7 +31,7 @@ fn frames_pass<'a>(f: Layout, changes: &'a [u32; 768], entries: &'a [u32; 12288]
     let count = h.count;
     let mut last = Frame {
         change: 0,
-        entries: [0u32; 16],
+        entries: [0u32; Limits::CARDS],
     };
     let mut k: u32 = 0;
     while k < count {
@@ -43,8 +49,8 @@ fn frames_pass<'a>(f: Layout, changes: &'a [u32; 768], entries: &'a [u32; 12288]
 // Writes the sheet that a ring holds for a header, and answers its length; a refusal changes no byte.
 pub fn write_sheet<'a, 'b>(
     b: &'a mut [u8],
-    changes: &'b [u32; 768],
-    entries: &'b [u32; 12288],
+    changes: &'b [u32; Limits::FRAMES],
+    entries: &'b [u32; Limits::ENTRIES],
     h: Header,
 ) -> Written
     ensures { λ r. ⌜ (r ≡ wrote (ringPage (now (changes .entry)) (now (entries .entry)) h) (now (b .entry)) .answer) × (now (b .exit) ≡ wrote (ringPage (now (changes .entry)) (now (entries .entry)) h) (now (b .entry)) .buffer) ⌝ }

@@ -4,6 +4,7 @@ use mathlib.Core.Bool.{Bool, _&&_, cond}
 use mathlib.Core.List.{List, [], _∷_}
 use lib.Dec.{eqb, leb, ltb}
 use lib.ListN.{length, drop}
+use Rattle.limits.specs.Document.{mostCards, longestLost, longestInput}
 use Rattle.words.specs.declared.Spoken.{Spoken}
 use Rattle.words.specs.declared.Spoken.the-variants.{Fresh, Asks, Unreadable}
 use Rattle.words.specs.declared.Request.the-variants.{Open, Vote, Take, Withdraw, Store, Trim, Safe, Lose, Fix, Roll, Sheet, Restart, Show}
@@ -72,11 +73,11 @@ sayOne w a =
 
 -- fix, with at most 16 card records and 776 change numbers
 abbrev pub asFix : (records numbers : ℕ) → Spoken
-asFix a b = cond (leb a 16 && leb b 776) (Asks (Fix a b)) Unreadable
+asFix a b = cond (leb a mostCards && leb b longestLost) (Asks (Fix a b)) Unreadable
 
 -- sheet, with at most 65536 bytes
 abbrev pub asSheet : (card bytes : ℕ) → Spoken
-asSheet a b = cond (leb b 65536) (Asks (Sheet a b)) Unreadable
+asSheet a b = cond (leb b longestInput) (Asks (Sheet a b)) Unreadable
 
 -- a vote, which is 0 or 1
 abbrev pub asVote : (change card yes : ℕ) → Spoken

@@ -5,6 +5,7 @@ ghost use lib.ListN.{length, drop};
 ghost use Rattle.words.specs.Line.{before, same, nextFigure, afterThree, afterTwo, afterOne, figuresAt};
 ghost use Rattle.words.specs.Calls.{asFix, asSheet, asVote, sayBare, sayOne, sayTwo, sayThree, sayWith, saysLine, heardAt};
 use decimal::Reading;
+use limits::Limits;
 
 // A call on the present cabinet, with its numbers.
 pub enum Request {
@@ -208,10 +209,10 @@ fn say_one(word: &[u8], a: u32) -> Spoken
 fn as_fix(records: u32, numbers: u32) -> Spoken
     ensures { λ r. ⌜ r ≡ asFix records numbers ⌝ }
 {
-    if 16 < records {
+    if Limits::CARDS_U32 < records {
         return Spoken::Unreadable;
     }
-    if 776 < numbers {
+    if Limits::MOST_LOST_U32 < numbers {
         return Spoken::Unreadable;
     }
     Spoken::Asks(Request::Fix { records, numbers })
@@ -221,7 +222,7 @@ fn as_fix(records: u32, numbers: u32) -> Spoken
 fn as_sheet(card: u32, bytes: u32) -> Spoken
     ensures { λ r. ⌜ r ≡ asSheet card bytes ⌝ }
 {
-    if 65536 < bytes {
+    if Limits::LONGEST_U32 < bytes {
         return Spoken::Unreadable;
     }
     Spoken::Asks(Request::Sheet { card, bytes })
