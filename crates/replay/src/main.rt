@@ -2,9 +2,9 @@
 ghost use Prim.Native.Nat.{_<_, _≤_};
 ghost use lib.ListN.{length};
 use asking::Replay;
-use decimal::Writing;
 use libc::STDIN_FILENO;
 use libc::STDOUT_FILENO;
+use text::Progress;
 
 // The replay, and the bytes of a line that has not ended yet: 129 of them tell that it is too long.
 struct Reader {
@@ -27,14 +27,15 @@ struct Turned {
 }
 
 // Prints the answer to a line.
-fn print(out: &[u8], w: Writing) {
+fn print(out: &[u8], w: Progress) {
     match w {
-        Writing::Next(n) => {
+        Progress::Next(n) => {
             if n <= out.len() {
                 io::write_all(STDOUT_FILENO, &out[0..n]);
             }
         }
-        Writing::TooShort => {}
+        Progress::Counting(_) => {}
+        Progress::TooShort => {}
     }
 }
 
@@ -97,7 +98,7 @@ fn feed(f: Reader, part: &[u8], out: &mut [u8]) -> Reader {
             };
         }
         let said = words::says(&line[0..n]);
-        let s = asking::obey(r, said, out, Writing::Next(0));
+        let s = asking::obey(r, said, out, Progress::Next(0));
         let w = s.written;
         print(out, w);
         r = s.replay;
@@ -133,7 +134,7 @@ fn do_rest(r: Replay, line: &[u8], count: usize) {
         if count <= line.len() {
             let mut out = io::large_buffer();
             let said = words::says(&line[0..count]);
-            let s = asking::obey(r, said, &mut out, Writing::Next(0));
+            let s = asking::obey(r, said, &mut out, Progress::Next(0));
             let w = s.written;
             print(&out, w);
         }
