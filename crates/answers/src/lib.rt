@@ -13,9 +13,9 @@ ghost use Rattle.text.specs.Put.{Put};
 ghost use Rattle.text.specs.Lines.{lineOf};
 ghost use Rattle.answers.specs.Texts.{namedBy, rowsText, fixedText, refusedText, replyText, noneText, unreadableText, rowCount, sheetWord};
 ghost use Rattle.answers.specs.Show.{phaseName, headText, cardsText, showText};
-use decimal::Writing;
 use recovery::FixReply;
 use refusal::Refusal;
+use text::Progress;
 use verdicts::Head;
 use verdicts::OpenReply;
 use verdicts::Phase;
@@ -30,14 +30,14 @@ enum Named {
 }
 
 // Before the first cabinet.
-pub fn put_none(b: &mut [u8], w: Writing) -> Writing
+pub fn put_none(b: &mut [u8], w: Progress) -> Progress
     ensures { λ r. ⌜ Put (now (b .entry)) w noneText r (now (b .exit)) ⌝ }
 {
     text::put(b, w, b"none\n")
 }
 
 // A line that is no call.
-pub fn put_unreadable(b: &mut [u8], w: Writing) -> Writing
+pub fn put_unreadable(b: &mut [u8], w: Progress) -> Progress
     ensures { λ r. ⌜ Put (now (b .entry)) w unreadableText r (now (b .exit)) ⌝ }
 {
     text::put(b, w, b"unreadable\n")
@@ -75,7 +75,7 @@ fn named_card(q: Refusal) -> Named
 }
 
 // A refusal, and after 21 the card.
-pub fn put_refusal(b: &mut [u8], w: Writing, q: Refusal) -> Writing
+pub fn put_refusal(b: &mut [u8], w: Progress, q: Refusal) -> Progress
     ensures { λ r. ⌜ Put (now (b .entry)) w (refusedText q) r (now (b .exit)) ⌝ }
 {
     let n = refusal::number(q);
@@ -93,7 +93,7 @@ pub fn put_refusal(b: &mut [u8], w: Writing, q: Refusal) -> Writing
 }
 
 // The answer of a call that answers nothing but acceptance.
-pub fn put_reply(b: &mut [u8], w: Writing, r: Reply) -> Writing
+pub fn put_reply(b: &mut [u8], w: Progress, r: Reply) -> Progress
     ensures { λ x. ⌜ Put (now (b .entry)) w (replyText (replyOf r)) x (now (b .exit)) ⌝ }
 {
     match r {
@@ -103,7 +103,7 @@ pub fn put_reply(b: &mut [u8], w: Writing, r: Reply) -> Writing
 }
 
 // The answer of open.
-pub fn put_open(b: &mut [u8], w: Writing, r: OpenReply) -> Writing
+pub fn put_open(b: &mut [u8], w: Progress, r: OpenReply) -> Progress
     ensures { λ x. ⌜ Put (now (b .entry)) w (replyText (openReplyOf r)) x (now (b .exit)) ⌝ }
 {
     match r {
@@ -116,7 +116,7 @@ pub fn put_open(b: &mut [u8], w: Writing, r: OpenReply) -> Writing
 }
 
 // The answer of safe.
-pub fn put_safe(b: &mut [u8], w: Writing, r: SafeReply) -> Writing
+pub fn put_safe(b: &mut [u8], w: Progress, r: SafeReply) -> Progress
     ensures { λ x. ⌜ Put (now (b .entry)) w (replyText (safeReplyOf r)) x (now (b .exit)) ⌝ }
 {
     match r {
@@ -127,7 +127,7 @@ pub fn put_safe(b: &mut [u8], w: Writing, r: SafeReply) -> Writing
 }
 
 // The line of a card that the cabinet has.
-fn put_card(b: &mut [u8], w: Writing, cards: u32, card: u32, numbers: &[u32]) -> Writing
+fn put_card(b: &mut [u8], w: Progress, cards: u32, card: u32, numbers: &[u32]) -> Progress
     ensures { λ x. ⌜ Put (now (b .entry)) w (cond (ltb card cards) (lineOf (decimal card) (now (numbers .entry))) []) x (now (b .exit)) ⌝ }
 {
     if card < cards {
@@ -137,7 +137,7 @@ fn put_card(b: &mut [u8], w: Writing, cards: u32, card: u32, numbers: &[u32]) ->
 }
 
 // The lines of fix's card records.
-fn put_rows(b: &mut [u8], w: Writing, cards: u32, stored: [u32; 16], line: [u32; 16]) -> Writing
+fn put_rows(b: &mut [u8], w: Progress, cards: u32, stored: [u32; 16], line: [u32; 16]) -> Progress
     ensures { λ x. ⌜ Put (now (b .entry)) w (rowsText (rowsOf cards stored line)) x (now (b .exit)) ⌝ }
 {
     let mut at = w;
@@ -161,13 +161,13 @@ fn row_count(cards: u32) -> u32
 // An accepted fix, with the numbers of the changes lost.
 fn put_fixed(
     b: &mut [u8],
-    w: Writing,
+    w: Progress,
     cards: u32,
     stored: [u32; 16],
     line: [u32; 16],
     lost: &[u32],
     count: u32,
-) -> Writing
+) -> Progress
     ensures { λ x. ⌜ Put (now (b .entry)) w (fixedText cards stored line (now (lost .entry)) count) x (now (b .exit)) ⌝ }
 {
     let counts = [row_count(cards), count];
@@ -186,14 +186,14 @@ fn least(a: usize, b: usize) -> usize
 // The answer of fix, which was lent so many places of the list: the first of them hold the numbers of the changes lost.
 pub fn put_fix(
     b: &mut [u8],
-    w: Writing,
+    w: Progress,
     cards: u32,
     stored: [u32; 16],
     line: [u32; 16],
     list: [u32; 776],
     places: usize,
     r: FixReply,
-) -> Writing
+) -> Progress
     ensures { λ x. ⌜ Put (now (b .entry)) w (replyText (fixReplyOf cards stored line (take places list) r)) x (now (b .exit)) ⌝ }
 {
     match r {
@@ -207,7 +207,7 @@ pub fn put_fix(
 }
 
 // An accepted sheet: its length, and after this line its bytes.
-fn put_bytes(b: &mut [u8], w: Writing, bytes: &[u8], count: u32) -> Writing
+fn put_bytes(b: &mut [u8], w: Progress, bytes: &[u8], count: u32) -> Progress
     ensures { λ x. ⌜ Put (now (b .entry)) w (lineOf sheetWord (count ∷ []) ++ now (bytes .entry)) x (now (b .exit)) ⌝ }
 {
     let length = [count];
@@ -218,11 +218,11 @@ fn put_bytes(b: &mut [u8], w: Writing, bytes: &[u8], count: u32) -> Writing
 // The answer of sheet writing, which was lent so many bytes of the buffer: the first of them hold the sheet.
 pub fn put_sheet(
     b: &mut [u8],
-    w: Writing,
+    w: Progress,
     sheet: &[u8; 65536],
     places: usize,
     r: Written,
-) -> Writing
+) -> Progress
     ensures { λ x. ⌜ Put (now (b .entry)) w (replyText (sheetReplyOf (take places (now (sheet .entry))) r)) x (now (b .exit)) ⌝ }
 {
     match r {
@@ -237,7 +237,7 @@ pub fn put_sheet(
 }
 
 // The word of a phase.
-fn put_phase(b: &mut [u8], w: Writing, phase: Phase) -> Writing
+fn put_phase(b: &mut [u8], w: Progress, phase: Phase) -> Progress
     ensures { λ x. ⌜ Put (now (b .entry)) w (phaseName phase) x (now (b .exit)) ⌝ }
 {
     match phase {
@@ -248,7 +248,7 @@ fn put_phase(b: &mut [u8], w: Writing, phase: Phase) -> Writing
 }
 
 // The first line of show.
-fn put_head(b: &mut [u8], w: Writing, head: Head) -> Writing
+fn put_head(b: &mut [u8], w: Progress, head: Head) -> Progress
     ensures { λ x. ⌜ Put (now (b .entry)) w (headText head) x (now (b .exit)) ⌝ }
 {
     let session = [head.session];
@@ -265,13 +265,13 @@ fn put_head(b: &mut [u8], w: Writing, head: Head) -> Writing
 // The lines of the cards.
 fn put_cards(
     b: &mut [u8],
-    w: Writing,
+    w: Progress,
     cards: u32,
     base: [u32; 16],
     stored: [u32; 16],
     held: [u32; 16],
     reached: [u32; 16],
-) -> Writing
+) -> Progress
     ensures { λ x. ⌜ Put (now (b .entry)) w (cardsText cards base stored held reached) x (now (b .exit)) ⌝ }
 {
     let mut at = w;
@@ -288,13 +288,13 @@ fn put_cards(
 // What a cabinet is: session, phase, number of cards, and the four numbers of each card.
 pub fn put_show(
     b: &mut [u8],
-    w: Writing,
+    w: Progress,
     head: Head,
     base: [u32; 16],
     stored: [u32; 16],
     held: [u32; 16],
     reached: [u32; 16],
-) -> Writing
+) -> Progress
     ensures { λ x. ⌜ Put (now (b .entry)) w (showText head base stored held reached) x (now (b .exit)) ⌝ }
 {
     let cards = head.cards;

@@ -13,6 +13,9 @@ use Rattle.words.specs.declared.Spoken.{Spoken}
 use Rattle.words.specs.declared.Spoken.the-variants.{Fresh, Asks, Unreadable}
 use Rattle.answers.specs.Texts.{replyText, noneText, unreadableText}
 use Rattle.asking.specs.declared.Replay.{Replay}
+use Rattle.text.specs.declared.Progress.{Progress}
+use Rattle.text.specs.declared.Progress.the-variants.{Next, Counting, TooShort}
+use Rattle.text.specs.Put.{Whole}
 use Rattle.asking.specs.Told.{Told, Onward}
 
 -- "a fresh cabinet of N cards takes the place of the present one"; refused, it changes nothing
@@ -40,3 +43,17 @@ abbrev pub Steps : Spoken → Replay → Replay → List ℕ → Type 0
 Steps (Fresh n) r next text = Freshened n r next text
 Steps (Asks q) r next text = Asked (r .begun) q r next text
 Steps Unreadable r next text = Stays r unreadableText next text
+
+-- the replay to go on with: as it was, where the buffer is too short for the answer
+abbrev pub goingOn : Progress → (next r : Replay) → Replay
+goingOn (Next at) next r = next
+goingOn (Counting n) next r = next
+goingOn TooShort next r = r
+
+-- a line done, its answer written into the buffer b from w on: all of it and the replay goes on, or nothing is changed
+pub record Obeyed (said : Spoken) (r : Replay) (b : List ℕ) (w : Progress) (after : Replay) (x : Progress) (e : List ℕ) : Type 0 where
+  pub next : Replay
+  pub text : List ℕ
+  pub steps : Steps said r next text
+  pub put : Whole b w text x e
+  pub replay : after ≡ goingOn x next r

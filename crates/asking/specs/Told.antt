@@ -6,7 +6,7 @@ use mathlib.Core.List.{List}
 use Rattle.laws.specs.Below.{occurs, one-if}
 use Rattle.bits.specs.Member.{member}
 use Rattle.refusal.specs.declared.Refusal.the-variants.{NoSuchCard}
-use Rattle.decimal.specs.declared.Writing.{Writing}
+use Rattle.text.specs.declared.Progress.{Progress}
 use Rattle.protocol.specs.Plan.{Plan, Reply}
 use Rattle.protocol.specs.Calls.{storePlan, takePlan, votePlan, withdrawPlan, safePlan, trimPlan, rollPlan, losePlan, fixPlan, isLost}
 use Rattle.protocol.specs.Codec.{sheetPlan}
@@ -20,15 +20,15 @@ use Rattle.cabinet.specs.Apply.{applyAll, OpenCarried}
 use Rattle.joined.specs.Joined.{FromOwnSheets}
 use Rattle.words.specs.declared.Request.{Request}
 use Rattle.words.specs.declared.Request.the-variants.{Open, Vote, Take, Withdraw, Store, Trim, Safe, Lose, Fix, Roll, Sheet, Restart, Show}
-use Rattle.text.specs.Put.{Put}
+use Rattle.text.specs.Put.{Whole}
 use Rattle.answers.specs.Texts.{refusedText, replyText}
 use Rattle.answers.specs.Show.{showText}
 
--- the text of some answer, written into the buffer b from w on
-pub record Written (Told : List ℕ → Type 0) (b : List ℕ) (w r : Writing) (e : List ℕ) : Type 0 where
+-- the text of some answer, written into the buffer b from w on where it has room
+pub record Written (Told : List ℕ → Type 0) (b : List ℕ) (w r : Progress) (e : List ℕ) : Type 0 where
   pub text : List ℕ
   pub told : Told text
-  pub put : Put b w text r e
+  pub put : Whole b w text r e
 
 -- after a call there is a cabinet, and this is told of it
 pub record Onward (Told : Cabinet → List ℕ → Type 0) (next : Replay) (text : List ℕ) : Type 0 where

@@ -15,15 +15,15 @@ ghost use Rattle.asking.specs.Told.{Planned, OpenTold, LoseTold, FixSaid
 use crate::Replay;
 use crate::Stepped;
 use cabinet::Cabinet;
-use decimal::Writing;
 use records::CardRecord;
 use refusal::Refusal;
+use text::Progress;
 
 // The call is refused for a card that no cabinet has.
-fn no_such_card(c: Cabinet, b: &mut [u8], w: Writing) -> Stepped
+fn no_such_card(c: Cabinet, b: &mut [u8], w: Progress) -> Stepped
     ensures { λ r. ⌜ Written (Onward (Kept c (refusedText NoSuchCard)) (r .replay)) (now (b .entry)) w (r .written) (now (b .exit)) ⌝ }
 {
-    let written = answers::put_refusal(b, w, Refusal::NoSuchCard);
+    let written = whole::put_refusal(b, w, Refusal::NoSuchCard);
     let replay = Replay {
         cabinet: c,
         begun: true,
@@ -32,7 +32,7 @@ fn no_such_card(c: Cabinet, b: &mut [u8], w: Writing) -> Stepped
 }
 
 // 1. open: a set over 65535 names a card that no cabinet has.
-pub fn open(c: Cabinet, reads: u32, writes: u32, b: &mut [u8], w: Writing) -> Stepped
+pub fn open(c: Cabinet, reads: u32, writes: u32, b: &mut [u8], w: Progress) -> Stepped
     ensures { λ r. ⌜ Written (Onward (OpenTold c reads writes) (r .replay)) (now (b .entry)) w (r .written) (now (b .exit)) ⌝ }
 {
     if 65535 < reads {
@@ -43,7 +43,7 @@ pub fn open(c: Cabinet, reads: u32, writes: u32, b: &mut [u8], w: Writing) -> St
     }
     let a = c.open(reads as u16, writes as u16);
     let r = a.reply;
-    let written = answers::put_open(b, w, r);
+    let written = whole::put_open(b, w, r);
     let cabinet = a.cabinet;
     let replay = Replay {
         cabinet,
@@ -53,12 +53,12 @@ pub fn open(c: Cabinet, reads: u32, writes: u32, b: &mut [u8], w: Writing) -> St
 }
 
 // 2. vote
-pub fn vote(c: Cabinet, change: u32, card: u32, agrees: bool, b: &mut [u8], w: Writing) -> Stepped
+pub fn vote(c: Cabinet, change: u32, card: u32, agrees: bool, b: &mut [u8], w: Progress) -> Stepped
     ensures { λ r. ⌜ Written (Onward (Planned c (votePlan limits16 (view c) change card agrees)) (r .replay)) (now (b .entry)) w (r .written) (now (b .exit)) ⌝ }
 {
     let a = c.vote(change, card, agrees);
     let r = a.reply;
-    let written = answers::put_reply(b, w, r);
+    let written = whole::put_reply(b, w, r);
     let cabinet = a.cabinet;
     let replay = Replay {
         cabinet,
@@ -68,12 +68,12 @@ pub fn vote(c: Cabinet, change: u32, card: u32, agrees: bool, b: &mut [u8], w: W
 }
 
 // 3. take
-pub fn take(c: Cabinet, change: u32, card: u32, b: &mut [u8], w: Writing) -> Stepped
+pub fn take(c: Cabinet, change: u32, card: u32, b: &mut [u8], w: Progress) -> Stepped
     ensures { λ r. ⌜ Written (Onward (Planned c (takePlan limits16 (view c) change card)) (r .replay)) (now (b .entry)) w (r .written) (now (b .exit)) ⌝ }
 {
     let a = c.take(change, card);
     let r = a.reply;
-    let written = answers::put_reply(b, w, r);
+    let written = whole::put_reply(b, w, r);
     let cabinet = a.cabinet;
     let replay = Replay {
         cabinet,
@@ -83,12 +83,12 @@ pub fn take(c: Cabinet, change: u32, card: u32, b: &mut [u8], w: Writing) -> Ste
 }
 
 // 4. withdraw
-pub fn withdraw(c: Cabinet, change: u32, b: &mut [u8], w: Writing) -> Stepped
+pub fn withdraw(c: Cabinet, change: u32, b: &mut [u8], w: Progress) -> Stepped
     ensures { λ r. ⌜ Written (Onward (Planned c (withdrawPlan limits16 (view c) change)) (r .replay)) (now (b .entry)) w (r .written) (now (b .exit)) ⌝ }
 {
     let a = c.withdraw(change);
     let r = a.reply;
-    let written = answers::put_reply(b, w, r);
+    let written = whole::put_reply(b, w, r);
     let cabinet = a.cabinet;
     let replay = Replay {
         cabinet,
@@ -98,12 +98,12 @@ pub fn withdraw(c: Cabinet, change: u32, b: &mut [u8], w: Writing) -> Stepped
 }
 
 // 5. store
-pub fn store(c: Cabinet, card: u32, state: u32, b: &mut [u8], w: Writing) -> Stepped
+pub fn store(c: Cabinet, card: u32, state: u32, b: &mut [u8], w: Progress) -> Stepped
     ensures { λ r. ⌜ Written (Onward (Planned c (storePlan limits16 (view c) card state)) (r .replay)) (now (b .entry)) w (r .written) (now (b .exit)) ⌝ }
 {
     let a = c.store(card, state);
     let r = a.reply;
-    let written = answers::put_reply(b, w, r);
+    let written = whole::put_reply(b, w, r);
     let cabinet = a.cabinet;
     let replay = Replay {
         cabinet,
@@ -113,12 +113,12 @@ pub fn store(c: Cabinet, card: u32, state: u32, b: &mut [u8], w: Writing) -> Ste
 }
 
 // 6. trim
-pub fn trim(c: Cabinet, b: &mut [u8], w: Writing) -> Stepped
+pub fn trim(c: Cabinet, b: &mut [u8], w: Progress) -> Stepped
     ensures { λ r. ⌜ Written (Onward (Planned c (trimPlan limits16 (view c))) (r .replay)) (now (b .entry)) w (r .written) (now (b .exit)) ⌝ }
 {
     let a = c.trim();
     let r = a.reply;
-    let written = answers::put_reply(b, w, r);
+    let written = whole::put_reply(b, w, r);
     let cabinet = a.cabinet;
     let replay = Replay {
         cabinet,
@@ -128,12 +128,12 @@ pub fn trim(c: Cabinet, b: &mut [u8], w: Writing) -> Stepped
 }
 
 // 7. safe
-pub fn safe(c: Cabinet, change: u32, b: &mut [u8], w: Writing) -> Stepped
+pub fn safe(c: Cabinet, change: u32, b: &mut [u8], w: Progress) -> Stepped
     ensures { λ r. ⌜ Written (Onward (Planned c (safePlan limits16 (view c) change)) (r .replay)) (now (b .entry)) w (r .written) (now (b .exit)) ⌝ }
 {
     let a = c.safe(change);
     let r = a.reply;
-    let written = answers::put_safe(b, w, r);
+    let written = whole::put_safe(b, w, r);
     let cabinet = a.cabinet;
     let replay = Replay {
         cabinet,
@@ -143,7 +143,7 @@ pub fn safe(c: Cabinet, change: u32, b: &mut [u8], w: Writing) -> Stepped
 }
 
 // 8. lose: a set over 65535 names a card that no cabinet has.
-pub fn lose(c: Cabinet, cards: u32, b: &mut [u8], w: Writing) -> Stepped
+pub fn lose(c: Cabinet, cards: u32, b: &mut [u8], w: Progress) -> Stepped
     ensures { λ r. ⌜ Written (Onward (LoseTold c cards) (r .replay)) (now (b .entry)) w (r .written) (now (b .exit)) ⌝ }
 {
     if 65535 < cards {
@@ -151,7 +151,7 @@ pub fn lose(c: Cabinet, cards: u32, b: &mut [u8], w: Writing) -> Stepped
     }
     let a = c.lose(cards as u16);
     let r = a.reply;
-    let written = answers::put_reply(b, w, r);
+    let written = whole::put_reply(b, w, r);
     let cabinet = a.cabinet;
     let replay = Replay {
         cabinet,
@@ -187,7 +187,7 @@ fn blank_records() -> [CardRecord; 16]
 }
 
 // 9. fix: the list for card records has at most 16 places, that for change numbers at most 776.
-pub fn fix(c: Cabinet, records: u32, numbers: u32, b: &mut [u8], w: Writing) -> Stepped
+pub fn fix(c: Cabinet, records: u32, numbers: u32, b: &mut [u8], w: Progress) -> Stepped
     ensures { λ r. ⌜ Written (Onward (FixSaid c (min records 16) (min numbers 776)) (r .replay)) (now (b .entry)) w (r .written) (now (b .exit)) ⌝ }
 {
     let core = c.core;
@@ -202,7 +202,7 @@ pub fn fix(c: Cabinet, records: u32, numbers: u32, b: &mut [u8], w: Writing) -> 
     let cabinet = a.cabinet;
     let stored = cabinet.core.stored;
     let line = cabinet.core.line;
-    let written = answers::put_fix(b, w, cards, stored, line, list, places, r);
+    let written = whole::put_fix(b, w, cards, stored, line, list, places, r);
     let replay = Replay {
         cabinet,
         begun: true,
@@ -211,12 +211,12 @@ pub fn fix(c: Cabinet, records: u32, numbers: u32, b: &mut [u8], w: Writing) -> 
 }
 
 // 10. roll
-pub fn roll(c: Cabinet, card: u32, b: &mut [u8], w: Writing) -> Stepped
+pub fn roll(c: Cabinet, card: u32, b: &mut [u8], w: Progress) -> Stepped
     ensures { λ r. ⌜ Written (Onward (Planned c (rollPlan limits16 (view c) card)) (r .replay)) (now (b .entry)) w (r .written) (now (b .exit)) ⌝ }
 {
     let a = c.roll(card);
     let r = a.reply;
-    let written = answers::put_reply(b, w, r);
+    let written = whole::put_reply(b, w, r);
     let cabinet = a.cabinet;
     let replay = Replay {
         cabinet,
@@ -240,14 +240,14 @@ fn blank_buffer() -> [u8; 65536]
 }
 
 // A card's sheet: the buffer has at most 65,536 bytes.
-pub fn sheet(c: Cabinet, card: u32, bytes: u32, b: &mut [u8], w: Writing) -> Stepped
+pub fn sheet(c: Cabinet, card: u32, bytes: u32, b: &mut [u8], w: Progress) -> Stepped
     ensures { λ r. ⌜ Written (Onward (Planned c (sheetPlan codec limits16 (view c) card (min bytes 65536))) (r .replay)) (now (b .entry)) w (r .written) (now (b .exit)) ⌝ }
 {
     let mut buffer = blank_buffer();
     let places = lent_bytes(bytes);
     let a = c.sheet(card, &mut buffer[0..places]);
     let r = a.reply;
-    let written = answers::put_sheet(b, w, &buffer, places, r);
+    let written = whole::put_sheet(b, w, &buffer, places, r);
     let cabinet = a.cabinet;
     let replay = Replay {
         cabinet,
@@ -257,12 +257,12 @@ pub fn sheet(c: Cabinet, card: u32, bytes: u32, b: &mut [u8], w: Writing) -> Ste
 }
 
 // The result takes the cabinet's place.
-pub fn restart(c: Cabinet, b: &mut [u8], w: Writing) -> Stepped
+pub fn restart(c: Cabinet, b: &mut [u8], w: Progress) -> Stepped
     ensures { λ r. ⌜ Written (Onward (RestartTold c) (r .replay)) (now (b .entry)) w (r .written) (now (b .exit)) ⌝ }
 {
     let a = joined::restart(c);
     let r = a.reply;
-    let written = answers::put_reply(b, w, r);
+    let written = whole::put_reply(b, w, r);
     let cabinet = a.cabinet;
     let replay = Replay {
         cabinet,
@@ -272,7 +272,7 @@ pub fn restart(c: Cabinet, b: &mut [u8], w: Writing) -> Stepped
 }
 
 // What the cabinet is.
-pub fn show(c: Cabinet, b: &mut [u8], w: Writing) -> Stepped
+pub fn show(c: Cabinet, b: &mut [u8], w: Progress) -> Stepped
     ensures { λ r. ⌜ Written (Onward (Kept c (showText (c .core .head) (c .core .base) (c .core .stored) (c .core .held) (c .core .reached))) (r .replay)) (now (b .entry)) w (r .written) (now (b .exit)) ⌝ }
 {
     let core = c.core;
@@ -281,7 +281,7 @@ pub fn show(c: Cabinet, b: &mut [u8], w: Writing) -> Stepped
     let stored = core.stored;
     let held = core.held;
     let reached = core.reached;
-    let written = answers::put_show(b, w, head, base, stored, held, reached);
+    let written = whole::put_show(b, w, head, base, stored, held, reached);
     let replay = Replay {
         cabinet: c,
         begun: true,

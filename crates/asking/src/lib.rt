@@ -1,9 +1,9 @@
 // The lines of a list: a call on the present cabinet, a fresh one, or none of them, each with its answer written.
 ghost use Rattle.answers.specs.Texts.{noneText, unreadableText};
 ghost use Rattle.asking.specs.Told.{Written};
-ghost use Rattle.asking.specs.Step.{Steps, Stays, Freshened};
+ghost use Rattle.asking.specs.Step.{Steps, Stays, Freshened, Obeyed};
 use cabinet::Cabinet;
-use decimal::Writing;
+use text::Progress;
 use verdicts::Reply;
 use words::Request;
 use words::Spoken;
@@ -19,16 +19,16 @@ pub struct Replay {
 // A replay after a line, and how far the answers are written.
 pub struct Stepped {
     pub replay: Replay,
-    pub written: Writing,
+    pub written: Progress,
 }
 
 // A fresh cabinet in the place of the present one.
-fn freshen(r: Replay, cards: u32, b: &mut [u8], w: Writing) -> Stepped
+fn freshen(r: Replay, cards: u32, b: &mut [u8], w: Progress) -> Stepped
     ensures { λ s. ⌜ Written (Freshened cards r (s .replay)) (now (b .entry)) w (s .written) (now (b .exit)) ⌝ }
 {
     let a = Cabinet::fresh(cards);
     let reply = a.reply;
-    let written = answers::put_reply(b, w, reply);
+    let written = whole::put_reply(b, w, reply);
     match reply {
         Reply::Done => {
             let cabinet = a.cabinet;
@@ -43,24 +43,24 @@ fn freshen(r: Replay, cards: u32, b: &mut [u8], w: Writing) -> Stepped
 }
 
 // The replay stays, and there is no cabinet yet.
-fn none(r: Replay, b: &mut [u8], w: Writing) -> Stepped
+fn none(r: Replay, b: &mut [u8], w: Progress) -> Stepped
     ensures { λ s. ⌜ Written (Stays r noneText (s .replay)) (now (b .entry)) w (s .written) (now (b .exit)) ⌝ }
 {
-    let written = answers::put_none(b, w);
+    let written = whole::put_none(b, w);
     Stepped { replay: r, written }
 }
 
 // The replay stays, and the line can't be read.
-fn unreadable(r: Replay, b: &mut [u8], w: Writing) -> Stepped
+fn unreadable(r: Replay, b: &mut [u8], w: Progress) -> Stepped
     ensures { λ s. ⌜ Written (Stays r unreadableText (s .replay)) (now (b .entry)) w (s .written) (now (b .exit)) ⌝ }
 {
-    let written = answers::put_unreadable(b, w);
+    let written = whole::put_unreadable(b, w);
     Stepped { replay: r, written }
 }
 
-// What a line says is done, and its answer written after those before. The cabinet goes by value, so all calls are made
-// from here: a function between would copy it in and out once more.
-pub fn obey(r: Replay, said: Spoken, b: &mut [u8], w: Writing) -> Stepped
+// What a line says is done, and its answer written after those before, where it has room. The cabinet goes by value, so all
+// calls are made from here: a function between would copy it in and out once more.
+pub fn done(r: Replay, said: Spoken, b: &mut [u8], w: Progress) -> Stepped
     ensures { λ s. ⌜ Written (Steps said r (s .replay)) (now (b .entry)) w (s .written) (now (b .exit)) ⌝ }
 {
     match said {
@@ -93,4 +93,20 @@ pub fn obey(r: Replay, said: Spoken, b: &mut [u8], w: Writing) -> Stepped
             }
         }
     }
+}
+
+// The same, but that nothing is done where the answer has no room.
+pub fn obey(r: Replay, said: Spoken, b: &mut [u8], w: Progress) -> Stepped
+    ensures { λ s. ⌜ Obeyed said r (now (b .entry)) w (s .replay) (s .written) (now (b .exit)) ⌝ }
+{
+    let mut s = done(r, said, b, w);
+    let x = s.written;
+    match x {
+        Progress::Next(_) => {}
+        Progress::Counting(_) => {}
+        Progress::TooShort => {
+            s.replay = r;
+        }
+    }
+    s
 }

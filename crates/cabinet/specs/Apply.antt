@@ -5,6 +5,7 @@ use mathlib.Core.Bool.{true}
 use mathlib.Core.List.{List, [], _∷_}
 use Rattle.laws.specs.Below.{anyBelow}
 use Rattle.bits.specs.Member.{member}
+use Rattle.bits.specs.Sets.{firstBelow}
 use Rattle.protocol.specs.Edit.{Edit}
 use Rattle.protocol.specs.Plan.{Plan, Reply}
 use Rattle.protocol.specs.Calls.{barred, openPlan}
@@ -30,8 +31,9 @@ pub record Carried (s : Cabinet) (p : Plan) (reply : Reply) (next : Cabinet) : T
   pub answer : reply ≡ p .reply
   pub cabinet : next ≡ applyAll (p .edits) s
 
--- open: for some card, touched and barred where 21 is answered, the plan at that card
+-- open: for the lowest card that is touched and barred, where 21 is answered, the plan at that card
 pub record OpenCarried (s : Cabinet) (reads writes : ℕ) (reply : Reply) (next : Cabinet) : Type 0 where
   pub named : ℕ
   pub isBarred : anyBelow (limits16 .width) (barred limits16 (view s) (member reads) (member writes)) ≡ true → barred limits16 (view s) (member reads) (member writes) named ≡ true
+  pub lowest : named ≡ firstBelow (limits16 .width) (barred limits16 (view s) (member reads) (member writes))
   pub carried : Carried s (openPlan limits16 (view s) (member reads) (member writes) named) reply next

@@ -9,6 +9,7 @@ use lib.Seq.{sets}
 use Rattle.limits.specs.Document.{mostCards}
 use Rattle.laws.specs.Below.{anyBelow}
 use Rattle.bits.specs.Member.{member}
+use Rattle.bits.specs.Sets.{firstBelow}
 use Rattle.history.specs.Change.{CardSet}
 use Rattle.protocol.specs.Model.{Model, freePlace, withCard, isUp, placeOf, freeAt}
 use Rattle.protocol.specs.Sound.{sound}
@@ -70,8 +71,9 @@ openOn whole s reads writes named =
     judged whole (openChecks limits16 (alone s) reads writes named) (opened (suc (alone s .count)))
     (place (freeAt limits16 (alone s)) (openedChange (suc (alone s .count)) reads writes) ∷ count (suc (alone s .count)) ∷ [])
 
--- open: for some card, touched and barred where 21 is answered, the plan at that card
+-- open: for the lowest card that is touched and barred, where 21 is answered, the plan at that card
 pub record OpenCarriedOn (whole : Bool) (s : Core) (reads writes : ℕ) (reply : Reply) (next : Core) : Type 0 where
   pub named : ℕ
   pub isBarred : anyBelow (limits16 .width) (barred limits16 (alone s) (member reads) (member writes)) ≡ true → barred limits16 (alone s) (member reads) (member writes) named ≡ true
+  pub lowest : named ≡ firstBelow (limits16 .width) (barred limits16 (alone s) (member reads) (member writes))
   pub carried : CoreCarried s (openOn whole s (member reads) (member writes) named) reply next

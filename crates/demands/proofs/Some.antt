@@ -10,7 +10,11 @@ use lib.ListN.{length, take, drop}
 use lib.Seq.{sets, sets-eq, length-sets, take-at}
 use borrow.Author.Tests.{lt-ltb, ltb-false}
 use Rattle.refusal.specs.declared.Refusal.{Refusal}
-use Rattle.laws.specs.Below.{occurs, one-if}
+use Rattle.laws.specs.Below.{anyBelow, occurs, one-if}
+use Rattle.laws.proofs.Below.{Found, any-elim}
+use Rattle.bits.specs.Sets.{firstBelow}
+use Rattle.bits.proofs.Sets.{first-at, first-some}
+use Rattle.history.specs.Change.{CardSet}
 use Rattle.laws.proofs.Logic.{clash, fails, or-right}
 use Rattle.bits.specs.Member.{member}
 use Rattle.frame.specs.Format.{formats}
@@ -20,7 +24,7 @@ use Rattle.protocol.specs.Model.{Model}
 use Rattle.protocol.specs.Edit.{Edit}
 use Rattle.protocol.specs.Edit as edit
 use Rattle.protocol.specs.Plan.{CardRow, fixed, written, Reply, accepted, refused, Check, Plan, checked, Passed}
-use Rattle.protocol.specs.Calls.{lines, isLost, cardRows, openPlan, fixChecks, fixPlan}
+use Rattle.protocol.specs.Calls.{barred, lines, isLost, cardRows, openPlan, fixChecks, fixPlan}
 use Rattle.protocol.specs.Codec.{sheetChecks, sheetPlan}
 use Rattle.protocol.specs.Run as run
 use Rattle.protocol.specs.Choices.{chosen}
@@ -210,14 +214,24 @@ module _ (s : Cabinet) (c : ℕ) (buffer : List ℕ) where
   pub sheet-by : ReachedBy s (sheet c buffer) written-plan
   sheet-by = checked-case (λ (p : Plan). written-plan ≡ p → ReachedBy s (sheet c buffer) written-plan) (sheetChecks codec limits16 (view s) c (length buffer)) (written bytes) [] sheet-refused sheet-done refl
 
+-- ---- open
+abbrev lowest-barred : Cabinet → (reads writes : ℕ) → ℕ
+lowest-barred s reads writes = firstBelow (limits16 .width) (barred limits16 (view s) (member reads) (member writes))
+
+pub lowest-is-barred : (s : Cabinet) (reads writes : ℕ) → anyBelow (limits16 .width) (barred limits16 (view s) (member reads) (member writes)) ≡ true
+    → barred limits16 (view s) (member reads) (member writes) (firstBelow (limits16 .width) (barred limits16 (view s) (member reads) (member writes))) ≡ true
+lowest-is-barred s reads writes e =
+    let p : CardSet = barred limits16 (view s) (member reads) (member writes) in
+    let f : Found (limits16 .width) p = any-elim (limits16 .width) p e in
+    first-at (limits16 .width) p (omega (arith, f .1, first-some (limits16 .width) p (f .0) (f .1) (f .2)))
+
 pub some : (s : Cabinet) (asked : Asked) → Reached s asked
 some s (opening reads writes) =
-    let x : ℕ = chosen limits16 (view s) (run.openCall (member reads) (member writes)) .named in
     record {
-      reply = openPlan limits16 (view s) (member reads) (member writes) x .reply;
-      next = applyAll (openPlan limits16 (view s) (member reads) (member writes) x .edits) s;
+      reply = openPlan limits16 (view s) (member reads) (member writes) (lowest-barred s reads writes) .reply;
+      next = applyAll (openPlan limits16 (view s) (member reads) (member writes) (lowest-barred s reads writes) .edits) s;
       after = nothingLent;
-      answered = (record { named = x; isBarred = λ e. choosable limits16 (view s) (run.openCall (member reads) (member writes)) e .1; carried = record { answer = refl; cabinet = refl } }, refl);
+      answered = (record { named = lowest-barred s reads writes; isBarred = lowest-is-barred s reads writes; lowest = refl; carried = record { answer = refl; cabinet = refl } }, refl);
     }
 some s (vote k c agrees) = record { reply = _; next = _; after = nothingLent; answered = (record { answer = refl; cabinet = refl }, refl) }
 some s (takes k c) = record { reply = _; next = _; after = nothingLent; answered = (record { answer = refl; cabinet = refl }, refl) }

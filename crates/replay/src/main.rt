@@ -3,7 +3,7 @@
 ghost use Prim.Native.Nat.{_<_, _≤_};
 ghost use lib.ListN.{length};
 use asking::Replay;
-use decimal::Writing;
+use text::Progress;
 
 // The replay, the bytes of a line that has not ended yet (129 of them tell that it is too long), and whether a read or a
 // write failed.
@@ -28,10 +28,11 @@ struct Turned {
 }
 
 // Prints the answer to a line; false where that failed.
-fn print(out: &[u8], w: Writing) -> bool {
+fn print(out: &[u8], w: Progress) -> bool {
     match w {
-        Writing::Next(n) => n <= out.len() && streams::print(&out[0..n]),
-        Writing::TooShort => false,
+        Progress::Next(n) => n <= out.len() && streams::print(&out[0..n]),
+        Progress::Counting(_) => false,
+        Progress::TooShort => false,
     }
 }
 
@@ -95,7 +96,7 @@ fn feed(f: Reader, part: &[u8], out: &mut [u8]) -> Reader {
             };
         }
         let said = words::says(&line[0..n]);
-        let s = asking::obey(r, said, out, Writing::Next(0));
+        let s = asking::obey(r, said, out, Progress::Next(0));
         let w = s.written;
         r = s.replay;
         if !print(out, w) {
@@ -141,7 +142,7 @@ fn do_rest(r: Replay, line: &[u8], count: usize) {
         if count <= line.len() {
             let mut out = io::large_buffer();
             let said = words::says(&line[0..count]);
-            let s = asking::obey(r, said, &mut out, Writing::Next(0));
+            let s = asking::obey(r, said, &mut out, Progress::Next(0));
             let w = s.written;
             print(&out, w);
         }

@@ -2,7 +2,7 @@
 use crate::Tally;
 use crate::unpack;
 use asking::Replay;
-use decimal::Writing;
+use text::Progress;
 
 // The replay after a line, and what was matched with it.
 struct Matched {
@@ -17,10 +17,11 @@ pub struct Lists {
 }
 
 // How many bytes are written.
-fn written(w: Writing) -> usize {
+fn written(w: Progress) -> usize {
     match w {
-        Writing::Next(n) => n,
-        Writing::TooShort => 0,
+        Progress::Next(n) => n,
+        Progress::Counting(_) => 0,
+        Progress::TooShort => 0,
     }
 }
 

@@ -3,8 +3,8 @@
 // last ones.
 ghost use Prim.Native.Nat.{_<_};
 use asking::Replay;
-use decimal::Writing;
 use libc::STDOUT_FILENO;
+use text::Progress;
 
 // A line that is being put together.
 struct Line {
@@ -12,14 +12,15 @@ struct Line {
     count: usize,
 }
 
-fn print(out: &[u8], w: Writing) {
+fn print(out: &[u8], w: Progress) {
     match w {
-        Writing::Next(n) => {
+        Progress::Next(n) => {
             if n <= out.len() {
                 io::write_all(STDOUT_FILENO, &out[0..n]);
             }
         }
-        Writing::TooShort => {}
+        Progress::Counting(_) => {}
+        Progress::TooShort => {}
     }
 }
 

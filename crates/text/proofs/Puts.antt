@@ -12,13 +12,13 @@ use lib.Seq.{sets, length-sets, take-all, take-suc, take-append-le, take-append-
 use borrow.Author.Tests.{le-leb, lt-leb, leb-true, leb-false}
 use Rattle.laws.proofs.Logic.{test}
 use Rattle.laws.proofs.Seq.{sets-append}
-use Rattle.decimal.specs.declared.Writing.{Writing}
-use Rattle.decimal.specs.declared.Writing.the-variants.{Next, TooShort}
-use Rattle.text.specs.Put.{placeAfter, bufferAfter, Put}
+use Rattle.text.specs.declared.Progress.{Progress}
+use Rattle.text.specs.declared.Progress.the-variants.{Next, Counting, TooShort}
+use Rattle.text.specs.Put.{greatest, countedOn, placeAfter, bufferAfter, Put}
 
 -- ---- a text that has room, and one that has none
 
-abbrev placed : Bool → ℕ → Writing
+abbrev placed : Bool → ℕ → Progress
 placed fits next = cond fits (Next next) TooShort
 
 pub place-fits : (size at : ℕ) (t : List ℕ) → length t ≤ size - at → placeAfter size (Next at) t ≡ Next (at + length t)
@@ -33,9 +33,18 @@ buffer-fits b at t h = ap (sets b at) (take-all (length b - at) t h)
 length-after : (b : List ℕ) (at : ℕ) (t : List ℕ) → length (bufferAfter b (Next at) t) ≡ length b
 length-after b at t = length-sets b at (take (length b - at) t)
 
+-- ---- what can be counted, and what can't
+
+pub count-fits : (n k : ℕ) → k ≤ greatest - n → countedOn n k ≡ Counting (n + k)
+count-fits n k h = ap (λ (b : Bool). cond b (Counting (n + k)) TooShort) (le-leb k (greatest - n) h)
+
+pub count-cut : (n k : ℕ) → greatest - n < k → countedOn n k ≡ TooShort
+count-cut n k h = ap (λ (b : Bool). cond b (Counting (n + k)) TooShort) (lt-leb k (greatest - n) h)
+
 -- nothing
-pub put-nothing : (b : List ℕ) (w : Writing) → Put b w [] w b
+pub put-nothing : (b : List ℕ) (w : Progress) → Put b w [] w b
 put-nothing b (Next at) = record { answer = sym (place-fits (length b) at [] (omega arith) ∙ ap Next (add-zero at)); buffer = sym (buffer-fits b at [] (omega arith)) }
+put-nothing b (Counting n) = record { answer = sym (count-fits n 0 (omega arith) ∙ ap Counting (add-zero n)); buffer = refl }
 put-nothing b TooShort = record { answer = refl; buffer = refl }
 
 -- ---- one text after another
@@ -45,8 +54,8 @@ module _ (b : List ℕ) (at : ℕ) (t u : List ℕ) where
       → (placeAfter (length (bufferAfter b (Next at) t)) (placeAfter (length b) (Next at) t) u ≡ placeAfter (length b) (Next at) (t ++ u))
       × (bufferAfter (bufferAfter b (Next at) t) (placeAfter (length b) (Next at) t) u ≡ bufferAfter b (Next at) (t ++ u))
   then-fits h = (
-    ap₂ (λ (n : ℕ) (w : Writing). placeAfter n w u) (length-after b at t) (place-fits (length b) at t h) ∙ same-place,
-    ap₂ (λ (l : List ℕ) (w : Writing). bufferAfter l w u) (buffer-fits b at t h) (place-fits (length b) at t h) ∙ same-buffer,
+    ap₂ (λ (n : ℕ) (w : Progress). placeAfter n w u) (length-after b at t) (place-fits (length b) at t h) ∙ same-place,
+    ap₂ (λ (l : List ℕ) (w : Progress). bufferAfter l w u) (buffer-fits b at t h) (place-fits (length b) at t h) ∙ same-buffer,
   )
     where
       long : length (t ++ u) ≡ length t + length u
@@ -75,30 +84,61 @@ module _ (b : List ℕ) (at : ℕ) (t u : List ℕ) where
       → (placeAfter (length (bufferAfter b (Next at) t)) (placeAfter (length b) (Next at) t) u ≡ placeAfter (length b) (Next at) (t ++ u))
       × (bufferAfter (bufferAfter b (Next at) t) (placeAfter (length b) (Next at) t) u ≡ bufferAfter b (Next at) (t ++ u))
   then-cut h = (
-    ap (λ (w : Writing). placeAfter (length (bufferAfter b (Next at) t)) w u) (place-cut (length b) at t h) ∙ sym (place-cut (length b) at (t ++ u) (omega (arith, length-append t u))),
-    ap (λ (w : Writing). bufferAfter (bufferAfter b (Next at) t) w u) (place-cut (length b) at t h) ∙ sym (ap (sets b at) (take-append-le (length b - at) t u (omega arith))),
+    ap (λ (w : Progress). placeAfter (length (bufferAfter b (Next at) t)) w u) (place-cut (length b) at t h) ∙ sym (place-cut (length b) at (t ++ u) (omega (arith, length-append t u))),
+    ap (λ (w : Progress). bufferAfter (bufferAfter b (Next at) t) w u) (place-cut (length b) at t h) ∙ sym (ap (sets b at) (take-append-le (length b - at) t u (omega arith))),
   )
 
-then-both : (b : List ℕ) (w : Writing) (t u : List ℕ)
+-- a text is counted after another
+count-then : (b : List ℕ) (n : ℕ) (t u : List ℕ)
+    → (placeAfter (length b) (countedOn n (length t)) u ≡ countedOn n (length (t ++ u))) × (bufferAfter b (countedOn n (length t)) u ≡ b)
+count-then b n t u =
+    test (leb (length t) (greatest - n))
+    (λ e.
+    let f : length t ≤ greatest - n = leb-true (length t) (greatest - n) e in (
+      ap (λ (w : Progress). placeAfter (length b) w u) (count-fits n (length t) f) ∙ further f,
+      ap (λ (w : Progress). bufferAfter b w u) (count-fits n (length t) f),
+    ))
+    (λ e.
+    let f : greatest - n < length t = leb-false (length t) (greatest - n) e in (
+      ap (λ (w : Progress). placeAfter (length b) w u) (count-cut n (length t) f) ∙ sym (count-cut n (length (t ++ u)) (omega (arith, long))),
+      ap (λ (w : Progress). bufferAfter b w u) (count-cut n (length t) f),
+    ))
+  where
+    long : length (t ++ u) ≡ length t + length u
+    long = length-append t u
+
+    further : length t ≤ greatest - n → countedOn (n + length t) (length u) ≡ countedOn n (length (t ++ u))
+    further f =
+        test (leb (length u) (greatest - (n + length t)))
+        (λ e.
+        let g : length u ≤ greatest - (n + length t) = leb-true (length u) (greatest - (n + length t)) e in
+        count-fits (n + length t) (length u) g ∙ ap Counting (add-assoc n (length t) (length u) ∙ ap (λ (k : ℕ). n + k) (sym long))
+        ∙ sym (count-fits n (length (t ++ u)) (omega (arith, long))))
+        (λ e.
+        let g : greatest - (n + length t) < length u = leb-false (length u) (greatest - (n + length t)) e in
+        count-cut (n + length t) (length u) g ∙ sym (count-cut n (length (t ++ u)) (omega (arith, long))))
+
+then-both : (b : List ℕ) (w : Progress) (t u : List ℕ)
     → (placeAfter (length (bufferAfter b w t)) (placeAfter (length b) w t) u ≡ placeAfter (length b) w (t ++ u))
     × (bufferAfter (bufferAfter b w t) (placeAfter (length b) w t) u ≡ bufferAfter b w (t ++ u))
 then-both b (Next at) t u = test (leb (length t) (length b - at)) (λ e. then-fits b at t u (leb-true (length t) (length b - at) e)) (λ e. then-cut b at t u (leb-false (length t) (length b - at) e))
+then-both b (Counting n) t u = count-then b n t u
 then-both b TooShort t u = (refl, refl)
 
-pub put-then : {b : List ℕ} {w : Writing} {t : List ℕ} {r : Writing} {e u : List ℕ} {x : Writing} {f : List ℕ} → Put b w t r e → Put e r u x f → Put b w (t ++ u) x f
+pub put-then : {b : List ℕ} {w : Progress} {t : List ℕ} {r : Progress} {e u : List ℕ} {x : Progress} {f : List ℕ} → Put b w t r e → Put e r u x f → Put b w (t ++ u) x f
 put-then {b} {w} {t} {r} {e} {u} {x} {f} p q =
     record {
-      answer = q .answer ∙ ap₂ (λ (l : List ℕ) (y : Writing). placeAfter (length l) y u) (p .buffer) (p .answer) ∙ then-both b w t u .0;
-      buffer = q .buffer ∙ ap₂ (λ (l : List ℕ) (y : Writing). bufferAfter l y u) (p .buffer) (p .answer) ∙ then-both b w t u .1;
+      answer = q .answer ∙ ap₂ (λ (l : List ℕ) (y : Progress). placeAfter (length l) y u) (p .buffer) (p .answer) ∙ then-both b w t u .0;
+      buffer = q .buffer ∙ ap₂ (λ (l : List ℕ) (y : Progress). bufferAfter l y u) (p .buffer) (p .answer) ∙ then-both b w t u .1;
     }
 
 -- the same text, said otherwise
-pub put-as : {b : List ℕ} {w : Writing} {t u : List ℕ} {r : Writing} {e : List ℕ} → t ≡ u → Put b w t r e → Put b w u r e
+pub put-as : {b : List ℕ} {w : Progress} {t u : List ℕ} {r : Progress} {e : List ℕ} → t ≡ u → Put b w t r e → Put b w u r e
 put-as {b} {w} {t} {u} {r} {e} q p = subst (λ (l : List ℕ). Put b w l r e) q p
 
 -- the same place, said otherwise
-pub put-from : {b : List ℕ} {w v : Writing} {t : List ℕ} {r : Writing} {e : List ℕ} → w ≡ v → Put b v t r e → Put b w t r e
-put-from {b} {w} {v} {t} {r} {e} q p = subst (λ (y : Writing). Put b y t r e) (sym q) p
+pub put-from : {b : List ℕ} {w v : Progress} {t : List ℕ} {r : Progress} {e : List ℕ} → w ≡ v → Put b v t r e → Put b w t r e
+put-from {b} {w} {v} {t} {r} {e} q p = subst (λ (y : Progress). Put b y t r e) (sym q) p
 
 -- ---- the bytes of a text stored one by one
 
@@ -138,14 +178,19 @@ put-whole b at text e count q h z =
 pub put-cut : (b : List ℕ) (at : ℕ) (text e : List ℕ) (room : ℕ) → room ≡ length b - at → room < length text → e ≡ sets b at (take room text) → Put b (Next at) text TooShort e
 put-cut b at text e room q h z = record { answer = sym (place-cut (length b) at text (omega arith)); buffer = z ∙ ap (λ (k : ℕ). sets b at (take k text)) q }
 
+-- counted
+pub put-counted : (b : List ℕ) (n : ℕ) (t : List ℕ) (r : Progress) → r ≡ countedOn n (length t) → Put b (Counting n) t r b
+put-counted b n t r q = record { answer = q; buffer = refl }
+
 -- too short before
 pub put-short : (b t : List ℕ) → Put b TooShort t TooShort b
 put-short b t = record { answer = refl; buffer = refl }
 
 -- the buffer keeps its length
-pub put-length : {b : List ℕ} {w : Writing} {t : List ℕ} {r : Writing} {e : List ℕ} → Put b w t r e → length e ≡ length b
+pub put-length : {b : List ℕ} {w : Progress} {t : List ℕ} {r : Progress} {e : List ℕ} → Put b w t r e → length e ≡ length b
 put-length {b} {w} {t} p = ap length (p .buffer) ∙ same w
   where
-    same : (v : Writing) → length (bufferAfter b v t) ≡ length b
+    same : (v : Progress) → length (bufferAfter b v t) ≡ length b
     same (Next at) = length-after b at t
+    same (Counting n) = refl
     same TooShort = refl

@@ -1,13 +1,19 @@
-// Text into a lent buffer, cut off where the buffer ends: words, numbers, lines.
+// Text into a lent buffer, cut off where the buffer ends: words, numbers, lines. What is to be whole is counted first.
 ghost use Prim.Native.Nat.{_-_, _≤_};
 ghost use mathlib.Core.Path.{_≡_};
 ghost use lib.ListN.{length, take};
 ghost use lib.Seq.{sets};
 ghost use Rattle.decimal.specs.Digits.{decimal};
-ghost use Rattle.decimal.specs.declared.Writing.the-variants.{Next};
-ghost use Rattle.text.specs.Put.{Put};
+ghost use Rattle.text.specs.declared.Progress.the-variants.{Next};
+ghost use Rattle.text.specs.Put.{countedOn, Put, fittingOf};
 ghost use Rattle.text.specs.Lines.{spaced, lineOf};
-use decimal::Writing;
+
+// How far a text is written; or counted, where nothing is to be written; or that the buffer is too short, or the count for 64 bits.
+pub enum Progress {
+    Next(usize),
+    Counting(usize),
+    TooShort,
+}
 
 // Stores the first bytes of a text.
 fn fill(b: &mut [u8], at: usize, text: &[u8], count: usize)
@@ -29,31 +35,63 @@ fn room_from(size: usize, at: usize) -> usize
 }
 
 // Writes a text from a place on.
-fn put_at(b: &mut [u8], at: usize, text: &[u8]) -> Writing
+fn put_at(b: &mut [u8], at: usize, text: &[u8]) -> Progress
     ensures { λ r. ⌜ Put (now (b .entry)) (Next at) (now (text .entry)) r (now (b .exit)) ⌝ }
 {
     let room = room_from(b.len(), at);
     let count = text.len();
     if room < count {
         fill(b, at, text, room);
-        return Writing::TooShort;
+        return Progress::TooShort;
     }
     fill(b, at, text, count);
-    Writing::Next(at + count)
+    Progress::Next(at + count)
 }
 
-// Writes a text after what is written already.
-pub fn put(b: &mut [u8], w: Writing, text: &[u8]) -> Writing
+// So many bytes more are counted.
+fn counted_on(n: usize, more: usize) -> Progress
+    ensures { λ r. ⌜ r ≡ countedOn n more ⌝ }
+{
+    if 18446744073709551615 - n < more {
+        return Progress::TooShort;
+    }
+    Progress::Counting(n + more)
+}
+
+// Writes a text after what is written already, or counts it.
+pub fn put(b: &mut [u8], w: Progress, text: &[u8]) -> Progress
     ensures { λ r. ⌜ Put (now (b .entry)) w (now (text .entry)) r (now (b .exit)) ⌝ }
 {
     match w {
-        Writing::Next(at) => put_at(b, at, text),
-        Writing::TooShort => Writing::TooShort,
+        Progress::Next(at) => put_at(b, at, text),
+        Progress::Counting(n) => counted_on(n, text.len()),
+        Progress::TooShort => Progress::TooShort,
+    }
+}
+
+// Where a text goes that was counted: where it was to go, if a buffer of so many bytes has room for all of it.
+pub fn fitting(size: usize, w: Progress, counted: Progress) -> Progress
+    ensures { λ r. ⌜ r ≡ fittingOf size w counted ⌝ }
+{
+    match w {
+        Progress::Next(at) => match counted {
+            Progress::Counting(n) => {
+                let room = room_from(size, at);
+                if room < n {
+                    return Progress::TooShort;
+                }
+                Progress::Next(at)
+            }
+            Progress::Next(_) => Progress::TooShort,
+            Progress::TooShort => Progress::TooShort,
+        },
+        Progress::Counting(n) => Progress::Counting(n),
+        Progress::TooShort => Progress::TooShort,
     }
 }
 
 // Writes a number.
-fn put_number(b: &mut [u8], w: Writing, n: u32) -> Writing
+fn put_number(b: &mut [u8], w: Progress, n: u32) -> Progress
     ensures { λ r. ⌜ Put (now (b .entry)) w (decimal n) r (now (b .exit)) ⌝ }
 {
     let mut digits = [0u8; 10];
@@ -63,7 +101,7 @@ fn put_number(b: &mut [u8], w: Writing, n: u32) -> Writing
 }
 
 // Writes numbers, each after a space.
-pub fn put_numbers(b: &mut [u8], w: Writing, numbers: &[u32]) -> Writing
+pub fn put_numbers(b: &mut [u8], w: Progress, numbers: &[u32]) -> Progress
     ensures { λ r. ⌜ Put (now (b .entry)) w (spaced (now (numbers .entry))) r (now (b .exit)) ⌝ }
 {
     let mut at = w;
@@ -77,7 +115,7 @@ pub fn put_numbers(b: &mut [u8], w: Writing, numbers: &[u32]) -> Writing
 }
 
 // Writes a line: a word, and numbers after it.
-pub fn put_line(b: &mut [u8], w: Writing, word: &[u8], numbers: &[u32]) -> Writing
+pub fn put_line(b: &mut [u8], w: Progress, word: &[u8], numbers: &[u32]) -> Progress
     ensures { λ r. ⌜ Put (now (b .entry)) w (lineOf (now (word .entry)) (now (numbers .entry))) r (now (b .exit)) ⌝ }
 {
     let w = put(b, w, word);
@@ -86,7 +124,7 @@ pub fn put_line(b: &mut [u8], w: Writing, word: &[u8], numbers: &[u32]) -> Writi
 }
 
 // Writes a line of numbers alone: a card's, and others after it.
-pub fn put_row(b: &mut [u8], w: Writing, card: u32, numbers: &[u32]) -> Writing
+pub fn put_row(b: &mut [u8], w: Progress, card: u32, numbers: &[u32]) -> Progress
     ensures { λ r. ⌜ Put (now (b .entry)) w (lineOf (decimal card) (now (numbers .entry))) r (now (b .exit)) ⌝ }
 {
     let w = put_number(b, w, card);

@@ -1,14 +1,13 @@
 // Lists of calls as text, over slices: text in, answers out.
 ghost use mathlib.Core.Path.{_≡_};
-ghost use Rattle.decimal.specs.declared.Writing.the-variants.{Next};
+ghost use Rattle.text.specs.declared.Progress.the-variants.{Next};
 ghost use Rattle.words.specs.Calls.{saysLine};
-ghost use Rattle.asking.specs.Told.{Written};
-ghost use Rattle.asking.specs.Step.{Steps};
-ghost use Rattle.trace.specs.Steps.{nothingYet, Replayed, Counted};
+ghost use Rattle.asking.specs.Step.{Obeyed};
+ghost use Rattle.trace.specs.Steps.{nothingYet, Passed, Replayed, Counted};
 use asking::Replay;
 use asking::Stepped;
 use cabinet::Cabinet;
-use decimal::Writing;
+use text::Progress;
 use words::Heard;
 
 // Before the first cabinet.
@@ -23,20 +22,20 @@ pub fn begin() -> Replay
     }
 }
 
-// One line, its byte 10 left out: the answer goes to the front of the buffer.
+// One line, its byte 10 left out: the answer goes to the front of the buffer, and nothing is done where it has no room there.
 pub fn step(r: Replay, line: &[u8], out: &mut [u8]) -> Stepped
-    ensures { λ s. ⌜ Written (Steps (saysLine (now (line .entry))) r (s .replay)) (now (out .entry)) (Next 0) (s .written) (now (out .exit)) ⌝ }
+    ensures { λ s. ⌜ Obeyed (saysLine (now (line .entry))) r (now (out .entry)) (Next 0) (s .replay) (s .written) (now (out .exit)) ⌝ }
 {
     let said = words::says(line);
-    asking::obey(r, said, out, Writing::Next(0))
+    asking::obey(r, said, out, Progress::Next(0))
 }
 
-// A whole list of calls: the count of bytes of the answers, or that the buffer is too short for them.
-pub fn run(text: &[u8], out: &mut [u8]) -> Writing
-    ensures { λ w. ⌜ Replayed (now (text .entry)) nothingYet (now (out .entry)) w (now (out .exit)) ⌝ }
+// All lines of a list, their answers written or counted from a place on.
+fn pass(text: &[u8], out: &mut [u8], from: Progress) -> Progress
+    ensures { λ w. ⌜ Passed (now (text .entry)) nothingYet (now (out .entry)) from w (now (out .exit)) ⌝ }
 {
     let mut r = begin();
-    let mut w = Writing::Next(0);
+    let mut w = from;
     let mut at = 0;
     loop {
         let heard = words::line_at(text, at);
@@ -45,13 +44,27 @@ pub fn run(text: &[u8], out: &mut [u8]) -> Writing
                 return w;
             }
             Heard::Line(said, next) => {
-                let s = asking::obey(r, said, out, w);
+                let s = asking::done(r, said, out, w);
                 let n = s.replay;
                 r = n;
                 w = s.written;
                 at = next;
             }
         }
+    }
+}
+
+// A whole list of calls: the count of bytes of the answers, or that the buffer is too short for them, and then nothing is
+// written. The answers are counted first, so that every call is made twice.
+pub fn run(text: &[u8], out: &mut [u8]) -> Progress
+    ensures { λ w. ⌜ Replayed (now (text .entry)) nothingYet (now (out .entry)) w (now (out .exit)) ⌝ }
+{
+    let counted = pass(text, out, Progress::Counting(0));
+    let from = text::fitting(out.len(), Progress::Next(0), counted);
+    match from {
+        Progress::Next(at) => pass(text, out, Progress::Next(at)),
+        Progress::Counting(_) => Progress::TooShort,
+        Progress::TooShort => Progress::TooShort,
     }
 }
 
@@ -62,7 +75,8 @@ pub extern "C" fn yerwaqis_replay(text: &[u8], out: &mut [u8]) -> usize
 {
     let w = run(text, out);
     match w {
-        Writing::Next(n) => n,
-        Writing::TooShort => 18446744073709551615,
+        Progress::Next(n) => n,
+        Progress::Counting(_) => 18446744073709551615,
+        Progress::TooShort => 18446744073709551615,
     }
 }

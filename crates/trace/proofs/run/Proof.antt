@@ -1,64 +1,68 @@
--- `trace::run` does the lines of a text one after the other. Assumes nothing.
-use Prim.Native.Nat.{_-_, _≤_}
-use mathlib.Core.Path.{sym, _∙_}
+-- `trace::run` counts the answers to a list and writes them where all have room. Assumes nothing.
+use Prim.Native.Nat.{_≤_}
 use native.Mathlib.Omega.{arith}
 use lib.ListN.{length}
-use Rattle.words.proofs.Lines.{heard-forward}
-use Rattle.text.proofs.Puts.{put-length}
-use Rattle.trace.proofs.Laws.{Going, going-none, going-more, going-ends}
+use Rattle.text.specs.Put.{greatest}
+use Rattle.trace.proofs.Laws.{replayed-whole, replayed-counting, replayed-short}
 use borrow.Author.Needs.{needs}
 use Rattle.trace.proofs.run.Statement.{statement}
 use Rattle.trace.proofs.run.Tie as tie
 
-abbrev Inv-loop : tie.InvT-loop
-Inv-loop text out₀ r₀ w₀ at₀ out r w at = Going text out₀ at r w out
+pass-requires : tie.Need-pass-requires
+pass-requires c κs = search needs
 
-abbrev μ-loop : tie.MeasureT-loop
-μ-loop text out₀ r₀ w₀ at₀ out r w at = length text - at
+fitting-requires : tie.Need-fitting-requires
+fitting-requires c κs = search needs
 
-begin-requires : tie.Need-begin-requires Inv-loop μ-loop
-begin-requires c κs = search needs
+enum-known-from : tie.Need-enum-known-from
+enum-known-from c = search needs
 
-loop-holds : tie.Need-loop-holds Inv-loop μ-loop
-loop-holds c = going-none _ (c .begin .ensures)
+pass-requires-2 : tie.Need-pass-requires-2
+pass-requires-2 c κs = search needs
 
-line-at-requires : tie.Need-line-at-requires Inv-loop μ-loop
-line-at-requires c κs = search needs
-
-enum-told : tie.Need-enum-told Inv-loop μ-loop
+enum-told : tie.Need-enum-told
 enum-told c = search needs
 
-same-length : tie.Need-same-length Inv-loop μ-loop
-same-length c = put-length (c .before .before .before .loop .inv .put)
+enum-told-2 : tie.Need-enum-told-2
+enum-told-2 c = search needs
 
-returns : tie.Need-returns Inv-loop μ-loop
-returns c = going-ends (c .before .before .before .loop .inv) (c .before .before .line-at .ensures) (c .enum-told .given .1)
+same-length : tie.Need-same-length
+same-length c = search needs
 
-enum-known-heard : tie.Need-enum-known-heard Inv-loop μ-loop
-enum-known-heard c = search needs
+returns : tie.Need-returns
+returns c =
+    let small : length (c .before .before .before .before .before .before .before .before .before .before .before .before .before .before .args .out .now) ≤ greatest = omega arith in
+    replayed-whole small (c .before .before .before .before .before .before .before .before .before .before .pass .ensures) (c .before .before .before .before .before .before .before .fitting .ensures) (c .before .before .before .before .before .from .given .1) (c .before .before .pass2 .ensures)
 
-obey-requires : tie.Need-obey-requires Inv-loop μ-loop
-obey-requires c κs = search needs
+same-length-2 : tie.Need-same-length-2
+same-length-2 c = search needs
 
-loop-less : tie.Need-loop-less Inv-loop μ-loop
-loop-less c = let h = heard-forward (c .before .before .before .before .before .before .before .before .before .before .before .before .before .args .text .now) (c .before .before .before .before .before .before .before .before .before .loop .at) (sym (c .before .before .before .before .before .before .heard .given .1) ∙ c .before .before .before .before .before .before .before .before .line-at .ensures) in omega (arith, h .0, h .1)
+returns-2 : tie.Need-returns-2
+returns-2 c =
+    let small : length (c .before .before .before .before .before .before .before .before .before .args .out .now) ≤ greatest = omega arith in
+    replayed-counting small (c .before .before .before .before .before .pass .ensures) (c .before .before .fitting .ensures) (c .enum-told .given .1)
 
-loop-again : tie.Need-loop-again Inv-loop μ-loop
-loop-again c = going-more (c .before .before .before .before .before .before .before .before .before .loop .inv) (c .before .before .before .before .before .before .before .before .line-at .ensures) (c .before .before .before .before .before .before .heard .given .1) (c .before .before .before .obey .ensures)
+same-length-3 : tie.Need-same-length-3
+same-length-3 c = search needs
+
+returns-3 : tie.Need-returns-3
+returns-3 c =
+    let small : length (c .before .before .before .before .before .before .before .before .before .args .out .now) ≤ greatest = omega arith in
+    replayed-short small (c .before .before .before .before .before .pass .ensures) (c .before .before .fitting .ensures) (c .enum-told2 .given .1)
 
 pub run-spec : {M : Type 1} → statement M
 run-spec =
     tie.close
     (tie.spec
-    Inv-loop
-    μ-loop
-    begin-requires
-    loop-holds
-    line-at-requires
+    pass-requires
+    fitting-requires
+    enum-known-from
+    pass-requires-2
     enum-told
+    enum-told-2
     same-length
     returns
-    enum-known-heard
-    obey-requires
-    loop-less
-    loop-again)
+    same-length-2
+    returns-2
+    same-length-3
+    returns-3)

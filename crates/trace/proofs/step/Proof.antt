@@ -1,8 +1,5 @@
 -- `trace::step` reads a line and does what it says. Assumes nothing.
-use mathlib.Core.Path.{sym}
-use Rattle.words.specs.declared.Spoken.{Spoken}
-use Rattle.asking.specs.Step.{Steps}
-use Rattle.asking.proofs.Laws.{told-for}
+use Rattle.trace.proofs.Laws.{obeyed-for}
 use borrow.Author.Needs.{needs}
 use Rattle.trace.proofs.step.Statement.{statement}
 use Rattle.trace.proofs.step.Tie as tie
@@ -17,7 +14,7 @@ same-length : tie.Need-same-length
 same-length c = search needs
 
 returns : tie.Need-returns
-returns c = told-for (λ (x : Spoken). Steps x (c .before .before .before .before .before .before .before .args .r) (c .before .before .obey .result .replay)) (sym (c .before .before .before .before .says .ensures)) (c .before .before .obey .ensures)
+returns c = obeyed-for (c .before .before .before .before .says .ensures) (c .before .before .obey .ensures)
 
 pub step-spec : {M : Type 1} → statement M
 step-spec = tie.close (tie.spec says-requires obey-requires same-length returns)

@@ -64,10 +64,10 @@ enum-told-2 : tie.Need-enum-told-2
 enum-told-2 c = search needs
 
 returns : tie.Need-returns
-returns c = let a : _ = c .before .before .before .before .before .before .before .before .before .before .before .before .args in let s : _ = a .t2 in let R : CardSet = member (a .reads) in let W : CardSet = member (a .writes) in let vd : _ = c .before .before .before .before .before .before .before .open-verdict .ensures in let cs : List Check = after28 (not (a .sound)) (openChecks limits16 (alone s) R W (vd .named)) in record { named = vd .named; isBarred = vd .isBarred; carried = core-as s _ cs (opened (suc (s .head .count))) (place (freeAt limits16 (alone s)) (openedChange (suc (s .head .count)) R W) ∷ count (suc (s .head .count)) ∷ []) _ (sym (first (c .before .before .before .before .before .before .before)) ∙ c .before .before .before .before .enum-told .given .1) (ap openReplyOf (c .before .before .before .before .before .before .open-answer .ensures ∙ ap (λ (r : Reply). openAnswer r (s .head .count)) (c .before .before .before .before .enum-told .given .1)) ∙ ap (λ (n : ℕ). accepted (opened n)) (add-one (s .head .count))) (open-next s (c .before .before .before .free-at .result) (freeAt limits16 (alone s)) (s .head .count + 1) (suc (s .head .count)) _ _ R W (c .before .before .before .free-at .ensures) (add-one (s .head .count)) (c .before .opened .ensures) (c .counted .ensures)) }
+returns c = let a : _ = c .before .before .before .before .before .before .before .before .before .before .before .before .args in let s : _ = a .t2 in let R : CardSet = member (a .reads) in let W : CardSet = member (a .writes) in let vd : _ = c .before .before .before .before .before .before .before .open-verdict .ensures in let cs : List Check = after28 (not (a .sound)) (openChecks limits16 (alone s) R W (vd .named)) in record { named = vd .named; isBarred = vd .isBarred; lowest = vd .lowest; carried = core-as s _ cs (opened (suc (s .head .count))) (place (freeAt limits16 (alone s)) (openedChange (suc (s .head .count)) R W) ∷ count (suc (s .head .count)) ∷ []) _ (sym (first (c .before .before .before .before .before .before .before)) ∙ c .before .before .before .before .enum-told .given .1) (ap openReplyOf (c .before .before .before .before .before .before .open-answer .ensures ∙ ap (λ (r : Reply). openAnswer r (s .head .count)) (c .before .before .before .before .enum-told .given .1)) ∙ ap (λ (n : ℕ). accepted (opened n)) (add-one (s .head .count))) (open-next s (c .before .before .before .free-at .result) (freeAt limits16 (alone s)) (s .head .count + 1) (suc (s .head .count)) _ _ R W (c .before .before .before .free-at .ensures) (add-one (s .head .count)) (c .before .opened .ensures) (c .counted .ensures)) }
 
 returns-2 : tie.Need-returns-2
-returns-2 c = let a : _ = c .before .before .before .before .before .before .before .before .args in let s : _ = a .t2 in let R : CardSet = member (a .reads) in let W : CardSet = member (a .writes) in let vd : _ = c .before .before .before .open-verdict .ensures in let cs : List Check = after28 (not (a .sound)) (openChecks limits16 (alone s) R W (vd .named)) in record { named = vd .named; isBarred = vd .isBarred; carried = core-not s _ cs (opened (suc (s .head .count))) (place (freeAt limits16 (alone s)) (openedChange (suc (s .head .count)) R W) ∷ count (suc (s .head .count)) ∷ []) _ _ (sym (first (c .before .before .before)) ∙ c .enum-told2 .given .1) (ap openReplyOf (c .before .before .open-answer .ensures ∙ ap (λ (r : Reply). openAnswer r (s .head .count)) (c .enum-told2 .given .1))) refl }
+returns-2 c = let a : _ = c .before .before .before .before .before .before .before .before .args in let s : _ = a .t2 in let R : CardSet = member (a .reads) in let W : CardSet = member (a .writes) in let vd : _ = c .before .before .before .open-verdict .ensures in let cs : List Check = after28 (not (a .sound)) (openChecks limits16 (alone s) R W (vd .named)) in record { named = vd .named; isBarred = vd .isBarred; lowest = vd .lowest; carried = core-not s _ cs (opened (suc (s .head .count))) (place (freeAt limits16 (alone s)) (openedChange (suc (s .head .count)) R W) ∷ count (suc (s .head .count)) ∷ []) _ _ (sym (first (c .before .before .before)) ∙ c .enum-told2 .given .1) (ap openReplyOf (c .before .before .open-answer .ensures ∙ ap (λ (r : Reply). openAnswer r (s .head .count)) (c .enum-told2 .given .1))) refl }
 
 pub open-spec : {M : Type 1} → statement M
 open-spec =

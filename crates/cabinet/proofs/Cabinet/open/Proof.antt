@@ -25,7 +25,7 @@ returns c =
     let s : _ = a .t1 in
     let o : _ = c .before .«open» .ensures in
     let k : _ = suc (s .core .head .count) in
-    record { named = o .named; isBarred = o .isBarred; carried = swapped s (openChecks limits16 (alone (s .core)) (member (a .reads)) (member (a .writes)) (o .named)) (opened k) (place (freeAt limits16 (alone (s .core))) (openedChange k (member (a .reads)) (member (a .writes))) ∷ count k ∷ []) _ _ _ (c .before .before .cabinet-sound .ensures) refl refl (o .carried) }
+    record { named = o .named; isBarred = o .isBarred; lowest = o .lowest; carried = swapped s (openChecks limits16 (alone (s .core)) (member (a .reads)) (member (a .writes)) (o .named)) (opened k) (place (freeAt limits16 (alone (s .core))) (openedChange k (member (a .reads)) (member (a .writes))) ∷ count k ∷ []) _ _ _ (c .before .before .cabinet-sound .ensures) refl refl (o .carried) }
 
 pub open-spec : {M : Type 1} → statement M
 open-spec = tie.close (tie.spec cabinet-sound-requires open-requires returns)

@@ -1,0 +1,129 @@
+// The answers to a list of calls, each written whole or not at all: it is counted first, and written where the buffer has room for all of it.
+ghost use lib.ListN.{take};
+ghost use Rattle.verdicts.specs.Answers.{replyOf, openReplyOf, safeReplyOf};
+ghost use Rattle.recovery.specs.Fix.{fixReplyOf};
+ghost use Rattle.card_sheet.specs.Card.{sheetReplyOf};
+ghost use Rattle.text.specs.Put.{Whole};
+ghost use Rattle.answers.specs.Texts.{refusedText, replyText, noneText, unreadableText};
+ghost use Rattle.answers.specs.Show.{showText};
+use recovery::FixReply;
+use refusal::Refusal;
+use text::Progress;
+use verdicts::Head;
+use verdicts::OpenReply;
+use verdicts::Reply;
+use verdicts::SafeReply;
+use write::Written;
+
+// Before the first cabinet.
+pub fn put_none(b: &mut [u8], w: Progress) -> Progress
+    ensures { λ x. ⌜ Whole (now (b .entry)) w noneText x (now (b .exit)) ⌝ }
+{
+    let counted = answers::put_none(b, Progress::Counting(0));
+    let from = text::fitting(b.len(), w, counted);
+    answers::put_none(b, from)
+}
+
+// A line that is no call.
+pub fn put_unreadable(b: &mut [u8], w: Progress) -> Progress
+    ensures { λ x. ⌜ Whole (now (b .entry)) w unreadableText x (now (b .exit)) ⌝ }
+{
+    let counted = answers::put_unreadable(b, Progress::Counting(0));
+    let from = text::fitting(b.len(), w, counted);
+    answers::put_unreadable(b, from)
+}
+
+// A refusal.
+pub fn put_refusal(b: &mut [u8], w: Progress, q: Refusal) -> Progress
+    ensures { λ x. ⌜ Whole (now (b .entry)) w (refusedText q) x (now (b .exit)) ⌝ }
+{
+    let counted = answers::put_refusal(b, Progress::Counting(0), q);
+    let from = text::fitting(b.len(), w, counted);
+    answers::put_refusal(b, from, q)
+}
+
+// The answer of a call that answers nothing but acceptance.
+pub fn put_reply(b: &mut [u8], w: Progress, r: Reply) -> Progress
+    ensures { λ x. ⌜ Whole (now (b .entry)) w (replyText (replyOf r)) x (now (b .exit)) ⌝ }
+{
+    let counted = answers::put_reply(b, Progress::Counting(0), r);
+    let from = text::fitting(b.len(), w, counted);
+    answers::put_reply(b, from, r)
+}
+
+// The answer of open.
+pub fn put_open(b: &mut [u8], w: Progress, r: OpenReply) -> Progress
+    ensures { λ x. ⌜ Whole (now (b .entry)) w (replyText (openReplyOf r)) x (now (b .exit)) ⌝ }
+{
+    let counted = answers::put_open(b, Progress::Counting(0), r);
+    let from = text::fitting(b.len(), w, counted);
+    answers::put_open(b, from, r)
+}
+
+// The answer of safe.
+pub fn put_safe(b: &mut [u8], w: Progress, r: SafeReply) -> Progress
+    ensures { λ x. ⌜ Whole (now (b .entry)) w (replyText (safeReplyOf r)) x (now (b .exit)) ⌝ }
+{
+    let counted = answers::put_safe(b, Progress::Counting(0), r);
+    let from = text::fitting(b.len(), w, counted);
+    answers::put_safe(b, from, r)
+}
+
+// The answer of fix.
+pub fn put_fix(
+    b: &mut [u8],
+    w: Progress,
+    cards: u32,
+    stored: [u32; 16],
+    line: [u32; 16],
+    list: [u32; 776],
+    places: usize,
+    r: FixReply,
+) -> Progress
+    ensures { λ x. ⌜ Whole (now (b .entry)) w (replyText (fixReplyOf cards stored line (take places list) r)) x (now (b .exit)) ⌝ }
+{
+    let counted = answers::put_fix(
+        b,
+        Progress::Counting(0),
+        cards,
+        stored,
+        line,
+        list,
+        places,
+        r,
+    );
+    let from = text::fitting(b.len(), w, counted);
+    answers::put_fix(b, from, cards, stored, line, list, places, r)
+}
+
+// The answer of sheet writing.
+pub fn put_sheet(
+    b: &mut [u8],
+    w: Progress,
+    sheet: &[u8; 65536],
+    places: usize,
+    r: Written,
+) -> Progress
+    ensures { λ x. ⌜ Whole (now (b .entry)) w (replyText (sheetReplyOf (take places (now (sheet .entry))) r)) x (now (b .exit)) ⌝ }
+{
+    let counted = answers::put_sheet(b, Progress::Counting(0), sheet, places, r);
+    let from = text::fitting(b.len(), w, counted);
+    answers::put_sheet(b, from, sheet, places, r)
+}
+
+// What a cabinet is.
+pub fn put_show(
+    b: &mut [u8],
+    w: Progress,
+    head: Head,
+    base: [u32; 16],
+    stored: [u32; 16],
+    held: [u32; 16],
+    reached: [u32; 16],
+) -> Progress
+    ensures { λ x. ⌜ Whole (now (b .entry)) w (showText head base stored held reached) x (now (b .exit)) ⌝ }
+{
+    let counted = answers::put_show(b, Progress::Counting(0), head, base, stored, held, reached);
+    let from = text::fitting(b.len(), w, counted);
+    answers::put_show(b, from, head, base, stored, held, reached)
+}
