@@ -2,6 +2,7 @@
 use Prim.Native.Nat.{ℕ, min}
 use mathlib.Core.List.{List, [], _∷_, _++_}
 use lib.ListN.{length}
+use Rattle.limits.specs.Document.{mostCards}
 use Rattle.decimal.specs.Digits.{decimal}
 use Rattle.refusal.specs.declared.Refusal.{Refusal}
 use Rattle.refusal.specs.declared.Refusal.the-variants.{CardCount, NoSuchCard, BothSetsEmpty, TooShort, BadLine, BadCheck, BadHeader, EndOrMore, BadFrame, TwoVectors, SessionsApart, TooLong, WrongPhase, Barred, NoPlace, InHandFull, LimitReached, NotAwaited, AlreadyDecided, StoreOutside, BadCabinet, NotDecided, AlreadyRolled}
@@ -106,7 +107,7 @@ replyText (refused q) = refusedText q
 
 -- of so many cards those that have a record
 abbrev pub rowCount : ℕ → ℕ
-rowCount n = min n 16
+rowCount n = min n mostCards
 
 -- the text of fix's answer, from the arrays and the list that it is answered in
 abbrev pub fixedText : ℕ → (stored line lost : List ℕ) → ℕ → List ℕ

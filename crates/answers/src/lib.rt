@@ -13,6 +13,7 @@ ghost use Rattle.text.specs.Put.{Put};
 ghost use Rattle.text.specs.Lines.{lineOf};
 ghost use Rattle.answers.specs.Texts.{namedBy, rowsText, fixedText, refusedText, replyText, noneText, unreadableText, rowCount, sheetWord};
 ghost use Rattle.answers.specs.Show.{phaseName, headText, cardsText, showText};
+use limits::Limits;
 use recovery::FixReply;
 use refusal::Refusal;
 use text::Progress;
@@ -137,12 +138,18 @@ fn put_card(b: &mut [u8], w: Progress, cards: u32, card: u32, numbers: &[u32]) -
 }
 
 // The lines of fix's card records.
-fn put_rows(b: &mut [u8], w: Progress, cards: u32, stored: [u32; 16], line: [u32; 16]) -> Progress
+fn put_rows(
+    b: &mut [u8],
+    w: Progress,
+    cards: u32,
+    stored: [u32; Limits::CARDS],
+    line: [u32; Limits::CARDS],
+) -> Progress
     ensures { λ x. ⌜ Put (now (b .entry)) w (rowsText (rowsOf cards stored line)) x (now (b .exit)) ⌝ }
 {
     let mut at = w;
     let mut c: u32 = 0;
-    while c < 16 {
+    while c < Limits::CARDS_U32 {
         let i = c as usize;
         let row = [stored[i], line[i]];
         at = put_card(b, at, cards, c, &row);
@@ -155,7 +162,11 @@ fn put_rows(b: &mut [u8], w: Progress, cards: u32, stored: [u32; 16], line: [u32
 fn row_count(cards: u32) -> u32
     ensures { λ r. ⌜ r ≡ rowCount cards ⌝ }
 {
-    if cards < 16 { cards } else { 16 }
+    if cards < Limits::CARDS_U32 {
+        cards
+    } else {
+        Limits::CARDS_U32
+    }
 }
 
 // An accepted fix, with the numbers of the changes lost.
@@ -163,8 +174,8 @@ fn put_fixed(
     b: &mut [u8],
     w: Progress,
     cards: u32,
-    stored: [u32; 16],
-    line: [u32; 16],
+    stored: [u32; Limits::CARDS],
+    line: [u32; Limits::CARDS],
     lost: &[u32],
     count: u32,
 ) -> Progress
@@ -188,9 +199,9 @@ pub fn put_fix(
     b: &mut [u8],
     w: Progress,
     cards: u32,
-    stored: [u32; 16],
-    line: [u32; 16],
-    list: [u32; 776],
+    stored: [u32; Limits::CARDS],
+    line: [u32; Limits::CARDS],
+    list: [u32; Limits::MOST_LOST],
     places: usize,
     r: FixReply,
 ) -> Progress
@@ -199,7 +210,7 @@ pub fn put_fix(
     match r {
         FixReply::Fixed(k) => {
             let some = least(k, places);
-            let count = least(some, 776);
+            let count = least(some, Limits::MOST_LOST);
             put_fixed(b, w, cards, stored, line, &list[0..count], count as u32)
         }
         FixReply::NotFixed(q) => put_refusal(b, w, q),
@@ -219,7 +230,7 @@ fn put_bytes(b: &mut [u8], w: Progress, bytes: &[u8], count: u32) -> Progress
 pub fn put_sheet(
     b: &mut [u8],
     w: Progress,
-    sheet: &[u8; 65536],
+    sheet: &[u8; Limits::LONGEST],
     places: usize,
     r: Written,
 ) -> Progress
@@ -228,7 +239,7 @@ pub fn put_sheet(
     match r {
         Written::Length(k) => {
             let lent = least(k, places);
-            let count = least(lent, 65536);
+            let count = least(lent, Limits::LONGEST);
             let whole = &sheet[..];
             put_bytes(b, w, &whole[0..count], count as u32)
         }
@@ -267,16 +278,16 @@ fn put_cards(
     b: &mut [u8],
     w: Progress,
     cards: u32,
-    base: [u32; 16],
-    stored: [u32; 16],
-    held: [u32; 16],
-    reached: [u32; 16],
+    base: [u32; Limits::CARDS],
+    stored: [u32; Limits::CARDS],
+    held: [u32; Limits::CARDS],
+    reached: [u32; Limits::CARDS],
 ) -> Progress
     ensures { λ x. ⌜ Put (now (b .entry)) w (cardsText cards base stored held reached) x (now (b .exit)) ⌝ }
 {
     let mut at = w;
     let mut c: u32 = 0;
-    while c < 16 {
+    while c < Limits::CARDS_U32 {
         let i = c as usize;
         let row = [base[i], stored[i], held[i], reached[i]];
         at = put_card(b, at, cards, c, &row);
@@ -290,10 +301,10 @@ pub fn put_show(
     b: &mut [u8],
     w: Progress,
     head: Head,
-    base: [u32; 16],
-    stored: [u32; 16],
-    held: [u32; 16],
-    reached: [u32; 16],
+    base: [u32; Limits::CARDS],
+    stored: [u32; Limits::CARDS],
+    held: [u32; Limits::CARDS],
+    reached: [u32; Limits::CARDS],
 ) -> Progress
     ensures { λ x. ⌜ Put (now (b .entry)) w (showText head base stored held reached) x (now (b .exit)) ⌝ }
 {

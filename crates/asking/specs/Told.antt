@@ -3,6 +3,7 @@ use Prim.Native.Nat.{ℕ, _<_, _≤_, min}
 use mathlib.Core.Path.{_≡_}
 use mathlib.Core.Bool.{true}
 use mathlib.Core.List.{List}
+use Rattle.limits.specs.Document.{mostCards, longestLost, longestInput}
 use Rattle.laws.specs.Below.{occurs, one-if}
 use Rattle.bits.specs.Member.{member}
 use Rattle.refusal.specs.declared.Refusal.the-variants.{NoSuchCard}
@@ -80,9 +81,9 @@ Told c Trim next text = Planned c (trimPlan limits16 (view c)) next text
 Told c (Safe change) next text = Planned c (safePlan limits16 (view c) change) next text
 Told c (Lose cards) next text = LoseTold c cards next text
 -- a readable line lends 16 records and 776 numbers at most
-Told c (Fix records numbers) next text = FixSaid c (min records 16) (min numbers 776) next text
+Told c (Fix records numbers) next text = FixSaid c (min records mostCards) (min numbers longestLost) next text
 Told c (Roll card) next text = Planned c (rollPlan limits16 (view c) card) next text
 -- a readable line lends 65,536 bytes at most
-Told c (Sheet card bytes) next text = Planned c (sheetPlan codec limits16 (view c) card (min bytes 65536)) next text
+Told c (Sheet card bytes) next text = Planned c (sheetPlan codec limits16 (view c) card (min bytes longestInput)) next text
 Told c Restart next text = RestartTold c next text
 Told c Show next text = Kept c (showText (c .core .head) (c .core .base) (c .core .stored) (c .core .held) (c .core .reached)) next text

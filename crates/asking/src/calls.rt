@@ -15,6 +15,7 @@ ghost use Rattle.asking.specs.Told.{Planned, OpenTold, LoseTold, FixSaid
 use crate::Replay;
 use crate::Stepped;
 use cabinet::Cabinet;
+use limits::Limits;
 use records::CardRecord;
 use refusal::Refusal;
 use text::Progress;
@@ -31,14 +32,17 @@ fn no_such_card(c: Cabinet, b: &mut [u8], w: Progress) -> Stepped
     Stepped { replay, written }
 }
 
+// The greatest number that names a set of cards.
+const LAST_SET: u32 = Limits::SETS - 1;
+
 // 1. open: a set over 65535 names a card that no cabinet has.
 pub fn open(c: Cabinet, reads: u32, writes: u32, b: &mut [u8], w: Progress) -> Stepped
     ensures { λ r. ⌜ Written (Onward (OpenTold c reads writes) (r .replay)) (now (b .entry)) w (r .written) (now (b .exit)) ⌝ }
 {
-    if 65535 < reads {
+    if LAST_SET < reads {
         return no_such_card(c, b, w);
     }
-    if 65535 < writes {
+    if LAST_SET < writes {
         return no_such_card(c, b, w);
     }
     let a = c.open(reads as u16, writes as u16);
@@ -146,7 +150,7 @@ pub fn safe(c: Cabinet, change: u32, b: &mut [u8], w: Progress) -> Stepped
 pub fn lose(c: Cabinet, cards: u32, b: &mut [u8], w: Progress) -> Stepped
     ensures { λ r. ⌜ Written (Onward (LoseTold c cards) (r .replay)) (now (b .entry)) w (r .written) (now (b .exit)) ⌝ }
 {
-    if 65535 < cards {
+    if LAST_SET < cards {
         return no_such_card(c, b, w);
     }
     let a = c.lose(cards as u16);
@@ -164,18 +168,22 @@ pub fn lose(c: Cabinet, cards: u32, b: &mut [u8], w: Progress) -> Stepped
 fn lent_places(numbers: u32) -> usize
     ensures { λ r. ⌜ r ≡ min numbers 776 ⌝ }
 {
-    if numbers < 776 { numbers as usize } else { 776 }
+    if numbers < Limits::MOST_LOST_U32 {
+        numbers as usize
+    } else {
+        Limits::MOST_LOST
+    }
 }
 
 // A list for change numbers.
-fn blank_list() -> [u32; 776]
+fn blank_list() -> [u32; Limits::MOST_LOST]
     ensures { λ r. ⌜ length r ≡ 776 ⌝ }
 {
-    [0; 776]
+    [0; Limits::MOST_LOST]
 }
 
 // A list for card records.
-fn blank_records() -> [CardRecord; 16]
+fn blank_records() -> [CardRecord; Limits::CARDS]
     ensures { λ r. ⌜ length r ≡ 16 ⌝ }
 {
     let zero = CardRecord {
@@ -183,7 +191,7 @@ fn blank_records() -> [CardRecord; 16]
         stored: 0,
         line: 0,
     };
-    [zero; 16]
+    [zero; Limits::CARDS]
 }
 
 // 9. fix: the list for card records has at most 16 places, that for change numbers at most 776.
@@ -229,14 +237,18 @@ pub fn roll(c: Cabinet, card: u32, b: &mut [u8], w: Progress) -> Stepped
 fn lent_bytes(bytes: u32) -> usize
     ensures { λ r. ⌜ r ≡ min bytes 65536 ⌝ }
 {
-    if bytes < 65536 { bytes as usize } else { 65536 }
+    if bytes < Limits::LONGEST_U32 {
+        bytes as usize
+    } else {
+        Limits::LONGEST
+    }
 }
 
 // A buffer for a sheet.
-fn blank_buffer() -> [u8; 65536]
+fn blank_buffer() -> [u8; Limits::LONGEST]
     ensures { λ r. ⌜ length r ≡ 65536 ⌝ }
 {
-    [0; 65536]
+    [0; Limits::LONGEST]
 }
 
 // A card's sheet: the buffer has at most 65,536 bytes.

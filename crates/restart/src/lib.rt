@@ -97,7 +97,7 @@ fn rolled_cards(sessions: [u32; Limits::CARDS], low: u32) -> u16
 {
     let mut rolled: u16 = 0;
     let mut c: u32 = 0;
-    while c < Limits::CARDS {
+    while c < Limits::CARDS_U32 {
         let s = sessions[c as usize];
         let more = with_if(rolled, low < s, c);
         rolled = more;

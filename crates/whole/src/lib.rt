@@ -6,6 +6,7 @@ ghost use Rattle.card_sheet.specs.Card.{sheetReplyOf};
 ghost use Rattle.text.specs.Put.{Whole};
 ghost use Rattle.answers.specs.Texts.{refusedText, replyText, noneText, unreadableText};
 ghost use Rattle.answers.specs.Show.{showText};
+use limits::Limits;
 use recovery::FixReply;
 use refusal::Refusal;
 use text::Progress;
@@ -74,9 +75,9 @@ pub fn put_fix(
     b: &mut [u8],
     w: Progress,
     cards: u32,
-    stored: [u32; 16],
-    line: [u32; 16],
-    list: [u32; 776],
+    stored: [u32; Limits::CARDS],
+    line: [u32; Limits::CARDS],
+    list: [u32; Limits::MOST_LOST],
     places: usize,
     r: FixReply,
 ) -> Progress
@@ -100,7 +101,7 @@ pub fn put_fix(
 pub fn put_sheet(
     b: &mut [u8],
     w: Progress,
-    sheet: &[u8; 65536],
+    sheet: &[u8; Limits::LONGEST],
     places: usize,
     r: Written,
 ) -> Progress
@@ -116,10 +117,10 @@ pub fn put_show(
     b: &mut [u8],
     w: Progress,
     head: Head,
-    base: [u32; 16],
-    stored: [u32; 16],
-    held: [u32; 16],
-    reached: [u32; 16],
+    base: [u32; Limits::CARDS],
+    stored: [u32; Limits::CARDS],
+    held: [u32; Limits::CARDS],
+    reached: [u32; Limits::CARDS],
 ) -> Progress
     ensures { λ x. ⌜ Whole (now (b .entry)) w (showText head base stored held reached) x (now (b .exit)) ⌝ }
 {
