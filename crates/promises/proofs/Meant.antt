@@ -1,5 +1,5 @@
 -- What a line that asks something of the present cabinet comes to. Assumes nothing.
-use Prim.Native.Nat.{ℕ, _≤_, _<_, min}
+use Prim.Native.Nat.{ℕ, _≤_, min}
 use mathlib.Core.Path.{_≡_, refl, sym, _∙_, ap, subst, subst₂}
 use mathlib.Core.List.{List}
 use native.Mathlib.Omega.{arith}
@@ -18,7 +18,6 @@ use Rattle.words.specs.declared.Request.the-variants.{Open, Vote, Take, Withdra
 use Rattle.answers.specs.Texts.{replyText}
 use Rattle.asking.specs.Told.{Planned, OpenTold, readsBeyond, writesBeyond, openWithin, LoseTold, setBeyond, lostWithin, Told}
 use Rattle.demands.specs.Lists.{Asked, opening, vote, take, withdraw, store, trim, safe, lose, fix, roll, sheet, restart, Typed, Lent, nothingLent, Answered}
-use Rattle.demands.specs.Claims.{Reached}
 use Rattle.demands.proofs.Some.{ReachedBy, fix-by, sheet-by}
 use Rattle.promises.specs.Texts.{Makes, opens, votes, takes, withdraws, stores, trims, asks-safe, loses, fixes, rolls, writes-sheet, restarts, NoCall, beyond-reads, beyond-writes, beyond-lost, looks}
 

@@ -18,7 +18,7 @@ use Rattle.words.specs.Calls.{heardAt}
 use Rattle.answers.specs.Texts.{replyText}
 use Rattle.asking.specs.declared.Replay.{Replay}
 use Rattle.asking.specs.Told.{Told, Onward}
-use Rattle.asking.specs.Step.{freshReply, afterFresh, Stays, Freshened, Asked as AskedOf, Steps}
+use Rattle.asking.specs.Step.{Freshened, Asked as AskedOf, Steps}
 use Rattle.trace.specs.Steps.{nothingYet, Ran, noLine, oneMore}
 use Rattle.demands.specs.Lists.{Asked, callOf, Typed, Lent, Answered, List16, start, next}
 use Rattle.demands.proofs.Whole.{demands-2-3}
