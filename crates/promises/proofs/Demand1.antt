@@ -33,6 +33,7 @@ use Rattle.cabinet.specs.Fresh.{Freshly, zeroCabinet, freshHead, voidHead}
 use Rattle.restart.specs.Restart.{Restarted, cabinetFor}
 use Rattle.demands.specs.Claims.{Said, answers, refuses}
 use Rattle.demands.proofs.Refusing.{calls-answer}
+use Rattle.promises.proofs.Lines.{step-answers, run-answers}
 use Rattle.promises.specs.Demand1.{FreshGets, RestartGets, ReaderRefuses, WriterRefuses, Demand1}
 
 -- ---- a fresh cabinet
@@ -79,4 +80,4 @@ unfolding wrote
 writes-sheet p buffer r e = record { listed = all-listed r; unchanged = wrote-nothing (pageVerdict p) (pageBytes formats p) buffer r e }
 
 pub demand-1 : Demand1
-demand-1 = record { fresh = fresh-gets; calls = calls-answer; restart = restart-gets; reads-sheet = reads-sheet; reads-readout = reads-readout; writes-sheet = writes-sheet }
+demand-1 = record { fresh = fresh-gets; calls = calls-answer; restart = restart-gets; reads-sheet = reads-sheet; reads-readout = reads-readout; writes-sheet = writes-sheet; step = step-answers; run = run-answers }

@@ -2,6 +2,7 @@
 -- Statements alone: the proofs are in proofs/Demand1.antt. What a function's contract says by an equation has an answer for every input.
 use Prim.Native.Nat.{ℕ}
 use mathlib.Core.Path.{_≡_}
+use mathlib.Core.Bool.{false}
 use mathlib.Core.List.{List, [], _∷_}
 use Rattle.refusal.specs.declared.Refusal.{Refusal}
 use Rattle.refusal.specs.declared.Refusal.the-variants.{CardCount}
@@ -14,7 +15,7 @@ use Rattle.readout.specs.Joint.{readoutOf}
 use Rattle.sheet_reader.specs.Single.{sheetReadOf}
 use Rattle.sheet_writer.specs.Single.{wrote}
 use Rattle.write.specs.declared.Written.the-variants.{Refused as written-refused}
-use Rattle.protocol.specs.Plan.{Reply, refused, Check, _⇒_}
+use Rattle.protocol.specs.Plan.{Reply, refused, _⇒_}
 use Rattle.protocol.specs.Calls.{freshRefused}
 use Rattle.protocol.specs.Codec.{verdictChecks}
 use Rattle.protocol.specs.Demands.{Listed}
@@ -23,7 +24,17 @@ use Rattle.verdicts.specs.Shape.{limits16}
 use Rattle.cabinet.specs.declared.Cabinet.{Cabinet}
 use Rattle.cabinet.specs.Fresh.{Freshly, zeroCabinet, voidHead}
 use Rattle.restart.specs.Restart.{Restarted}
-use Rattle.demands.specs.Claims.{Said, CallsAnswer}
+use Rattle.text.specs.declared.Progress.{Progress}
+use Rattle.text.specs.declared.Progress.the-variants.{TooShort}
+use Rattle.words.specs.declared.Spoken.{Spoken}
+use Rattle.words.specs.declared.Spoken.the-variants.{Fresh}
+use Rattle.answers.specs.Texts.{replyText, noneText}
+use Rattle.asking.specs.declared.Replay.{Replay}
+use Rattle.asking.specs.Step.{Steps, Obeyed}
+use Rattle.trace.specs.Steps.{nothingYet, Replayed}
+use Rattle.demands.specs.Lists.{Asked, Lent}
+use Rattle.demands.specs.Claims.{Said, Gets, CallsAnswer}
+use Rattle.promises.specs.Texts.{Makes, NoCall}
 
 -- "1: number of cards not 1 to 16"; the cabinet handed back then is void, and every call refuses it with 28
 pub record FreshGets (n : ℕ) (reply : Reply) (next : Cabinet) : Type 0 where
@@ -45,6 +56,25 @@ pub record WriterRefuses (p : Page) (buffer : List ℕ) (r : Refusal) : Type 0 w
   pub listed : Listed (numberOf r)
   pub unchanged : wrote p buffer .buffer ≡ buffer
 
+-- ---- lists of calls as text
+-- what a line gets: an answer as text, of a call with its table, or that there is no cabinet yet, or that it makes no call
+pub data LineGets (said : Spoken) (r next : Replay) (text : List ℕ) : Type 0 where
+  freshened : (n : ℕ) → said ≡ Fresh n → (reply : Reply) → Said (freshRefused limits16 n ⇒ CardCount ∷ []) reply → ((q : Refusal) → reply ≡ refused q → next ≡ r) → text ≡ replyText reply → LineGets said r next text
+  called : (asked : Asked) → Makes said asked → (reply : Reply) (after : Lent) → Gets (r .cabinet) asked reply (next .cabinet) after → text ≡ replyText reply → LineGets said r next text
+  none-yet : r .begun ≡ false → next ≡ r → text ≡ noneText → LineGets said r next text
+  no-call : NoCall said → next ≡ r → LineGets said r next text
+
+-- one line: there is an answer; every one is as said; and where the buffer is too short for it nothing is changed
+pub record StepAnswers : Type 0 where
+  pub some : (said : Spoken) (r : Replay) → (next : Replay) × (text : List ℕ) × Steps said r next text
+  pub each : (said : Spoken) (r next : Replay) (text : List ℕ) → Steps said r next text → LineGets said r next text
+  pub short : (said : Spoken) (r : Replay) (b : List ℕ) (w : Progress) (after : Replay) (e : List ℕ) → Obeyed said r b w after TooShort e → (after ≡ r) × (e ≡ b)
+
+-- a whole list: there is an answer to every text, and where the buffer is too short for it no byte is changed
+pub record RunAnswers : Type 0 where
+  pub some : (s b : List ℕ) → (w : Progress) × (e : List ℕ) × Replayed s nothingYet b w e
+  pub short : (s b e : List ℕ) → Replayed s nothingYet b TooShort e → e ≡ b
+
 pub record Demand1 : Type 0 where
   pub fresh : (n : ℕ) (reply : Reply) (next : Cabinet) → Freshly n reply next → FreshGets n reply next
   -- calls 1 to 10, sheet writing, and restart from a cabinet's own sheets
@@ -54,3 +84,6 @@ pub record Demand1 : Type 0 where
   pub reads-sheet : (card : ℕ) (bytes : List ℕ) (r : Refusal) → sheetReadOf card bytes .verdict ≡ Refused r → ReaderRefuses (sheetReadOf card bytes) r
   pub reads-readout : (bytes : List ℕ) (r : Refusal) → readoutOf bytes .verdict ≡ Refused r → ReaderRefuses (readoutOf bytes) r
   pub writes-sheet : (p : Page) (buffer : List ℕ) (r : Refusal) → wrote p buffer .answer ≡ written-refused r → WriterRefuses p buffer r
+  -- the text entry points: one line, and a whole list
+  pub step : StepAnswers
+  pub run : RunAnswers
