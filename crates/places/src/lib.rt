@@ -3,7 +3,7 @@ ghost use mathlib.Core.Path.{_≡_};
 ghost use mathlib.Core.Bool.{not, _&&_, _||_, cond, true};
 ghost use Prim.Native.Nat.{ℕ, _<_};
 ghost use lib.Dec.{eqb};
-ghost use Rattle.laws.specs.Below.{allBelow, anyBelow, firstBelow};
+ghost use Rattle.laws.specs.Below.{allBelow, anyBelow, countBelow, firstBelow};
 ghost use Rattle.bits.specs.Member.{member};
 ghost use Rattle.bits.specs.Sets.{subset, either};
 ghost use Rattle.history.specs.Change.{touches};
@@ -57,7 +57,7 @@ pub fn free_at(places: [Place; Limits::PLACES]) -> usize
 
 // How many of the cards that a change touches are not in the set: "count of ones gives awaited votes".
 pub fn awaited(reads: u16, writes: u16, have: u16) -> u32
-    ensures { λ r. ⌜ eqb r 0 ≡ allBelow (limits16 .width) (λ c. not (member reads c || member writes c) || member have c) ⌝ }
+    ensures { λ r. ⌜ r ≡ countBelow (limits16 .width) (λ c. (member reads c || member writes c) && not (member have c)) ⌝ }
 {
     let touched = bits::union(reads, writes);
     let left = bits::difference(touched, have);

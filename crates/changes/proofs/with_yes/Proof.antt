@@ -9,6 +9,7 @@ use Rattle.laws.specs.Below.{allBelow}
 use Prim.Native.Nat.{_-_}
 use mathlib.Core.Path.{_≡_, refl, sym, _∙_, ap}
 use mathlib.Core.Bool.{true, false, not, _||_}
+use Rattle.places.proofs.Votes.{none-awaited}
 use borrow.Author.Needs.{needs}
 use Rattle.changes.proofs.with_yes.Statement.{statement}
 use Rattle.changes.proofs.with_yes.Tie as tie
@@ -23,10 +24,10 @@ decision-requires : tie.Need-decision-requires
 decision-requires c κs = c .before .before .before .pre
 
 returns : tie.Need-returns
-returns c = let o : _ = c .before .before .before .before .args .o in let e : allBelow (limits16 .width) (λ k. not ((either (member (c .before .before .before .before .args .o .reads)) (member (c .before .before .before .before .args .o .writes))) k) || withCard (member (o .yes)) (c .before .before .before .before .args .c) k) ≡ true = sym (all-put (either (member (c .before .before .before .before .args .o .reads)) (member (c .before .before .before .before .args .o .writes))) (o .yes) (c .before .before .before .with .result) (c .before .before .before .before .args .c) (c .before .before .before .with .ensures)) ∙ sym (c .before .before .awaited .ensures) ∙ eq-eqb (c .before .before .awaited .result) 0 (c .before .if1 .taken) in place-by (c .decision .ensures) refl (set-known (o .reads) (search needs)) (set-known (o .writes) (search needs)) (set-put (o .yes) (c .before .before .before .with .result) (c .before .before .before .before .args .c) (search needs) (c .before .before .before .with .ensures)) (set-known (o .taken) (search needs)) ∙ sym (ap placeFor (cond-true _ _ e))
+returns c = let o : _ = c .before .before .before .before .args .o in let e : allBelow (limits16 .width) (λ k. not ((either (member (c .before .before .before .before .args .o .reads)) (member (c .before .before .before .before .args .o .writes))) k) || withCard (member (o .yes)) (c .before .before .before .before .args .c) k) ≡ true = sym (all-put (either (member (c .before .before .before .before .args .o .reads)) (member (c .before .before .before .before .args .o .writes))) (o .yes) (c .before .before .before .with .result) (c .before .before .before .before .args .c) (c .before .before .before .with .ensures)) ∙ sym (none-awaited (limits16 .width) (either (member (c .before .before .before .before .args .o .reads)) (member (c .before .before .before .before .args .o .writes))) (member (c .before .before .before .with .result)) (c .before .before .awaited .ensures)) ∙ eq-eqb (c .before .before .awaited .result) 0 (c .before .if1 .taken) in place-by (c .decision .ensures) refl (set-known (o .reads) (search needs)) (set-known (o .writes) (search needs)) (set-put (o .yes) (c .before .before .before .with .result) (c .before .before .before .before .args .c) (search needs) (c .before .before .before .with .ensures)) (set-known (o .taken) (search needs)) ∙ sym (ap placeFor (cond-true _ _ e))
 
 returns-2 : tie.Need-returns-2
-returns-2 c = let o : _ = c .before .before .before .args .o in let e : allBelow (limits16 .width) (λ k. not ((either (member (c .before .before .before .args .o .reads)) (member (c .before .before .before .args .o .writes))) k) || withCard (member (o .yes)) (c .before .before .before .args .c) k) ≡ false = sym (all-put (either (member (c .before .before .before .args .o .reads)) (member (c .before .before .before .args .o .writes))) (o .yes) (c .before .before .with .result) (c .before .before .before .args .c) (c .before .before .with .ensures)) ∙ sym (c .before .awaited .ensures) ∙ ne-eqb (c .before .awaited .result) 0 (c .if1 .left) in place-by (list-known (o .vector) (search needs)) refl (set-known (o .reads) (search needs)) (set-known (o .writes) (search needs)) (set-put (o .yes) (c .before .before .with .result) (c .before .before .before .args .c) (search needs) (c .before .before .with .ensures)) (set-known (o .taken) (search needs)) ∙ sym (ap placeFor (cond-false _ _ e))
+returns-2 c = let o : _ = c .before .before .before .args .o in let e : allBelow (limits16 .width) (λ k. not ((either (member (c .before .before .before .args .o .reads)) (member (c .before .before .before .args .o .writes))) k) || withCard (member (o .yes)) (c .before .before .before .args .c) k) ≡ false = sym (all-put (either (member (c .before .before .before .args .o .reads)) (member (c .before .before .before .args .o .writes))) (o .yes) (c .before .before .with .result) (c .before .before .before .args .c) (c .before .before .with .ensures)) ∙ sym (none-awaited (limits16 .width) (either (member (c .before .before .before .args .o .reads)) (member (c .before .before .before .args .o .writes))) (member (c .before .before .with .result)) (c .before .awaited .ensures)) ∙ ne-eqb (c .before .awaited .result) 0 (c .if1 .left) in place-by (list-known (o .vector) (search needs)) refl (set-known (o .reads) (search needs)) (set-known (o .writes) (search needs)) (set-put (o .yes) (c .before .before .with .result) (c .before .before .before .args .c) (search needs) (c .before .before .with .ensures)) (set-known (o .taken) (search needs)) ∙ sym (ap placeFor (cond-false _ _ e))
 
 pub with-yes-spec : {M : Type 1} → statement M
 with-yes-spec =

@@ -1,4 +1,8 @@
 -- `places::is_decided`: no vote is awaited. Assumes nothing.
+use Rattle.places.proofs.Votes.{none-awaited}
+use Rattle.bits.specs.Member.{member}
+use Rattle.bits.specs.Sets.{either}
+use Rattle.verdicts.specs.Shape.{limits16}
 use borrow.Author.Needs.{needs}
 use Rattle.places.proofs.is_decided.Statement.{statement}
 use Rattle.places.proofs.is_decided.Tie as tie
@@ -7,7 +11,7 @@ awaited-requires : tie.Need-awaited-requires
 awaited-requires c κs = search needs
 
 returns : tie.Need-returns
-returns c = c .awaited .ensures
+returns c = let o = c .before .args .o in none-awaited (limits16 .width) (either (member (o .reads)) (member (o .writes))) (member (o .yes)) (c .awaited .ensures)
 
 pub is-decided-spec : {M : Type 1} → statement M
 is-decided-spec = tie.close (tie.spec awaited-requires returns)
