@@ -14,10 +14,10 @@ use Rattle.refusal.specs.declared.Verdict.{Verdict}
 use Rattle.refusal.specs.declared.Verdict.the-variants.{Accepted, Refused}
 use Rattle.frame.specs.Format.{formats}
 use Rattle.sheet.specs.Pages.{Page, pageBytes, readSheets}
-use Rattle.sheet.specs.Walk.{noReadout, layPages}
+use Rattle.sheet.specs.Walk.{noReadout, layPages, pagesFor}
 use Rattle.readout.specs.Joint.{pagesRead, readoutOf}
 use Rattle.readout.proofs.Accepted.{read-or}
-use Rattle.sheet_reader.specs.Single.{pagesFor, sheetReadOf}
+use Rattle.sheet_reader.specs.Single.{sheetReadOf}
 use Rattle.sheet_writer.specs.Single.{pageVerdict, wrote}
 use Rattle.write.specs.Write.{Wrote, wroteBytes}
 use Rattle.write.specs.declared.Written.the-variants.{Refused as written-refused}
