@@ -12,7 +12,7 @@ use Rattle.history.specs.Change.{CardSet, Numbers}
 use Rattle.history.specs.Vector.{noEntries, Tracked}
 use Rattle.history.specs.Vector as history
 use Rattle.protocol.specs.Model as model
-use Rattle.protocol.specs.Model.{Limits, Model, OpenChange, Memory, StateNumbers, noCards, freePlace}
+use Rattle.protocol.specs.Model.{Model, OpenChange, Memory, StateNumbers, noCards, freePlace}
 use Rattle.protocol.specs.Edit as edit
 use Rattle.protocol.specs.Calls.{freshModel}
 use Rattle.protocol.specs.Sound.{numbersSound, lineSound, framesSound}
