@@ -3,16 +3,12 @@ use borrow.Author.Needs.{needs}
 use Rattle.sheet_reader.proofs.Single.{long-sheet, refused-sheet, accepted-sheet}
 use Rattle.sheet_reader.proofs.read_sheet.Statement.{statement}
 use Rattle.sheet_reader.proofs.read_sheet.Tie as tie
-use Rattle.sheet_reader.proofs.read_sheet.Reads as reads
-use Rattle.sheet_reader.proofs.read_sheet.Lts as lts
-use Rattle.sheet.proofs.read_sheets.Reads as read-sheets-reads
-use Rattle.sheet_reader.proofs.no_sheet.Reads as no-sheet-reads
 
 no-sheet-requires : tie.Need-no-sheet-requires
 no-sheet-requires c κs = search needs
 
 returns : tie.Need-returns
-returns c = long-sheet (c .before .before .before .args .card) (c .before .before .before .args .s .now) (c .before .if1 .taken) (c .no-sheet .ensures)
+returns c = long-sheet (c .before .before .before .args .card) (c .before .before .before .args .s .now) (search needs) (c .no-sheet .ensures)
 
 read-sheets-requires : tie.Need-read-sheets-requires
 read-sheets-requires c κs = search needs
@@ -27,10 +23,10 @@ no-sheet-requires-2 : tie.Need-no-sheet-requires-2
 no-sheet-requires-2 c κs = search needs
 
 returns-2 : tie.Need-returns-2
-returns-2 c = accepted-sheet (c .before .before .before .before .before .args .card) (c .before .before .before .before .before .args .s .now) (c .before .before .before .if1 .left) (c .before .before .read-sheets .ensures) (c .enum-told .given .1)
+returns-2 c = accepted-sheet (c .before .before .before .before .before .args .card) (c .before .before .before .before .before .args .s .now) (search needs) (c .before .before .read-sheets .ensures) (c .enum-told .given .1)
 
 returns-3 : tie.Need-returns-3
-returns-3 c = refused-sheet (c .before .before .before .before .before .before .before .args .card) (c .before .before .before .before .before .before .before .args .s .now) (c .before .before .before .before .before .if1 .left) (c .before .before .before .before .read-sheets .ensures) (c .before .before .v .given .1) (c .no-sheet2 .ensures)
+returns-3 c = refused-sheet (c .before .before .before .before .before .before .before .args .card) (c .before .before .before .before .before .before .before .args .s .now) (search needs) (c .before .before .before .before .read-sheets .ensures) (c .before .before .v .given .1) (c .no-sheet2 .ensures)
 
 pub read-sheet-spec : {M : Type 1} → statement M
 read-sheet-spec =
