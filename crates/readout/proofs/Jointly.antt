@@ -18,6 +18,7 @@ use Rattle.sheet.specs.declared.Reading.{Reading}
 use Rattle.sheet.specs.Pages.{Page, readSheets}
 use Rattle.sheet.specs.Walk.{noReadout, layPages, readingOf, readingIn}
 use Rattle.sheet.specs.Ring.{pageOf, pagesOf, pageAt}
+use Rattle.sheet.proofs.Walk.{accepted-is}
 use Rattle.sheet.proofs.Whole.{page-on, count-on, whole-read, pages-back}
 use Rattle.sessions.specs.Sessions.{lowestTo, apart}
 use Rattle.sessions.proofs.Laws.{lowest-same, apart-same}
@@ -85,11 +86,12 @@ unfolding pagesRead
 long-read input h = rw (lt-ltb 65536 (length input) h)
 
 pub lines-accepted : (input : List ℕ) {g : Reading} → length input ≤ 65536 → g ≡ readingOf true 0 input → g .verdict ≡ Accepted → given (judged (jointVerdict (pagesOf (g .readout))) (pagesOf (g .readout))) ≡ readoutOf input
-unfolding pagesRead readingIn
+unfolding pagesRead
 lines-accepted input h e v =
     let ps : List Page = readSheets formats true 0 input .pages in
-    let l : readSheets formats true 0 input .verdict ≡ Accepted = sym (ap (λ (x : Reading). x .verdict) e) ∙ v in
-    ap (λ (x : Reading). given (judged (jointVerdict (pagesOf (x .readout))) (pagesOf (x .readout)))) e
+    let all-read = accepted-is formats true 0 input e v in
+    let l : readSheets formats true 0 input .verdict ≡ Accepted = sym (ap (λ (x : Reading). x .verdict) all-read) ∙ v in
+    ap (λ (x : Reading). given (judged (jointVerdict (pagesOf (x .readout))) (pagesOf (x .readout)))) all-read
     ∙ ap (λ (qs : List Page). given (judged (jointVerdict qs) qs)) (pages-back ps (whole-read formats input l))
     ∙ rw (le-ltb 65536 (length input) h, l)
 

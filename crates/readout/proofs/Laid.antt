@@ -18,9 +18,10 @@ use Rattle.frame.specs.Lines.{noFrame}
 use Rattle.sheet.specs.declared.Readout.{Readout}
 use Rattle.sheet.specs.declared.Reading.{Reading}
 use Rattle.sheet.specs.Pages.{Page, readSheets}
-use Rattle.sheet.specs.Walk.{noReadout, layPages, readingOf, readingIn}
+use Rattle.sheet.specs.Walk.{noReadout, layPages, readingOf}
 use Rattle.sheet.specs.Ring.{pageAt}
 use Rattle.sheet.specs.Whole.{Whole}
+use Rattle.sheet.proofs.Walk.{accepted-is}
 use Rattle.sheet.proofs.Whole.{whole-read, frames-rise, whole-holds, whole-cards, pages-back}
 use Rattle.two_vectors.specs.Heads.{endsOf, Orderly}
 use Rattle.readout.specs.Laid.{Laid}
@@ -85,7 +86,7 @@ module _ (ps : List Page) (w : Whole formats ps) where
       }
 
 pub reading-laid : {g : Reading} (input : List ℕ) → g ≡ readingOf true 0 input → g .verdict ≡ Accepted → Laid (g .readout)
-unfolding readingIn
 reading-laid {g} input e v =
-    subst (λ (x : Reading). Laid (x .readout)) (sym e)
-    (whole-laid (readSheets formats true 0 input .pages) (whole-read formats input (sym (ap (λ (x : Reading). x .verdict) e) ∙ v)))
+    let all-read = accepted-is formats true 0 input e v in
+    subst (λ (x : Reading). Laid (x .readout)) (sym all-read)
+    (whole-laid (readSheets formats true 0 input .pages) (whole-read formats input (sym (ap (λ (x : Reading). x .verdict) all-read) ∙ v)))

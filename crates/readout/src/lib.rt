@@ -1,8 +1,6 @@
 // The reader of a joined read-out: its lines, and then the sheets beside each other.
 ghost use mathlib.Core.Path.{_≡_};
 ghost use Prim.Native.Nat.{_≤_};
-ghost use mathlib.Core.List.{[]};
-ghost use Rattle.refusal.specs.declared.Verdict.{Verdict};
 ghost use Rattle.sheet.specs.Ring.{pagesOf};
 ghost use Rattle.two_vectors.specs.Heads.{Orderly, listsRead};
 ghost use Rattle.readout.specs.Joint.{jointVerdict, judged, given, readoutOf};
@@ -37,24 +35,6 @@ fn joint_verdict<'a>(
     Verdict::Accepted
 }
 
-// A refused read-out: that of zeros.
-fn no_readout(x: Refusal) -> Reading
-    ensures { λ r. ⌜ r ≡ given (judged (Verdict.Refused x) []) ⌝ }
-{
-    let readout = Readout {
-        changes: [0u32; 768],
-        entries: [0u32; 12288],
-        sessions: [0u32; 16],
-        bases: [0u32; 16],
-        counts: [0u32; 16],
-        cards: 0,
-    };
-    Reading {
-        readout,
-        verdict: Verdict::Refused(x),
-    }
-}
-
 // A read-out whose lines are accepted, by the joint verdict.
 fn judged_jointly(r: Readout) -> Reading
     requires { ⌜ Laid r ⌝ }
@@ -70,7 +50,7 @@ fn judged_jointly(r: Readout) -> Reading
             readout: r,
             verdict: Verdict::Accepted,
         },
-        Verdict::Refused(x) => no_readout(x),
+        Verdict::Refused(x) => sheet::nothing_read(x),
     }
 }
 
@@ -79,7 +59,7 @@ pub fn read_readout(s: &[u8]) -> Reading
     ensures { λ r. ⌜ r ≡ readoutOf (now (s .entry)) ⌝ }
 {
     if 65536 < s.len() {
-        return no_readout(Refusal::TooLong);
+        return sheet::nothing_read(Refusal::TooLong);
     }
     let read = sheet::read_sheets(s, 0, true);
     let v = read.verdict;
@@ -88,6 +68,6 @@ pub fn read_readout(s: &[u8]) -> Reading
             let r = read.readout;
             judged_jointly(r)
         }
-        Verdict::Refused(x) => no_readout(x),
+        Verdict::Refused(x) => sheet::nothing_read(x),
     }
 }

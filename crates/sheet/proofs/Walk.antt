@@ -28,7 +28,7 @@ use Rattle.frame.proofs.Judged.{entries-same, padded-at, entries-count}
 use Rattle.sheet.specs.declared.Readout.{Readout}
 use Rattle.sheet.specs.declared.Reading.{Reading}
 use Rattle.sheet.specs.Pages.{Page, Frames, withFrame, readFrames, framesOf, Sheets, withSheet, sheetIn, readSheet, ended, moreSheets, readSheets}
-use Rattle.sheet.specs.Walk.{placeOf, noReadout, layHeader, layFrame, layFrames, layPage, layPages, laid, readingIn}
+use Rattle.sheet.specs.Walk.{placeOf, noReadout, layHeader, layFrame, layFrames, layPage, layPages, laid, readUpTo, answered, readingIn}
 
 -- ---- answers told apart
 
@@ -103,7 +103,7 @@ frames-padded f start card n (suc k) state last input h = rw (verdict-padded f s
 -- at the head of the loop over sheets
 pub record Outer (F : Formats) (s : List ℕ) (card : ℕ) (all : Bool) (r : Readout) (at due first left : ℕ) : Type 0 where
   pub begun : first ≡ 0 → left ≡ 1
-  pub goes-on : laid r (going F all first left due (drop at s)) ≡ readingIn F all card s
+  pub goes-on : laid r (going F all first left due (drop at s)) ≡ readUpTo F all card s
 
 -- at the head of the loop over frames
 pub record Inner (F : Formats) (f : Format) (s : List ℕ) (card : ℕ) (all : Bool) (due left n base count session i : ℕ) (r : Readout) (at : ℕ) (last : Frame) (k : ℕ) : Type 0 where
@@ -116,7 +116,7 @@ pub record Inner (F : Formats) (f : Format) (s : List ℕ) (card : ℕ) (all : B
   pub passed : k ≤ count
   pub goes-on :
       laidFrames due (base + 1 + k) k r (readFrames f (f .start due session) due n (count - k) (base + 1 + k) last (drop at s)) (moreSheets F (left - 1) (due + 1) n)
-      ≡ readingIn F all card s
+      ≡ readUpTo F all card s
 
 -- a number is 0 or not
 pub zero-or : (n : ℕ) → (n ≡ 0) ⊎ (n ≡ 0 → ⊥)
@@ -133,27 +133,27 @@ lift-pos n h = omega arith
 -- ---- from place to place
 
 pub outer-start : (F : Formats) (s : List ℕ) (card : ℕ) (all : Bool) → Outer F s card all noReadout 0 card 0 1
-unfolding readingIn
+unfolding readUpTo
 outer-start F s card all =
     record { begun = λ e. refl; goes-on = refl }
 
 module _ {F : Formats} {s : List ℕ} {card : ℕ} {all : Bool} {r : Readout} {at due first left : ℕ} (o : Outer F s card all r at due first left) where
   -- what is left at the head of the loop, where this is the first sheet and where it is not
-  first-on : first ≡ 0 → laid r (readSheets F all due (drop at s)) ≡ readingIn F all card s
+  first-on : first ≡ 0 → laid r (readSheets F all due (drop at s)) ≡ readUpTo F all card s
   first-on e = rw (eq-eqb first 0 e) at (o .goes-on)
 
-  more-on : (first ≡ 0 → ⊥) → laid r (moreSheets F left due first (drop at s)) ≡ readingIn F all card s
+  more-on : (first ≡ 0 → ⊥) → laid r (moreSheets F left due first (drop at s)) ≡ readUpTo F all card s
   more-on e = rw (ne-eqb first 0 e) at (o .goes-on)
 
-  pub outer-end : left ≡ 0 → {v : Verdict} → v ≡ ended (drop at s) .verdict → _≡_ {A = Reading} (record { readout = r; verdict = v }) (readingIn F all card s)
+  pub outer-end : left ≡ 0 → {v : Verdict} → v ≡ ended (drop at s) .verdict → _≡_ {A = Reading} (record { readout = r; verdict = v }) (readUpTo F all card s)
   outer-end e {v} q =
-      let g : laid r (moreSheets F 0 due first (drop at s)) ≡ readingIn F all card s = rw e at (more-on (λ z. omega (arith, o .begun z))) in
+      let g : laid r (moreSheets F 0 due first (drop at s)) ≡ readUpTo F all card s = rw e at (more-on (λ z. omega (arith, o .begun z))) in
       rw q g
 
   abbrev picked : Format
   picked = formatIn F (drop at s)
 
-  fault-on : {x : Refusal} → 0 < left → headerVerdict picked due first (drop at s) ≡ Refused x → (first ≡ 0) ⊎ (first ≡ 0 → ⊥) → _≡_ {A = Reading} (record { readout = r; verdict = Refused x }) (readingIn F all card s)
+  fault-on : {x : Refusal} → 0 < left → headerVerdict picked due first (drop at s) ≡ Refused x → (first ≡ 0) ⊎ (first ≡ 0 → ⊥) → _≡_ {A = Reading} (record { readout = r; verdict = Refused x }) (readUpTo F all card s)
   unfolding readSheets
   fault-on {x} l e (inl z) =
       let e′ : headerVerdict picked due 0 (drop at s) ≡ Refused x = rw z at e in
@@ -162,7 +162,7 @@ module _ {F : Formats} {s : List ℕ} {card : ℕ} {all : Bool} {r : Readout} {a
       let q : left ≡ suc (left - 1) = omega arith in
       rw e at (rw q at (more-on z))
 
-  pub outer-fault : {f : Format} {x : Refusal} → 0 < left → f ≡ picked → headerVerdict f due first (drop at s) ≡ Refused x → _≡_ {A = Reading} (record { readout = r; verdict = Refused x }) (readingIn F all card s)
+  pub outer-fault : {f : Format} {x : Refusal} → 0 < left → f ≡ picked → headerVerdict f due first (drop at s) ≡ Refused x → _≡_ {A = Reading} (record { readout = r; verdict = Refused x }) (readUpTo F all card s)
   outer-fault l p e = fault-on l (rw p at e) (zero-or first)
 
   -- the sheets left with this one, as the code counts them
@@ -186,7 +186,7 @@ module _ {F : Formats} {s : List ℕ} {card : ℕ} {all : Bool} {r : Readout} {a
       headerVerdict picked due first (drop at s) ≡ Accepted →
       0 < left →
       (first ≡ 0) ⊎ (first ≡ 0 → ⊥) →
-      laidFrames (h .card) (h .base + 1) 0 (layHeader h r) (framesOf picked h (drop at s)) (moreSheets F (now-left (cardsOf picked h) - 1) (due + 1) (cardsOf picked h)) ≡ readingIn F all card s
+      laidFrames (h .card) (h .base + 1) 0 (layHeader h r) (framesOf picked h (drop at s)) (moreSheets F (now-left (cardsOf picked h) - 1) (due + 1) (cardsOf picked h)) ≡ readUpTo F all card s
   unfolding readSheets
   inner-on h q e l (inl z) =
       let e′ : headerVerdict picked due 0 (drop at s) ≡ Accepted = rw z at e in
@@ -241,7 +241,7 @@ module _ {F : Formats} {s : List ℕ} {card : ℕ} {all : Bool} {r : Readout} {a
           (h : Header) →
           h ≡ headerIn f (drop at s) →
           headerVerdict f due first (drop at s) ≡ Accepted →
-          laidFrames (h .card) (h .base + 1) 0 (layHeader h r) (framesOf f h (drop at s)) (moreSheets F (now-left (cardsOf f h) - 1) (due + 1) (cardsOf f h)) ≡ readingIn F all card s
+          laidFrames (h .card) (h .base + 1) 0 (layHeader h r) (framesOf f h (drop at s)) (moreSheets F (now-left (cardsOf f h) - 1) (due + 1) (cardsOf f h)) ≡ readUpTo F all card s
       on-picked f p h q e = rw p (inner-on h (rw p at q) (rw p at e) l (zero-or first))
 
 module _ {F : Formats} {f : Format} {s : List ℕ} {card : ℕ} {all : Bool} {due left n base count session i : ℕ} {r : Readout} {at : ℕ} {last : Frame} {k : ℕ} (o : Inner F f s card all due left n base count session i r at last k) where
@@ -252,10 +252,10 @@ module _ {F : Formats} {f : Format} {s : List ℕ} {card : ℕ} {all : Bool} {du
   then-sheets = moreSheets F (left - 1) (due + 1) n
 
   -- one frame is due: its verdict decides
-  frame-due : k < count → laidFrames due (base + 1 + k) k r (frames-left (suc (count - (k + 1))) (base + 1 + k) last (drop at s)) then-sheets ≡ readingIn F all card s
+  frame-due : k < count → laidFrames due (base + 1 + k) k r (frames-left (suc (count - (k + 1))) (base + 1 + k) last (drop at s)) then-sheets ≡ readUpTo F all card s
   frame-due h = let m : count - k ≡ suc (count - (k + 1)) = omega arith in rw m at (o .goes-on)
 
-  pub inner-fault : {x : Refusal} → k < count → frameVerdict f (f .start due session) due n (base + 1 + k) last (drop at s) ≡ Refused x → _≡_ {A = Reading} (record { readout = r; verdict = Refused x }) (readingIn F all card s)
+  pub inner-fault : {x : Refusal} → k < count → frameVerdict f (f .start due session) due n (base + 1 + k) last (drop at s) ≡ Refused x → _≡_ {A = Reading} (record { readout = r; verdict = Refused x }) (readUpTo F all card s)
   inner-fault h e = rw e at (frame-due h)
 
   -- behind the last frame the next sheet is due
@@ -321,3 +321,29 @@ sheets-fewer all first left n left′ e b l p q = rw (ne-eqb n 0 (λ (z : n ≡ 
     by (inr z) =
         let m : left′ ≡ left = e ∙ rw (ne-eqb first 0 z) in
         rw (ne-eqb first 0 z) (omega arith)
+
+-- ---- the answer, by the verdict
+
+-- a reading by its parts
+pub read-as : {r r′ : Readout} {v v′ : Verdict} {g : Reading} → r ≡ r′ → v ≡ v′ → _≡_ {A = Reading} (record { readout = r′; verdict = v′ }) g → _≡_ {A = Reading} (record { readout = r; verdict = v }) g
+read-as p q e = (λ i. record { readout = p i; verdict = q i }) ∙ e
+
+module _ (F : Formats) (all : Bool) (card : ℕ) (s : List ℕ) {r : Readout} {v : Verdict} (e : _≡_ {A = Reading} (record { readout = r; verdict = v }) (readUpTo F all card s)) where
+  verdict-is : readSheets F all card s .verdict ≡ v
+  unfolding readUpTo
+  verdict-is = sym (ap (λ (x : Reading). x .verdict) e)
+
+  pub kept : v ≡ Accepted → _≡_ {A = Reading} (record { readout = r; verdict = v }) (readingIn F all card s)
+  unfolding readUpTo readingIn
+  kept q = e ∙ rw (verdict-is, q)
+
+  pub wiped : {x : Refusal} {g : Reading} → v ≡ Refused x → g ≡ answered (Refused x) [] → g ≡ readingIn F all card s
+  unfolding readUpTo readingIn
+  wiped q p = p ∙ rw (verdict-is, q)
+
+-- an accepted answer is all that was read
+pub accepted-is : (F : Formats) (all : Bool) (card : ℕ) (s : List ℕ) {g : Reading} → g ≡ readingIn F all card s → g .verdict ≡ Accepted → g ≡ laid noReadout (readSheets F all card s)
+unfolding readingIn
+accepted-is F all card s e v =
+    let q : readSheets F all card s .verdict ≡ Accepted = sym (ap (λ (x : Reading). x .verdict) e) ∙ v in
+    e ∙ rw q

@@ -5,6 +5,7 @@ use mathlib.Core.List.{List, [], _∷_}
 use lib.ListN.{set, replicate}
 use lib.Seq.{sets}
 use Rattle.refusal.specs.declared.Verdict.{Verdict}
+use Rattle.refusal.specs.declared.Verdict.the-variants.{Accepted, Refused}
 use Rattle.frame.specs.declared.Header.{Header}
 use Rattle.frame.specs.declared.Frame.{Frame}
 use Rattle.frame.specs.Format.{Formats, formats}
@@ -69,8 +70,20 @@ abbrev pub laid : Readout → Sheets → Reading
 laid r w = record { readout = layPages (w .pages) r; verdict = w .verdict }
 
 -- all that was read up to the first line at fault, with the verdict
+unfoldable pub readUpTo : Formats → Bool → ℕ → List ℕ → Reading
+readUpTo F all card input = laid noReadout (readSheets F all card input)
+
+-- the sheets answered with a verdict: none with a refusal
+abbrev pub pagesFor : Verdict → List Page → List Page
+pagesFor Accepted ps = ps
+pagesFor (Refused x) ps = []
+
+abbrev pub answered : Verdict → List Page → Reading
+answered v ps = record { readout = layPages (pagesFor v ps) noReadout; verdict = v }
+
+-- what a reader of sheets answers: "nothing of the sheet is used" where a line is at fault
 unfoldable pub readingIn : Formats → Bool → ℕ → List ℕ → Reading
-readingIn F all card input = laid noReadout (readSheets F all card input)
+readingIn F all card input = answered (readSheets F all card input .verdict) (readSheets F all card input .pages)
 
 abbrev pub readingOf : Bool → ℕ → List ℕ → Reading
 readingOf all card input = readingIn formats all card input

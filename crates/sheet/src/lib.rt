@@ -2,11 +2,13 @@
 ghost use mathlib.Core.Path.{_≡_};
 ghost use Prim.Native.Nat.{_+_, _*_, _-_, _≤_, _<_};
 ghost use mathlib.Core.Bool.{cond};
+ghost use mathlib.Core.List.{[]};
 ghost use lib.ListN.{drop};
 ghost use lib.Seq.{sets};
 ghost use lib.Dec.{eqb};
 ghost use Rattle.sheet.specs.Pages.{ended};
-ghost use Rattle.sheet.specs.Walk.{readingOf};
+ghost use Rattle.refusal.specs.declared.Verdict.{Verdict};
+ghost use Rattle.sheet.specs.Walk.{answered, readingOf};
 use frame::Frame;
 use frame::FrameLine;
 use frame::HeaderLine;
@@ -24,10 +26,29 @@ pub struct Readout {
     pub cards: u32,
 }
 
-// What was read up to the first line at fault, and the verdict. The counts say how far it came.
+// What was read, and the verdict.
 pub struct Reading {
     pub readout: Readout,
     pub verdict: Verdict,
+}
+
+// A refusal hands back the read-out of zeros.
+pub fn nothing_read(x: Refusal) -> Reading
+    ensures { λ r. ⌜ r ≡ answered (Verdict.Refused x) [] ⌝ }
+{
+    let zeros = [0u32; 16];
+    let readout = Readout {
+        changes: [0u32; 768],
+        entries: [0u32; 12288],
+        sessions: zeros,
+        bases: zeros,
+        counts: zeros,
+        cards: 0,
+    };
+    Reading {
+        readout,
+        verdict: Verdict::Refused(x),
+    }
 }
 
 // The verdict behind the last sheet: refused where the input goes on.
@@ -127,6 +148,12 @@ pub fn read_sheets(s: &[u8], card: u32, all: bool) -> Reading
         due += 1;
         left -= 1;
     };
+    match verdict {
+        Verdict::Accepted => {}
+        Verdict::Refused(x) => {
+            return nothing_read(x);
+        }
+    }
     Reading {
         readout: r,
         verdict,

@@ -2,7 +2,6 @@
 ghost use Prim.Native.Nat.{_<_};
 use frame::Header;
 use refusal::Verdict;
-use sheet::Readout;
 use write::Written;
 
 // 0 where the bytes are accepted, else the number of the refusal.
@@ -27,22 +26,36 @@ fn place_of(card: u32, base: u32, k: usize) -> usize
     (card % 16) as usize * 48 + ((base % 48) as usize + 1 + k % 48) % 48
 }
 
-// Of a sheet that is accepted the sum of an entry and a change number, by their places among its rows.
-fn sum_at(r: Readout, card: u32, place: usize) -> u32 {
-    let base = r.bases[(card % 16) as usize];
-    let e = r.entries[place_of(card, base, place / 16) * 16 + place % 16];
-    let c = r.changes[place_of(card, base, place)];
+// The sum of an entry and a change number of a card's sheet, by their places among its rows.
+fn sum_at<'a>(
+    changes: &'a [u32; 768],
+    entries: &'a [u32; 12288],
+    card: u32,
+    base: u32,
+    place: usize,
+) -> u32 {
+    let e = entries[place_of(card, base, place / 16) * 16 + place % 16];
+    let c = changes[place_of(card, base, place)];
     std::num::wrapping_add_u32(e, c)
 }
 
-// That sum, or the number of the refusal.
+// That sum of a sheet that is accepted, or the number of the refusal. The read-out is looked at where it stands.
 #[no_mangle]
 pub extern "C" fn bench_read_sheet(s: &[u8], card: u32, place: usize) -> u32 {
     let read = sheet_reader::read_sheet(s, card);
     let v = read.verdict;
-    let r = read.readout;
     match v {
-        Verdict::Accepted => sum_at(r, card, place),
+        Verdict::Accepted => {
+            let bases = read.readout.bases;
+            let base = bases[(card % 16) as usize];
+            sum_at(
+                &read.readout.changes,
+                &read.readout.entries,
+                card,
+                base,
+                place,
+            )
+        }
         Verdict::Refused(x) => refusal::number(x),
     }
 }

@@ -21,7 +21,7 @@ use Rattle.sheet.specs.declared.Readout.{Readout}
 use Rattle.sheet.specs.declared.Reading.{Reading}
 use Rattle.sheet.specs.Pages.{Page, pageBytes, pagesBytes, readSheets}
 use Rattle.sheet.specs.Allowed.{framesAllowed, Allowed}
-use Rattle.sheet.specs.Walk.{noReadout, layPage, layPages}
+use Rattle.sheet.specs.Walk.{noReadout, layPage, layPages, answered}
 use Rattle.sheet.specs.Ring.{ringFrame, headerOf, pageOf}
 use Rattle.sheet.proofs.Round.{formats-sound, written-reads-back, read-writes-again}
 use Rattle.sheet.proofs.Read.{sheet-read}
@@ -30,7 +30,7 @@ use Rattle.write.specs.declared.Written.the-variants.{Length, Refused as writte
 use Rattle.write.specs.Write.{Wrote, wroteBytes}
 use Rattle.write.proofs.Rows.{rows-bytes, sheet-length, line-bound, lines-bound}
 use Rattle.sheet_writer.specs.Single.{pageVerdict, wrote}
-use Rattle.sheet_reader.specs.Single.{answered, sheetReadOf}
+use Rattle.sheet_reader.specs.Single.{sheetReadOf}
 use Rattle.sheet_round.specs.Claims.{Held, alone, WrittenReadsBack, PageReadsBack, SameReadsBack, ReadWritesAgain, ReadIsAlone}
 use Rattle.sheet_round.proofs.Rows.{ring-formed, sessions-small, changes-small}
 

@@ -5,17 +5,12 @@ use Rattle.readout.proofs.Jointly.{long-read, lines-accepted, lines-ref
 use Rattle.readout.proofs.Laid.{reading-laid}
 use Rattle.readout.proofs.read_readout.Statement.{statement}
 use Rattle.readout.proofs.read_readout.Tie as tie
-use Rattle.readout.proofs.read_readout.Reads as reads
-use Rattle.readout.proofs.read_readout.Lts as lts
-use Rattle.readout.proofs.judged_jointly.Reads as judged-jointly-reads
-use Rattle.readout.proofs.no_readout.Reads as no-readout-reads
-use Rattle.sheet.proofs.read_sheets.Reads as read-sheets-reads
 
-no-readout-requires : tie.Need-no-readout-requires
-no-readout-requires c κs = search needs
+nothing-read-requires : tie.Need-nothing-read-requires
+nothing-read-requires c κs = search needs
 
 returns : tie.Need-returns
-returns c = c .no-readout .ensures ∙ long-read (c .before .before .before .args .s .now) (c .before .if1 .taken)
+returns c = c .nothing-read .ensures ∙ long-read (c .before .before .before .args .s .now) (c .before .if1 .taken)
 
 read-sheets-requires : tie.Need-read-sheets-requires
 read-sheets-requires c κs = search needs
@@ -30,8 +25,8 @@ judged-jointly-requires c κs =
 enum-known-v : tie.Need-enum-known-v
 enum-known-v c = search needs
 
-no-readout-requires-2 : tie.Need-no-readout-requires-2
-no-readout-requires-2 c κs = search needs
+nothing-read-requires-2 : tie.Need-nothing-read-requires-2
+nothing-read-requires-2 c κs = search needs
 
 returns-2 : tie.Need-returns-2
 returns-2 c =
@@ -41,18 +36,18 @@ returns-2 c =
 returns-3 : tie.Need-returns-3
 returns-3 c =
     let s : _ = c .before .before .before .before in
-    c .no-readout2 .ensures ∙ lines-refused (s .before .before .before .args .s .now) (s .before .if1 .left) (s .read-sheets .ensures) (c .before .before .v .given .1)
+    c .nothing-read2 .ensures ∙ lines-refused (s .before .before .before .args .s .now) (s .before .if1 .left) (s .read-sheets .ensures) (c .before .before .v .given .1)
 
 pub read-readout-spec : {M : Type 1} → statement M
 read-readout-spec =
     tie.close
     (tie.spec
-    no-readout-requires
+    nothing-read-requires
     returns
     read-sheets-requires
     enum-told
     judged-jointly-requires
     enum-known-v
-    no-readout-requires-2
+    nothing-read-requires-2
     returns-2
     returns-3)

@@ -8,6 +8,7 @@ use lib.Dec.{eqb}
 use lib.ListN.{length, drop}
 use Rattle.digits.proofs.Lines.{whole-room}
 use mathlib.Core.List.{List}
+use mathlib.Core.Logic.{⊎-elim}
 use Rattle.refusal.specs.declared.Verdict.{Verdict}
 use Rattle.refusal.specs.declared.Verdict.the-variants.{Accepted, Refused}
 use Rattle.frame.specs.declared.Header.{Header}
@@ -19,7 +20,9 @@ use Rattle.frame.specs.Format.{Format, formats, formatOf, Fits}
 use Rattle.frame.specs.Lines.{cardsOf, formatIn, headerDigits, headerIn, headerVerdict, headerTold, frameDigits, frameIn, frameVerdict, frameReadOf, frameTold, padded}
 use Rattle.frame.proofs.Judged.{row-small}
 use Rattle.frame.proofs.Passed.{Header-in-limits, header-within, header-passed, frame-passed}
-use Rattle.sheet.proofs.Walk.{Outer, Inner, header-read-is, header-fault-is, frame-read-is, frame-fault-is, outer-start, outer-end, outer-fault, outer-inner, inner-fault, inner-end, inner-again, sheets-fewer, lift-pos}
+use Rattle.sheet.specs.declared.Reading.{Reading}
+use Rattle.sheet.specs.Walk.{readUpTo}
+use Rattle.sheet.proofs.Walk.{Outer, Inner, header-read-is, header-fault-is, frame-read-is, frame-fault-is, outer-start, outer-end, outer-fault, outer-inner, inner-fault, inner-end, inner-again, sheets-fewer, lift-pos, read-as, kept, wiped}
 use Rattle.sheet.proofs.read_sheets.Statement.{statement}
 use Rattle.sheet.proofs.read_sheets.Tie as tie
 use Rattle.sheet.proofs.read_sheets.Reads as reads
@@ -282,20 +285,49 @@ sheets-less c =
 sheets-again : tie.Need-sheets-again Inv-loop μ-loop Inv-sheets μ-sheets
 sheets-again c = inner-end (c .before .loop .inv) (c .loop-test .left)
 
-returns : tie.Need-returns Inv-loop μ-loop Inv-sheets μ-sheets
-returns c = outer-end (c .before .before .sheets .inv) (c .before .if1 .taken) (c .end-at .ensures)
+enum-told-3 : tie.Need-enum-told-3 Inv-loop μ-loop Inv-sheets μ-sheets
+enum-told-3 c = search needs
 
-returns-2 : tie.Need-returns-2 Inv-loop μ-loop Inv-sheets μ-sheets
-returns-2 c =
+enum-known-verdict : tie.Need-enum-known-verdict Inv-loop μ-loop Inv-sheets μ-sheets
+enum-known-verdict c = search needs
+
+nothing-read-requires : tie.Need-nothing-read-requires Inv-loop μ-loop Inv-sheets μ-sheets
+nothing-read-requires c κs = search needs
+
+-- what was read where the walk is left: behind the last sheet, at a header, at a frame
+at-end : (c : tie.After-end-at Inv-loop μ-loop Inv-sheets μ-sheets) → _≡_ {A = Reading} (record { readout = c .before .before .sheets .r; verdict = c .end-at .result }) (readUpTo formats (c .before .before .before .before .args .all) (c .before .before .before .before .args .card) (c .before .before .before .before .args .s .now))
+at-end c = outer-end (c .before .before .sheets .inv) (c .before .if1 .taken) (c .end-at .ensures)
+
+at-header : (c : tie.After-header-told Inv-loop μ-loop Inv-sheets μ-sheets) → _≡_ {A = Reading} (record { readout = c .before .before .before .before .before .before .before .sheets .r; verdict = c .header-told .result }) (readUpTo formats (c .before .before .before .before .before .before .before .before .before .args .all) (c .before .before .before .before .before .before .before .before .before .args .card) (c .before .before .before .before .before .before .before .before .before .args .s .now))
+at-header c =
     let x = c .before .enum-told .given in
     let e = header-fault-is _ _ (x .0 .0) (sym (c .before .before .before .header-at .ensures) ∙ x .1) in
     rw (c .header-told .ensures, x .1) (outer-fault (c .before .before .before .before .before .before .before .sheets .inv) (lift-pos _ (c .before .before .before .before .before .before .if1 .left)) (c .before .before .before .before .layout-of .ensures .0 ∙ ap formats (c .before .before .before .before .before .told-at .ensures)) e)
 
-returns-3 : tie.Need-returns-3 Inv-loop μ-loop Inv-sheets μ-sheets
-returns-3 c =
+at-frame : (c : tie.After-frame-told Inv-loop μ-loop Inv-sheets μ-sheets) → _≡_ {A = Reading} (record { readout = c .before .before .before .before .before .before .loop .r; verdict = c .frame-told .result }) (readUpTo formats (c .before .before .before .before .before .before .before .before .before .before .before .before .before .before .before .before .before .before .args .all) (c .before .before .before .before .before .before .before .before .before .before .before .before .before .before .before .before .before .before .args .card) (c .before .before .before .before .before .before .before .before .before .before .before .before .before .before .before .before .before .before .args .s .now))
+at-frame c =
     let x = c .before .enum-told2 .given in
     let e = frame-fault-is (verdict-of (c .before .before .before)) (frame-of (c .before .before .before)) (x .0 .0) (sym (ap (λ (y : FrameRead). y .line) (frame-told-is (c .before .before .before))) ∙ x .1) in
     rw (c .frame-told .ensures, x .1) (inner-fault (c .before .before .before .before .before .before .loop .inv) (c .before .before .before .before .before .loop-test .taken) e)
+
+-- what was read up to the place where the walk was left
+read-up-to : (c : tie.Joined1 Inv-loop μ-loop Inv-sheets μ-sheets) → _≡_ {A = Reading} (record { readout = c .if1 .r; verdict = c .if1 .verdict }) (readUpTo formats (c .before .before .before .args .all) (c .before .before .before .args .card) (c .before .before .before .args .s .now))
+read-up-to c =
+    let b = c .before in
+    ⊎-elim (λ w. read-as (w .2) (w .5) (at-end (record { before = record { before = b; if1 = w .0 }; end-at = w .1 })))
+    (⊎-elim (λ w. read-as (w .7) (w .10) (at-header (record { before = record { before = record { before = record { before = record { before = record { before = record { before = b; if1 = w .0 }; told-at = w .1 }; layout-of = w .2 }; header-at = w .3 }; match = w .4 }; enum-told = w .5 }; header-told = w .6 })))
+    (λ w. read-as (w .16) (w .19) (at-frame (record { before = record { before = record { before = record { before = record { before = record { before = record { before = record { before = record { before = record { before = record { before = record { before = record { before = record { before = record { before = record { before = b; if1 = w .0 }; told-at = w .1 }; layout-of = w .2 }; header-at = w .3 }; match = w .4 }; line = w .5 }; known-told = w .6 }; unraised = w .7 }; sheets-left = w .8 }; loop = w .9 }; loop-test = w .10 }; start-of = w .11 }; frame-at = w .12 }; match2 = w .13 }; enum-told2 = w .14 }; frame-told = w .15 }))))
+    (c .if1 .came)
+
+returns : tie.Need-returns Inv-loop μ-loop Inv-sheets μ-sheets
+returns c =
+    let a = c .before .before .before .before .before .before .before .args in
+    wiped formats (a .all) (a .card) (a .s .now) (read-up-to (c .before .before .before .before)) (c .before .before .verdict .given .1) (c .nothing-read .ensures)
+
+returns-2 : tie.Need-returns-2 Inv-loop μ-loop Inv-sheets μ-sheets
+returns-2 c =
+    let a = c .before .before .before .before .before .args in
+    kept formats (a .all) (a .card) (a .s .now) (read-up-to (c .before .before)) (c .enum-told3 .given .1)
 
 pub read-sheets-spec : {M : Type 1} → statement M
 read-sheets-spec =
@@ -354,6 +386,8 @@ read-sheets-spec =
     sub-left
     sheets-less
     sheets-again
+    enum-told-3
+    enum-known-verdict
+    nothing-read-requires
     returns
-    returns-2
-    returns-3)
+    returns-2)
