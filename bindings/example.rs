@@ -3,7 +3,7 @@ extern "C" {
     fn yerwaqis_replay(text: *const u8, text_len: usize, out: *mut u8, out_len: usize) -> usize;
 }
 
-// The answers to a list of calls, or nothing where the buffer is too short for them.
+// The answers to a list of calls, or nothing where the buffer is too short for them and stays as it was.
 fn replay<'a>(list: &str, out: &'a mut [u8]) -> Option<&'a [u8]> {
     let n = unsafe { yerwaqis_replay(list.as_ptr(), list.len(), out.as_mut_ptr(), out.len()) };
     out.get(..n)

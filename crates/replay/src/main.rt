@@ -78,7 +78,8 @@ fn within(count: usize) -> usize
     if count < 129 { count } else { 129 }
 }
 
-// Does the lines of a part of the input, each where it ends. The cabinet goes by value, so the step stands in the loop itself.
+// Does the lines of a part of the input, each where it ends: one whose answer has no room changes nothing. The cabinet goes by
+// value, so the step stands in the loop itself.
 fn feed(f: Reader, part: &[u8], out: &mut [u8]) -> Reader {
     let mut r = f.replay;
     let mut line = f.line;
@@ -96,7 +97,7 @@ fn feed(f: Reader, part: &[u8], out: &mut [u8]) -> Reader {
             };
         }
         let said = words::says(&line[0..n]);
-        let s = asking::obey(r, said, out, Progress::Next(0));
+        let s = asking::done(r, said, out, Progress::Next(0));
         let w = s.written;
         r = s.replay;
         if !print(out, w) {
@@ -142,7 +143,7 @@ fn do_rest(r: Replay, line: &[u8], count: usize) {
         if count <= line.len() {
             let mut out = io::large_buffer();
             let said = words::says(&line[0..count]);
-            let s = asking::obey(r, said, &mut out, Progress::Next(0));
+            let s = asking::done(r, said, &mut out, Progress::Next(0));
             let w = s.written;
             print(&out, w);
         }

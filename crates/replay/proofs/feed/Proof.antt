@@ -42,8 +42,8 @@ part-says-end c = search needs
 says-requires : tie.Need-says-requires Inv-loop μ-loop
 says-requires c κs = search needs
 
-obey-requires : tie.Need-obey-requires Inv-loop μ-loop
-obey-requires c κs = search needs
+done-requires : tie.Need-done-requires Inv-loop μ-loop
+done-requires c κs = search needs
 
 print-requires : tie.Need-print-requires Inv-loop μ-loop
 print-requires c κs = search needs
@@ -82,7 +82,7 @@ feed-spec =
     part-says-start
     part-says-end
     says-requires
-    obey-requires
+    done-requires
     print-requires
     same-length-2
     returns-2
