@@ -1,9 +1,10 @@
 #!/bin/bash
 # Measures the engine beside the Rust port of its own method (bench/port), by value and by `&mut`: instructions counted by
 # callgrind, so that figures repeat. Prints the tables of docs/BENCH.md.
-# Run from the repository's root: bash bench/run.sh
+# Run from any folder: bash bench/run.sh
 # It needs rt, cargo, rustc, valgrind and python3.
 set -e
+cd "$(dirname "$0")/.."
 out=target/bench
 mkdir -p $out
 rt staticlib calls_bench > $out/staticlib.log 2>&1

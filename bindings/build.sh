@@ -1,7 +1,8 @@
 #!/bin/sh
 # Builds the static library and runs the examples in C and in Rust.
-# Run from the repository's root: sh bindings/build.sh
+# Run from any folder: sh bindings/build.sh
 set -e
+cd "$(dirname "$0")/.."
 rt staticlib trace
 mkdir -p target/bindings
 cc -O2 -Wall -o target/bindings/example_c bindings/example.c -L target/staticlib -ltrace

@@ -1,7 +1,8 @@
 #!/bin/sh
 # The stack, in KB, that each entry point needs: the least limit with which it still gives its answers, found by halving.
-# Run from the repository's root: sh bindings/stack.sh
+# Run from any folder: sh bindings/stack.sh
 set -e
+cd "$(dirname "$0")/.."
 rt staticlib trace > /dev/null 2>&1
 rt check replay line > /dev/null 2>&1
 mkdir -p target/bindings

@@ -1,7 +1,8 @@
 #!/bin/sh
 # Compares the engine with the second implementation: COUNT random lists of calls and COUNT random read-outs, from SEED on.
-# What differs is shrunk and printed. Run from the repository's root: sh second/compare.sh [SEED [COUNT]]
+# What differs is shrunk and printed. Run from any folder: sh second/compare.sh [SEED [COUNT]]
 set -e
+cd "$(dirname "$0")/.."
 rt check replay line
 (cd second && cargo build --release --offline -j1)
 second/target/release/compare lists own target/bin/replay "${1:-1}" "${2:-1000}"

@@ -1,7 +1,8 @@
 #!/bin/sh
 # Measures the core of fix, its check for 28 with it, with the longest list of lost changes, in instructions: the run `fix` less the run `nothing`, by 20.
-# Run from the repository's root: sh bench/lost/build.sh
+# Run from any folder: sh bench/lost/build.sh
 set -e
+cd "$(dirname "$0")/../.."
 rt staticlib lost_bench
 mkdir -p target/bench
 rustc -O -o target/bench/lost bench/lost/main.rs -L target/staticlib -l static=lost_bench

@@ -1,8 +1,9 @@
 #!/bin/sh
 # Measures the line program on the largest read-out, 62,608 bytes, beside the same work in plain Rust: instructions, and
 # the seconds of 500 runs. `empty` is the same program on an empty input, to be taken off.
-# Run from the repository's root: sh bench/restart/build.sh
+# Run from any folder: sh bench/restart/build.sh
 set -e
+cd "$(dirname "$0")/../.."
 rt check line
 mkdir -p target/bench
 rustc -O -o target/bench/plain_line bench/restart/main.rs

@@ -1,7 +1,8 @@
 #!/bin/sh
 # Measures reading and writing of the largest sheet and read-out, in instructions a byte, beside plain Rust.
-# Run from the repository's root: sh bench/sheet/build.sh
+# Run from any folder: sh bench/sheet/build.sh
 set -e
+cd "$(dirname "$0")/../.."
 rt staticlib sheet_bench
 mkdir -p target/bench
 rustc -O -o target/bench/sheet bench/sheet/main.rs -L target/staticlib -l static=sheet_bench
