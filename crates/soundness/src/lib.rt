@@ -17,7 +17,7 @@ use verdicts::Phase;
 use verdicts::Place;
 use verdicts::is_rolling;
 
-// The same of the vector of a frame.
+// "an entry outside the limits .., an entry of an absent card that isn't none": the vector of a frame.
 fn frame_entries_sound(entries: &[u32; Limits::ENTRIES], from: usize, cards: usize) -> bool
     requires { ⌜ from + 16 ≤ 12288 ⌝ }
     ensures { λ r. ⌜ r ≡ entriesSound limits16 (presentOf cards) (λ j. at (now (entries .entry)) (from + j)) ⌝ }
