@@ -5,11 +5,10 @@ use lib.ListN.{length}
 use Rattle.limits.specs.Document.{mostCards}
 use Rattle.decimal.specs.Digits.{decimal}
 use Rattle.refusal.specs.declared.Refusal.{Refusal}
-use Rattle.refusal.specs.declared.Refusal.the-variants.{CardCount, NoSuchCard, BothSetsEmpty, TooShort, BadLine, BadCheck, BadHeader, EndOrMore, BadFrame, TwoVectors, SessionsApart, TooLong, WrongPhase, Barred, NoPlace, InHandFull, LimitReached, NotAwaited, AlreadyDecided, StoreOutside, BadCabinet, NotDecided, AlreadyRolled}
-use Rattle.refusal.specs.Number.{numberOf}
+use Rattle.refusal.specs.declared.Told.{Told}
+use Rattle.refusal.specs.declared.Told.the-variants.{Alone, Card}
+use Rattle.refusal.specs.Number.{toldOf}
 use Rattle.text.specs.Lines.{lineOf}
-use Rattle.answers.specs.declared.Named.{Named}
-use Rattle.answers.specs.declared.Named.the-variants.{Card, NoCard}
 use Rattle.recovery.specs.Fix.{rowsOf}
 use Rattle.protocol.specs.Plan.{CardRow, Answer, done, opened, safe, unsafe, fixed, written, Reply, accepted, refused}
 
@@ -56,37 +55,12 @@ abbrev pub unreadableText : List ℕ
 unreadableText = lineOf unreadableWord []
 
 -- "21 answers `refused 21 CARD`"
-abbrev pub namedBy : Refusal → Named
-namedBy CardCount = NoCard
-namedBy NoSuchCard = NoCard
-namedBy BothSetsEmpty = NoCard
-namedBy TooShort = NoCard
-namedBy BadLine = NoCard
-namedBy BadCheck = NoCard
-namedBy BadHeader = NoCard
-namedBy EndOrMore = NoCard
-namedBy BadFrame = NoCard
-namedBy TwoVectors = NoCard
-namedBy SessionsApart = NoCard
-namedBy TooLong = NoCard
-namedBy WrongPhase = NoCard
-namedBy (Barred card) = Card card
-namedBy NoPlace = NoCard
-namedBy InHandFull = NoCard
-namedBy LimitReached = NoCard
-namedBy NotAwaited = NoCard
-namedBy AlreadyDecided = NoCard
-namedBy StoreOutside = NoCard
-namedBy BadCabinet = NoCard
-namedBy NotDecided = NoCard
-namedBy AlreadyRolled = NoCard
-
-abbrev pub cardsNamed : Named → List ℕ
-cardsNamed (Card card) = card ∷ []
-cardsNamed NoCard = []
+abbrev pub toldNumbers : Told → List ℕ
+toldNumbers (Alone k) = k ∷ []
+toldNumbers (Card k card) = k ∷ card ∷ []
 
 abbrev pub refusedText : Refusal → List ℕ
-refusedText q = lineOf refusedWord (numberOf q ∷ cardsNamed (namedBy q))
+refusedText q = lineOf refusedWord (toldNumbers (toldOf q))
 
 -- a line for each card record of fix
 abbrev pub rowsText : List CardRow → List ℕ

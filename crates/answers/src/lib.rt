@@ -11,24 +11,19 @@ ghost use Rattle.recovery.specs.Fix.{rowsOf, fixReplyOf};
 ghost use Rattle.card_sheet.specs.Card.{sheetReplyOf};
 ghost use Rattle.text.specs.Put.{Put};
 ghost use Rattle.text.specs.Lines.{lineOf};
-ghost use Rattle.answers.specs.Texts.{namedBy, rowsText, fixedText, refusedText, replyText, noneText, unreadableText, rowCount, sheetWord};
+ghost use Rattle.answers.specs.Texts.{rowsText, fixedText, refusedText, replyText, noneText, unreadableText, rowCount, sheetWord};
 ghost use Rattle.answers.specs.Show.{phaseName, headText, cardsText, showText};
 use limits::Limits;
 use recovery::FixReply;
 use refusal::Refusal;
+use refusal::Reply;
+use refusal::Told;
 use text::Progress;
 use verdicts::Head;
 use verdicts::OpenReply;
 use verdicts::Phase;
-use verdicts::Reply;
 use verdicts::SafeReply;
 use write::Written;
-
-// The card that a refusal names, where it names one.
-enum Named {
-    Card(u32),
-    NoCard,
-}
 
 // Before the first cabinet.
 pub fn put_none(b: &mut [u8], w: Progress) -> Progress
@@ -44,49 +39,17 @@ pub fn put_unreadable(b: &mut [u8], w: Progress) -> Progress
     text::put(b, w, b"unreadable\n")
 }
 
-// The card that a refusal names.
-fn named_card(q: Refusal) -> Named
-    ensures { λ r. ⌜ r ≡ namedBy q ⌝ }
-{
-    match q {
-        Refusal::CardCount => Named::NoCard,
-        Refusal::NoSuchCard => Named::NoCard,
-        Refusal::BothSetsEmpty => Named::NoCard,
-        Refusal::TooShort => Named::NoCard,
-        Refusal::BadLine => Named::NoCard,
-        Refusal::BadCheck => Named::NoCard,
-        Refusal::BadHeader => Named::NoCard,
-        Refusal::EndOrMore => Named::NoCard,
-        Refusal::BadFrame => Named::NoCard,
-        Refusal::TwoVectors => Named::NoCard,
-        Refusal::SessionsApart => Named::NoCard,
-        Refusal::TooLong => Named::NoCard,
-        Refusal::WrongPhase => Named::NoCard,
-        Refusal::Barred(card) => Named::Card(card),
-        Refusal::NoPlace => Named::NoCard,
-        Refusal::InHandFull => Named::NoCard,
-        Refusal::LimitReached => Named::NoCard,
-        Refusal::NotAwaited => Named::NoCard,
-        Refusal::AlreadyDecided => Named::NoCard,
-        Refusal::StoreOutside => Named::NoCard,
-        Refusal::BadCabinet => Named::NoCard,
-        Refusal::NotDecided => Named::NoCard,
-        Refusal::AlreadyRolled => Named::NoCard,
-    }
-}
-
 // A refusal, and after 21 the card.
 pub fn put_refusal(b: &mut [u8], w: Progress, q: Refusal) -> Progress
     ensures { λ r. ⌜ Put (now (b .entry)) w (refusedText q) r (now (b .exit)) ⌝ }
 {
-    let n = refusal::number(q);
-    let named = named_card(q);
-    match named {
-        Named::Card(card) => {
+    let t = refusal::tell(q);
+    match t {
+        Told::Card(n, card) => {
             let both = [n, card];
             text::put_line(b, w, b"refused", &both)
         }
-        Named::NoCard => {
+        Told::Alone(n) => {
             let alone = [n];
             text::put_line(b, w, b"refused", &alone)
         }

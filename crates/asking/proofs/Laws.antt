@@ -12,8 +12,8 @@ use Rattle.text.specs.declared.Progress.{Progress}
 use Rattle.text.specs.declared.Progress.the-variants.{Next, Counting, TooShort}
 use Rattle.protocol.specs.Plan.{Plan, Reply, accepted, refused, done}
 use Rattle.protocol.specs.Calls.{fixPlan, freshRefused}
-use Rattle.verdicts.specs.declared.Reply as verdict
-use Rattle.verdicts.specs.declared.Reply.the-variants.{Done, Refused}
+use Rattle.refusal.specs.declared.Reply as verdict
+use Rattle.refusal.specs.declared.Reply.the-variants.{Done, Refused}
 use Rattle.verdicts.specs.Answers.{replyOf}
 use Rattle.protocol.specs.Codec.{sheetPlan}
 use Rattle.codec.specs.Sheets.{codec}

@@ -3,8 +3,8 @@ ghost use Rattle.answers.specs.Texts.{noneText, unreadableText};
 ghost use Rattle.asking.specs.Told.{Written};
 ghost use Rattle.asking.specs.Step.{Steps, Stays, Freshened, Obeyed};
 use cabinet::Cabinet;
+use refusal::Reply;
 use text::Progress;
-use verdicts::Reply;
 use words::Request;
 use words::Spoken;
 

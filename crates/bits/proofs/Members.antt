@@ -3,19 +3,19 @@
 use Prim.Native.Nat.{ℕ, zero, suc, _+_, _-_, _*_, _/_, _%_, _^_, _≤_, _<_, zero-le, suc-le-suc, min, max}
 use mathlib.Core.Path.{_≡_, refl, sym, _∙_, ap, ap₂}
 use mathlib.Core.Bool.{Bool, true, false, not, _&&_, _||_, cond}
-use native.Mathlib.Nat.{div-one, div-eq-of-lt, div-add-mod', div-lt-iff-lt-mul, mod-lt, mod-one, pow-suc, zero-lt-suc, le-trans, lt-of-le-of-lt, add-zero, add-comm, one-mul, add-sub-of-le, le-add-right}
-use native.Mathlib.Numerals.{add-one, one-add}
+use native.Mathlib.Nat.{div-one, div-eq-of-lt, div-add-mod', mod-lt, pow-suc, zero-lt-suc, le-trans, lt-of-le-of-lt, add-zero, add-comm, one-mul, add-sub-of-le, le-add-right}
+use native.Mathlib.Numerals.{one-add}
 use native.Mathlib.Omega.{arith}
 use lib.Arith.{lt-one, digits-div, digits-mod}
 use lib.Bits.{bitAnd, bitOr, and-step, or-step}
 use lib.Count.{ones, trailingZeros, under, ones-step}
 use lib.Dec.{eqb, ltb, leb·suc-suc, eqb·zero-suc, eqb·suc-zero, eqb·suc-suc}
-use lib.Pow.{pow-pos, pow-mono, shr-shr, shr-le, shl-exact, mod-pow-add}
+use lib.Pow.{pow-pos, pow-mono, shr-shr, shr-le, shl-exact}
 use borrow.Author.Tests.{lt-ltb, le-ltb, ltb-true, ltb-false, eq-eqb, ne-eqb, eqb-true}
-use Rattle.laws.specs.Below.{one-if, anyBelow, countBelow}
+use Rattle.laws.specs.Below.{one-if, anyBelow, countBelow, firstBelow}
 use Rattle.laws.proofs.Logic.{test, clash, fails, same-test}
 use Rattle.laws.proofs.Below.{any-intro, any-elim, Found}
-use Rattle.bits.specs.Sets.{either, both, except, one, below, cut, subset, firstBelow}
+use Rattle.bits.specs.Sets.{either, both, except, one, below, cut, subset}
 use Rattle.bits.specs.Member.{member, number}
 use Rattle.bits.proofs.Sets.{same-cards, cut-inside, subset-at, subset-intro, count-front}
 
@@ -72,9 +72,6 @@ not-halves w x h = omega arith
 
 ones-halves : (n : ℕ) → 2 ^ suc n - 1 ≡ (2 ^ n - 1) * 2 + 1
 ones-halves n = omega (arith, pow-pos n)
-
-low-halves : (w x : ℕ) → x % 2 ^ suc w ≡ x / 2 % 2 ^ w * 2 + x % 2
-low-halves w x = ap (λ (k : ℕ). x % 2 ^ k) (sym (add-one w)) ∙ mod-pow-add x w 1
 
 one-if-lt : (b : Bool) → one-if b < 2
 one-if-lt true = omega arith
@@ -176,28 +173,6 @@ pub below-outside : (w n : ℕ) → w ≤ n → member (2 ^ w - 1) ≡ cut w (be
 below-outside w n h =
     same-cards (λ i. member-below w i ∙ sym (test (ltb i w) (λ e. rw (e, lt-ltb i n (omega (arith, ltb-true i w e)))) (λ e. rw e)))
 
--- a card below w that is put in has room, and so has every card below a bound that is no more
-pub put-inside : (w x c : ℕ) → x < 2 ^ w → c < w → cut w (either (member x) (one c)) ≡ either (member x) (one c)
-put-inside w x c h l =
-    cut-inside w (either (member x) (one c)) (λ i m. ap₂ (λ (a b : Bool). a || b) (member-above w x i h m) (ne-eqb i c (λ (e : i ≡ c). absurd (omega arith))))
-
-pub below-room : (w n : ℕ) → n ≤ w → cut w (below n) ≡ below n
-below-room w n h = cut-inside w (below n) (λ i l. le-ltb i n (omega arith))
-
--- the w lowest digits are the cards below w
-pub member-low-digits : (w x i : ℕ) → member (x % 2 ^ w) i ≡ cut w (member x) i
-member-low-digits zero x i = ap (λ (n : ℕ). member n i) (mod-one x) ∙ member-none i ∙ sym (ap (λ (b : Bool). b && member x i) (le-ltb i 0 zero-le))
-member-low-digits (suc w) x zero =
-    ap (λ (n : ℕ). member n 0) (low-halves w x)
-    ∙ member-low (x / 2 % 2 ^ w) (x % 2) (odd-lt x)
-    ∙ sym (member-zero x)
-    ∙ sym (ap (λ (b : Bool). b && member x 0) (lt-ltb 0 (suc w) (zero-lt-suc w)))
-member-low-digits (suc w) x (suc i) =
-    ap (λ (n : ℕ). member n (suc i)) (low-halves w x)
-    ∙ member-split (x / 2 % 2 ^ w) (x % 2) (odd-lt x) i
-    ∙ member-low-digits w (x / 2) i
-    ∙ sym (ap₂ (λ (a b : Bool). a && b) (leb·suc-suc (suc i) w) (member-suc x i))
-
 -- ---- a number is known by its members
 
 -- the members of the number that stands for a set are the cards of the set
@@ -278,16 +253,6 @@ shift-within w n x h = same-test (eqb (x / 2 ^ n) 0) (subset w (member x) (below
 ones-zero : ones 0 ≡ 0
 unfolding ones
 ones-zero = refl
-
--- a number with no card at or above n is below 2 ^ n
-pub within-lt : (w n x : ℕ) → x < 2 ^ w → subset w (member x) (below n) ≡ true → x < 2 ^ n
-within-lt w n x h e = rest (eqb-true (x / 2 ^ n) 0 (shift-within w n x h ∙ e))
-  where
-    rest : x / 2 ^ n ≡ 0 → x < 2 ^ n
-    rest z =
-        let s : x / 2 ^ n < 1 = omega arith in
-        let t : x < 1 * 2 ^ n = div-lt-iff-lt-mul (pow-pos n) .0 s in
-        omega arith
 
 -- the ones are the members
 pub ones-count : (w x : ℕ) → x < 2 ^ w → ones x ≡ countBelow w (member x)

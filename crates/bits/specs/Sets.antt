@@ -1,6 +1,6 @@
 -- Sets of cards as tests: a card is in the set where the test passes. Every word here is over any width.
-use Prim.Native.Nat.{ℕ, zero, suc}
-use mathlib.Core.Bool.{Bool, not, _&&_, _||_, cond}
+use Prim.Native.Nat.{ℕ}
+use mathlib.Core.Bool.{Bool, not, _&&_, _||_}
 use lib.Dec.{eqb, ltb}
 use Rattle.laws.specs.Below.{allBelow}
 
@@ -35,8 +35,3 @@ subset w p q = allBelow w (λ i. not (p i) || q i)
 -- of the cards below w, p has none at or above n
 abbrev pub inside : ℕ → ℕ → (ℕ → Bool) → Bool
 inside w n p = subset w p (below n)
-
--- the least number below n at which the test passes, and n where there is none
-abbrev pub firstBelow : ℕ → (ℕ → Bool) → ℕ
-firstBelow zero p = 0
-firstBelow (suc n) p = cond (p 0) 0 (suc (firstBelow n (λ i. p (suc i))))

@@ -3,8 +3,8 @@
 ghost use Prim.Native.Nat.{ℕ};
 ghost use mathlib.Core.Path.{_≡_};
 ghost use mathlib.Core.Bool.{not};
-ghost use Rattle.laws.specs.Below.{anyBelow, countBelow};
-ghost use Rattle.bits.specs.Sets.{either, both, except, one, below, cut, inside, firstBelow};
+ghost use Rattle.laws.specs.Below.{anyBelow, countBelow, firstBelow};
+ghost use Rattle.bits.specs.Sets.{either, both, except, one, below, cut, inside};
 ghost use Rattle.bits.specs.Member.{member};
 use limits::Limits;
 
@@ -99,18 +99,4 @@ pub fn within(set: u16, n: u32) -> bool
     ensures { λ r. ⌜ r ≡ inside 16 n (member set) ⌝ }
 {
     if n < WIDTH { set >> n == 0 } else { true }
-}
-
-// Whether every card that a number of 32 digits names is below n.
-pub fn names_within(set: u32, n: u32) -> bool
-    ensures { λ r. ⌜ r ≡ inside 32 n (member set) ⌝ }
-{
-    if n < 32 { set >> n == 0 } else { true }
-}
-
-// The cards below 16 that a number of 32 digits names.
-pub fn narrow(set: u32) -> u16
-    ensures { λ r. ⌜ member r ≡ cut 16 (member set) ⌝ }
-{
-    (set % Limits::SETS) as u16
 }

@@ -16,8 +16,8 @@ use Rattle.protocol.specs.Calls.{lines}
 use Rattle.protocol.specs.Plan.{Answer, done, Check, _⇒_, Plan, checked, accepted, refused}
 use Rattle.protocol.specs.Plan as plan
 use Rattle.verdicts.specs.declared.Core.{Core}
-use Rattle.verdicts.specs.declared.Reply.{Reply}
-use Rattle.verdicts.specs.declared.Reply.the-variants.{Done, Refused}
+use Rattle.refusal.specs.declared.Reply.{Reply}
+use Rattle.refusal.specs.declared.Reply.the-variants.{Done, Refused}
 use Rattle.verdicts.specs.Answers.{replyOf, firstFailing, after28}
 use Rattle.verdicts.specs.Shape.{limits16, at, listOf, ringPlace, withNumbers}
 use Rattle.verdicts.specs.Applied.{appliedAll, entriesAll, makersAll, CoreCarried}

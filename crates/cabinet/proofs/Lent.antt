@@ -21,7 +21,7 @@ use Rattle.protocol.specs.Sound.{sound, sessionSound, cardsSound, cardSound, pl
 use Rattle.protocol.specs.Calls.{lines, cardRows, fixChecks, fixPlan}
 use Rattle.verdicts.specs.Shape.{limits16, at, presentOf}
 use Rattle.verdicts.specs.Answers.{firstFailing}
-use Rattle.verdicts.specs.declared.Reply.the-variants.{Done}
+use Rattle.refusal.specs.declared.Reply.the-variants.{Done}
 use Rattle.verdicts.proofs.Limits.{width16}
 use Rattle.verdicts.proofs.Checks.{Passes, passes, done-plan}
 use Rattle.recovery.specs.declared.FixReply.{FixReply}

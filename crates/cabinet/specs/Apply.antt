@@ -3,9 +3,8 @@ use Prim.Native.Nat.{ℕ}
 use mathlib.Core.Path.{_≡_}
 use mathlib.Core.Bool.{true}
 use mathlib.Core.List.{List, [], _∷_}
-use Rattle.laws.specs.Below.{anyBelow}
+use Rattle.laws.specs.Below.{anyBelow, firstBelow}
 use Rattle.bits.specs.Member.{member}
-use Rattle.bits.specs.Sets.{firstBelow}
 use Rattle.protocol.specs.Edit.{Edit}
 use Rattle.protocol.specs.Plan.{Plan, Reply}
 use Rattle.protocol.specs.Calls.{barred, openPlan}

@@ -6,11 +6,11 @@ ghost use Rattle.verdicts.specs.Answers.{replyOf};
 ghost use Rattle.cabinet.specs.Fresh.{Freshly, zeroCabinet};
 use limits::Limits;
 use refusal::Refusal;
+use refusal::Reply;
 use verdicts::Core;
 use verdicts::Head;
 use verdicts::OpenReply;
 use verdicts::Phase;
-use verdicts::Reply;
 use verdicts::SafeReply;
 use verdicts::Vector;
 

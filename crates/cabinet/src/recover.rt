@@ -14,8 +14,8 @@ use limits::Limits;
 use records::CardNumbers;
 use records::CardRecord;
 use recovery::FixReply;
+use refusal::Reply;
 use verdicts::Phase;
-use verdicts::Reply;
 
 // What fix hands back: an accepted one answers the stored numbers and the line of the cabinet.
 pub struct FixAnswer {

@@ -3,10 +3,10 @@
 use cabinet::Cabinet;
 use records::CardRecord;
 use recovery::FixReply;
+use refusal::Reply;
 use verdicts::OpenReply;
 use verdicts::Phase;
 use verdicts::Place;
-use verdicts::Reply;
 use verdicts::SafeReply;
 use write::Written;
 

@@ -1,9 +1,9 @@
 // Runs calls 1 to 5, 7 and 8 on fresh and on forged cabinets, and prints a number for each answer:
 // 0 done, 10000 + the number of a change opened, 1 safe, 2 unsafe, otherwise the refusal's number, and after 21 the card named.
 use cabinet::Cabinet;
+use refusal::Reply;
 use verdicts::OpenReply;
 use verdicts::Phase;
-use verdicts::Reply;
 use verdicts::SafeReply;
 
 fn digit(n: u32) -> u8 {

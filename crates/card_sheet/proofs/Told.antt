@@ -12,7 +12,7 @@ use Rattle.laws.proofs.Logic.{test, not-intro, and-right}
 use Rattle.laws.proofs.Seq.{sets-part}
 use Rattle.refusal.specs.declared.Refusal.{Refusal}
 use Rattle.refusal.specs.declared.Refusal.the-variants.{NoSuchCard, TooShort, BadCabinet}
-use Rattle.refusal.specs.declared.Verdict.the-variants.{Accepted}
+use Rattle.refusal.specs.declared.Reply.the-variants.{Done}
 use Rattle.write.specs.declared.Written.{Written}
 use Rattle.write.specs.declared.Written.the-variants.{Length, Refused}
 use Rattle.write.specs.Write.{Wrote, wroteBytes}
@@ -47,11 +47,11 @@ told-written p bytes before h e =
 -- the last check: "lent list or buffer too short for the whole answer"
 told-last : (bytes before after : List ℕ) (reply : Written) (p : Plan)
     → p ≡ checked (ltb (length before) (length bytes) ⇒ TooShort ∷ []) (written bytes) []
-    → reply ≡ wroteBytes Accepted bytes before .answer → after ≡ wroteBytes Accepted bytes before .buffer → SheetTold p before after reply
+    → reply ≡ wroteBytes Done bytes before .answer → after ≡ wroteBytes Done bytes before .buffer → SheetTold p before after reply
 told-last bytes before after reply p e r a =
     test (leb (length bytes) (length before)) (λ t. fits (leb-true (length bytes) (length before) t)) (λ t. short (leb-false (length bytes) (length before) t))
   where
-    turned : (w : Wrote) → wroteBytes Accepted bytes before ≡ w → SheetTold p before (w .buffer) (w .answer) → SheetTold p before after reply
+    turned : (w : Wrote) → wroteBytes Done bytes before ≡ w → SheetTold p before (w .buffer) (w .answer) → SheetTold p before after reply
     turned w q t =
         subst (λ (x : Written). SheetTold p before after x) (sym (r ∙ ap (λ (y : Wrote). y .answer) q))
         (subst (λ (x : List ℕ). SheetTold p before x (w .answer)) (sym (a ∙ ap (λ (y : Wrote). y .buffer) q)) t)
@@ -111,12 +111,12 @@ module _ (whole : Bool) (entries makers : List ℕ) (h : Head) (rolled : ℕ) (b
     passes-7 = ap (λ (x : Header). headerAllowed (formatFor formats x) (x .card) 0 x) is-header ∙ header-passes entries makers h rolled base stored c w there
 
     pub told-whole : whole ≡ true → (after : List ℕ) (reply : Written)
-        → (reply ≡ wroteBytes Accepted (pageBytes formats (ringPage makers entries hd)) before .answer) × (after ≡ wroteBytes Accepted (pageBytes formats (ringPage makers entries hd)) before .buffer)
+        → (reply ≡ wroteBytes Done (pageBytes formats (ringPage makers entries hd)) before .answer) × (after ≡ wroteBytes Done (pageBytes formats (ringPage makers entries hd)) before .buffer)
         → SheetTold (sheetPlanFor whole m c (length before)) before after reply
     told-whole e after reply t =
         let q : ringPage makers entries hd ≡ sheetOf limits16 m c = ap (ringPage makers entries) is-header ∙ page-is entries makers h rolled base stored c w there in
         told-last bytes before after reply (sheetPlanFor whole m c (length before))
         (first-passes (not whole) BadCabinet (not (isCard limits16 m c) ⇒ NoSuchCard ∷ last) (written bytes) (ap not e)
         ∙ first-passes (not (isCard limits16 m c)) NoSuchCard last (written bytes) (ap not n))
-        (t .0 ∙ ap (λ (p : Page). wroteBytes Accepted (pageBytes formats p) before .answer) q)
-        (t .1 ∙ ap (λ (p : Page). wroteBytes Accepted (pageBytes formats p) before .buffer) q)
+        (t .0 ∙ ap (λ (p : Page). wroteBytes Done (pageBytes formats p) before .answer) q)
+        (t .1 ∙ ap (λ (p : Page). wroteBytes Done (pageBytes formats p) before .buffer) q)

@@ -7,19 +7,19 @@ use native.Mathlib.Omega.{arith}
 use lib.Dec.{ltb, eqb}
 use borrow.Author.Tests.{ltb-true, not-false}
 use Rattle.laws.proofs.Logic.{and-left}
+use Rattle.laws.proofs.Below.{first-at}
 use Rattle.refusal.specs.declared.Refusal.{Refusal}
 use Rattle.protocol.specs.Model.{Model, isCard, isKnown, isOpen, placeOf}
 use Rattle.protocol.specs.Sound.{sound}
 use Rattle.protocol.specs.Edit.{Edit}
 use Rattle.protocol.specs.Plan.{Answer, done, Check, _⇒_, Plan, checked, accepted, refused}
 use Rattle.protocol.specs.Plan as plan
-use Rattle.verdicts.specs.declared.Reply.{Reply}
-use Rattle.verdicts.specs.declared.Reply.the-variants.{Done, Refused}
+use Rattle.refusal.specs.declared.Reply.{Reply}
+use Rattle.refusal.specs.declared.Reply.the-variants.{Done, Refused}
 use Rattle.verdicts.specs.Answers.{replyOf, firstFailing, after28}
 use Rattle.verdicts.specs.Shape.{limits16, modelOf}
 use Rattle.verdicts.proofs.Limits.{width16, places8}
 use Rattle.verdicts.proofs.Checks.{passes, done-plan, refused-plan}
-use Rattle.carried.proofs.Known.{first-at}
 use Rattle.verdicts.specs.declared.Core.{Core}
 use Rattle.verdicts.specs.Applied.{appliedAll, CoreCarried}
 use Rattle.carried.specs.Plans.{Stands}

@@ -1,45 +1,18 @@
 -- What a cabinet that passes 28 and a call that was accepted show. Assumes nothing.
-use Prim.Native.Nat.{ℕ, zero, suc, _+_, _≤_, _<_}
-use mathlib.Core.Path.{_≡_, refl, sym, _∙_, subst}
-use mathlib.Core.Bool.{Bool, true, false, not, _&&_, _||_, cond}
-use mathlib.Core.Logic.{⊎-elim}
-use native.Mathlib.Nat.{le-step, lt-suc-self}
+use Prim.Native.Nat.{ℕ, _+_, _≤_, _<_}
+use mathlib.Core.Path.{_≡_, refl, sym, _∙_}
+use mathlib.Core.Bool.{Bool, true, false, not, _&&_, _||_}
 use native.Mathlib.Omega.{arith}
 use lib.Dec.{eqb, leb, ltb}
 use borrow.Author.Tests.{ltb-true, leb-true, eq-eqb}
-use Rattle.laws.specs.Below.{allBelow, anyBelow, firstBelow}
-use Rattle.laws.proofs.Logic.{test, clash, and-left, and-right, and-intro, or-elim, or-right, not-true, not-intro, cond-true, cond-false}
+use Rattle.laws.specs.Below.{allBelow}
+use Rattle.laws.proofs.Logic.{test, clash, and-left, and-right, and-intro, or-right, not-true, not-intro}
 use Rattle.laws.proofs.Below.{all-at, any-intro}
-use Rattle.laws.proofs.Fill.{first-none}
 use Rattle.protocol.specs.Model.{Model, OpenChange, isOpen, isRolling, toWrite, strays}
 use Rattle.protocol.specs.Sound.{sound, sessionSound, cardsSound, cardSound, placeSound, entriesSound, numbersSound, lineSound, framesSound, roomToWrite}
 use Rattle.history.specs.Change.{touches}
 use Rattle.verdicts.specs.Shape.{limits16, thereSound}
 use Rattle.verdicts.proofs.Limits.{width16, places8, greatest60000, greatestNumber32}
-
--- the first number that passes does pass, where there is one
-pub record FirstAt (n : ℕ) (p : ℕ → Bool) (i : ℕ) : Type 0 where
-  pub below : i < n
-  pub passes : p i ≡ true
-
-pub first-any : (n : ℕ) (p : ℕ → Bool) → anyBelow n p ≡ true → FirstAt n p (firstBelow n p)
-first-any zero p e = clash e refl
-first-any (suc n) p e = test (anyBelow n p) (λ t. older t (first-any n p t)) newer
-  where
-    older : anyBelow n p ≡ true → FirstAt n p (firstBelow n p) → FirstAt (suc n) p (firstBelow (suc n) p)
-    older t r =
-        let q : firstBelow n p ≡ firstBelow (suc n) p = sym (cond-true (firstBelow n p) (cond (p n) n (suc n)) t) in
-        subst (λ (i : ℕ). FirstAt (suc n) p i) q (record { below = le-step (r .below); passes = r .passes })
-
-    newer : anyBelow n p ≡ false → FirstAt (suc n) p (firstBelow (suc n) p)
-    newer f =
-        let h : p n ≡ true = ⊎-elim (λ (t : anyBelow n p ≡ true). clash t f) (λ (t : p n ≡ true). t) (or-elim (anyBelow n p) (p n) e) in
-        let q : n ≡ firstBelow (suc n) p = sym (cond-false (firstBelow n p) (cond (p n) n (suc n)) f ∙ cond-true n (suc n) h) in
-        subst (λ (i : ℕ). FirstAt (suc n) p i) q (record { below = lt-suc-self n; passes = h })
-
-pub first-at : (n : ℕ) (p : ℕ → Bool) → firstBelow n p < n → p (firstBelow n p) ≡ true
-first-at n p h =
-    test (anyBelow n p) (λ e. first-any n p e .passes) (λ e. let q : firstBelow n p ≡ n = first-none n p e in absurd (omega arith))
 
 or-use : (a b : Bool) → not a || b ≡ true → a ≡ true → b ≡ true
 or-use true b h e = h

@@ -7,9 +7,8 @@ use lib.Dec.{eqb}
 use lib.ListN.{set}
 use lib.Seq.{sets}
 use Rattle.limits.specs.Document.{mostCards}
-use Rattle.laws.specs.Below.{anyBelow}
+use Rattle.laws.specs.Below.{anyBelow, firstBelow}
 use Rattle.bits.specs.Member.{member}
-use Rattle.bits.specs.Sets.{firstBelow}
 use Rattle.history.specs.Change.{CardSet}
 use Rattle.protocol.specs.Model.{Model, freePlace, withCard, isUp, placeOf, freeAt}
 use Rattle.protocol.specs.Sound.{sound}

@@ -15,8 +15,8 @@ use Rattle.laws.proofs.Logic.{test, clash, fails, and-left, and-right, and-intr
 use Rattle.laws.proofs.Below.{Found, all-intro, search-below}
 use Rattle.laws.proofs.Fill.{length-tabulate, getD-tabulate}
 use Rattle.refusal.specs.declared.Refusal.the-variants.{LimitReached}
-use Rattle.refusal.specs.declared.Verdict.{Verdict}
-use Rattle.refusal.specs.declared.Verdict.the-variants.{Accepted, Refused}
+use Rattle.refusal.specs.declared.Reply.{Reply}
+use Rattle.refusal.specs.declared.Reply.the-variants.{Done, Refused}
 use Rattle.frame.specs.declared.Frame.{Frame}
 use Rattle.frame.specs.Format.{format, formats}
 use Rattle.frame.specs.Lines.{noFrame}
@@ -244,7 +244,7 @@ module _ (L : Limits) (limits : SheetLimits L) (n : ℕ) (m : Model) (j : Journa
       (λ k lk. not-differ c d i k hc (omega (arith, hc, hd)) (omega (arith, li, count-at c hc)) (omega (arith, lk, count-at d (omega (arith, hc, hd)))))))))
 
   -- ---- the whole read-out
-  joint : m .session < L .greatestNumber → jointVerdict ps ≡ Accepted
+  joint : m .session < L .greatestNumber → jointVerdict ps ≡ Done
   unfolding jointVerdict
   joint left = rw (not-apart, lowest-is, ne-eqb (m .session) 4294967295 (λ (z : m .session ≡ 4294967295). absurd (omega (arith, left, limits .greatestNumber, z))), one-vector)
 
@@ -255,8 +255,8 @@ module _ (L : Limits) (limits : SheetLimits L) (n : ℕ) (m : Model) (j : Journa
   read-judged : pagesRead bytes ≡ judged (jointVerdict ps) ps
   read-judged = pages-judged ps whole bytes-few
 
-  pub read-back : m .session < L .greatestNumber → pagesRead bytes ≡ record { pages = ps; verdict = Accepted }
-  read-back left = read-judged ∙ ap (λ (v : Verdict). judged v ps) (joint left)
+  pub read-back : m .session < L .greatestNumber → pagesRead bytes ≡ record { pages = ps; verdict = Done }
+  read-back left = read-judged ∙ ap (λ (v : Reply). judged v ps) (joint left)
 
   pub read-last : L .greatestNumber ≤ m .session → pagesRead bytes .verdict ≡ Refused LimitReached
-  read-last z = ap (λ (x : PagesRead). x .verdict) (read-judged ∙ ap (λ (v : Verdict). judged v ps) (last-joint z))
+  read-last z = ap (λ (x : PagesRead). x .verdict) (read-judged ∙ ap (λ (v : Reply). judged v ps) (last-joint z))

@@ -11,7 +11,7 @@ use borrow.Author.Tests.{le-leb, lt-ltb, le-ltb, ltb-true, ltb-false}
 use Rattle.laws.specs.Below.{tabulate}
 use Rattle.laws.proofs.Logic.{test, and-intro}
 use Rattle.refusal.specs.declared.Refusal.the-variants.{LimitReached}
-use Rattle.refusal.specs.declared.Verdict.the-variants.{Accepted, Refused}
+use Rattle.refusal.specs.declared.Reply.the-variants.{Done, Refused}
 use Rattle.frame.specs.declared.Frame.{Frame}
 use Rattle.frame.specs.Format.{formats}
 use Rattle.sheet.specs.Pages.{Page, pagesBytes}
@@ -102,7 +102,7 @@ module _ (L : Limits) (lim : SheetLimits L) (n : ℕ) (low : 1 ≤ n) (high : n 
   own-pages : joinedSheets formats L m ≡ pagesBytes formats ps
   own-pages = ap (pagesBytes formats) (sheets-are L n m high present-is)
 
-  joined-back : m .session < L .greatestNumber → pagesRead (joinedSheets formats L m) ≡ record { pages = ps; verdict = Accepted }
+  joined-back : m .session < L .greatestNumber → pagesRead (joinedSheets formats L m) ≡ record { pages = ps; verdict = Done }
   joined-back left = ap pagesRead own-pages ∙ reading.read-back L lim n m j high low present-is r left
 
   remade : m .session < L .greatestNumber → Remade codec L m

@@ -4,7 +4,7 @@ use lib.Dec.{ltb}
 use mathlib.Core.Path.{_≡_, refl}
 use mathlib.Core.List.{[], _∷_, map}
 use Rattle.limits.specs.Document.{limits16}
-use Rattle.refusal.specs.declared.Verdict.the-variants.{Accepted}
+use Rattle.refusal.specs.declared.Reply.the-variants.{Done}
 use Rattle.frame.specs.Format.{formats}
 use Rattle.laws.specs.Below.{tabulate}
 use Rattle.digits.specs.Digits.{isNumeral, isLetter, isDigit, digit, digitValue}
@@ -30,7 +30,7 @@ unfolding limits16 isNumeral isLetter isDigit digit digitValue checkOf lineOf de
 worked-written = refl
 
 -- it restarts: "0 2 1", "1 0 0", and the session after recovery is 2
-pub worked-accepted : restartReply workedBytes ≡ Accepted
+pub worked-accepted : restartReply workedBytes ≡ Done
 unfolding isNumeral isLetter isDigit digit digitValue checkOf lineOf shaped checked shapeOf dependency entryOf headerLine headerIn headerAllowed headerVerdict frameLine stateIn entriesIn frameIn entriesAllowed frameAllowed frameVerdict readSheets apart sessionsApart twoVectors jointVerdict pagesRead
 worked-accepted = refl
 

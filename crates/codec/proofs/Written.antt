@@ -1,6 +1,6 @@
 -- What the sheets of a cabinet say of it: which cards they are of, and their frames. Assumes nothing.
 use Prim.Native.Nat.{ℕ, suc, _+_, _-_, _≤_, _<_}
-use mathlib.Core.Path.{_≡_, _∙_, ap}
+use mathlib.Core.Path.{_≡_, _∙_}
 use mathlib.Core.Bool.{true, false}
 use native.Mathlib.Omega.{arith}
 use lib.Dec.{ltb}
@@ -33,9 +33,6 @@ module _ (L : Limits) (n : ℕ) (m : Model) (few : n ≤ L .width) (present-is :
 
   pub sheets-are : sheets L m ≡ tabulate n (sheetOf L m)
   sheets-are = selected-first (m .present) (sheetOf L m) (L .width) n few there (λ c h l. absent c h)
-
-  pub length-sheets : length (sheets L m) ≡ n
-  length-sheets = ap length sheets-are ∙ length-tabulate n (sheetOf L m)
 
   pub entry-written : (c x j : ℕ) → j < n → getD (sheetFrame L m c x .entries) j 0 ≡ m .memory .frame c x j
   entry-written c x j h = rw count-is (getD-tabulate n (m .memory .frame c x) 0 j h)

@@ -5,7 +5,7 @@ use mathlib.Core.List.{List}
 use lib.Dec.{leb, ltb}
 use lib.ListN.{length, getD}
 use Rattle.laws.specs.Below.{countBelow, tabulate, selected}
-use Rattle.refusal.specs.declared.Verdict.{Verdict}
+use Rattle.refusal.specs.declared.Reply.{Reply}
 use Rattle.frame.specs.declared.Frame.{Frame}
 use Rattle.frame.specs.Format.{Formats, formats}
 use Rattle.frame.specs.Lines.{noFrame}
@@ -102,7 +102,7 @@ restarted L ps =
     }
 
 -- what a restart answers to any bytes, and the cabinet that it gives; refused, there is none
-abbrev pub restartReply : List ℕ → Verdict
+abbrev pub restartReply : List ℕ → Reply
 restartReply bytes = pagesRead bytes .verdict
 
 abbrev pub restartedFrom : Limits → List ℕ → Model

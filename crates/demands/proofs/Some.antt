@@ -10,10 +10,8 @@ use lib.ListN.{length, take, drop}
 use lib.Seq.{sets, sets-eq, length-sets, take-at}
 use borrow.Author.Tests.{lt-ltb, ltb-false}
 use Rattle.refusal.specs.declared.Refusal.{Refusal}
-use Rattle.laws.specs.Below.{anyBelow, occurs, one-if}
-use Rattle.laws.proofs.Below.{Found, any-elim}
-use Rattle.bits.specs.Sets.{firstBelow}
-use Rattle.bits.proofs.Sets.{first-at, first-some}
+use Rattle.laws.specs.Below.{anyBelow, firstBelow, occurs, one-if}
+use Rattle.laws.proofs.Below.{first-some}
 use Rattle.history.specs.Change.{CardSet}
 use Rattle.laws.proofs.Logic.{clash, fails, or-right}
 use Rattle.bits.specs.Member.{member}
@@ -220,10 +218,7 @@ lowest-barred s reads writes = firstBelow (limits16 .width) (barred limits16 (vi
 
 pub lowest-is-barred : (s : Cabinet) (reads writes : ℕ) → anyBelow (limits16 .width) (barred limits16 (view s) (member reads) (member writes)) ≡ true
     → barred limits16 (view s) (member reads) (member writes) (firstBelow (limits16 .width) (barred limits16 (view s) (member reads) (member writes))) ≡ true
-lowest-is-barred s reads writes e =
-    let p : CardSet = barred limits16 (view s) (member reads) (member writes) in
-    let f : Found (limits16 .width) p = any-elim (limits16 .width) p e in
-    first-at (limits16 .width) p (omega (arith, f .1, first-some (limits16 .width) p (f .0) (f .1) (f .2)))
+lowest-is-barred s reads writes = first-some (limits16 .width) (barred limits16 (view s) (member reads) (member writes))
 
 pub some : (s : Cabinet) (asked : Asked) → Reached s asked
 some s (opening reads writes) =

@@ -13,13 +13,13 @@ use Rattle.laws.proofs.Logic.{test, clash, and-left, and-right, or-elim}
 use Rattle.laws.proofs.Below.{Found, any-elim}
 use Rattle.bits.specs.Member.{member}
 use Rattle.bits.proofs.Members.{member-above}
-use Rattle.refusal.specs.declared.Verdict.{Verdict}
-use Rattle.refusal.specs.declared.Verdict.the-variants.{Accepted, Refused}
+use Rattle.refusal.specs.declared.Reply as refusal
+use Rattle.refusal.specs.declared.Reply.the-variants.{Done, Refused}
 use Rattle.frame.specs.Format.{formats}
 use Rattle.history.specs.Change.{Numbers, touches}
 use Rattle.codec.specs.Sheets.{codec}
 use Rattle.protocol.specs.Model.{OpenChange, Model, isOpen}
-use Rattle.protocol.specs.Plan.{Answer, done, Reply, accepted, refused, _⇒_, Plan, checked, afterPlan}
+use Rattle.protocol.specs.Plan.{Answer, done, Reply, accepted, refused, replyOf, _⇒_, Plan, checked, afterPlan}
 use Rattle.protocol.specs.Calls.{freshRefused, freshModel, bars, barred, openPlan, fixPlan}
 use Rattle.protocol.proofs.Steps.{checked-case, not-not}
 use Rattle.protocol.proofs.Claims.{not-both}
@@ -31,7 +31,7 @@ use Rattle.protocol.specs.Sound.{sound}
 use Rattle.protocol.specs.Codec.{sheetChecks, sheetPlan, verdictChecks}
 use Rattle.codec.specs.Sheets.{joinedSheets, restartReply, restartedFrom}
 use Rattle.restart.proofs.Ring.{storedIn, isIn, vectorIn, ringModel}
-use Rattle.protocol.specs.Run.{Call, Choice, Proper, planOf, afterCall, Calls, none, further, Run, verdictReply, afterRestart}
+use Rattle.protocol.specs.Run.{Call, Choice, Proper, planOf, afterCall, Calls, none, further, Run, afterRestart}
 use Rattle.protocol.specs.Run as run
 use Rattle.protocol.specs.Demands as model
 use Rattle.codec.specs.Claims.{SheetLimits}
@@ -124,10 +124,10 @@ restarted-sized r z =
     }
 
 -- the cabinet after a restart, by whether 28 lets the old one pass and by the verdict on its sheets
-restarted-shows : (b : Bool) (v : Verdict) (bytes : List ℕ) (s t : Cabinet) → Sized s → Narrow (view s) → restartReply bytes ≡ v
+restarted-shows : (b : Bool) (v : refusal.Reply) (bytes : List ℕ) (s t : Cabinet) → Sized s → Narrow (view s) → restartReply bytes ≡ v
     → t ≡ goingOn (checked (not b ⇒ BadCabinet ∷ verdictChecks v) done [] .reply) (cabinetFor v (readoutOf bytes .readout)) s
     → Shows (afterRestart (checked (not b ⇒ BadCabinet ∷ verdictChecks v) done [] .reply) (restartedFrom limits16 bytes) (view s)) t
-restarted-shows true Accepted bytes s t z w v e =
+restarted-shows true Done bytes s t z w v e =
     subst (Shows (restartedFrom limits16 bytes)) (sym e)
     (record {
       same = restarts.restarted-shows bytes v;
@@ -226,7 +226,7 @@ restart-gives : (n : ℕ) → n ≤ limits16 .width → (s : Cabinet) (line : Nu
     → (reply : Reply) (handed : Cabinet) → Restarted (joinedSheets formats limits16 (view s)) reply handed → RestartGives n line reply handed
 restart-gives n few s line g reply handed told =
     record {
-      accepted-so = told .answer ∙ ap verdictReply (g .accepted-so);
+      accepted-so = told .answer ∙ ap replyOf (g .accepted-so);
       same-line = λ c l. ap (λ (m : Model). m .line c) shows ∙ g .same-line c (omega (arith, l, few)) (lt-ltb c n l);
     }
   where
@@ -235,7 +235,7 @@ restart-gives n few s line g reply handed told =
 
     shows : view handed ≡ restartedFrom limits16 (joinedSheets formats limits16 (view s))
     shows =
-        ap view (told .cabinet ∙ ap (λ (v : Verdict). cabinetFor v (readoutOf (joinedSheets formats limits16 (view s)) .readout)) (g .accepted-so))
+        ap view (told .cabinet ∙ ap (λ (v : refusal.Reply). cabinetFor v (readoutOf (joinedSheets formats limits16 (view s)) .readout)) (g .accepted-so))
         ∙ restarts.restarted-shows (joinedSheets formats limits16 (view s)) (g .accepted-so)
 
 cabinet-right : (n : ℕ) {cs : Calls} {s : Cabinet} → Joined n cs s → CabinetRight16 n cs s

@@ -4,14 +4,14 @@ use mathlib.Core.Path.{_≡_}
 use mathlib.Core.List.{List}
 use lib.Dec.{ltb}
 use Rattle.refusal.specs.declared.Refusal.{Refusal}
-use Rattle.refusal.specs.Number.{numberOf}
+use Rattle.refusal.specs.Number.{Listed, numberOf}
 use Rattle.frame.specs.Format.{formats}
 use Rattle.history.specs.Change.{CardSet, Numbers}
 use Rattle.codec.specs.Sheets.{joinedSheets, codec}
 use Rattle.protocol.specs.Plan.{Answer, done, Reply, accepted, refused, Check, Passed, Due}
 use Rattle.protocol.specs.Journal.{fixing}
 use Rattle.protocol.specs.Run.{Choice, Proper, checksOf, Calls, none, further, journal}
-use Rattle.protocol.specs.Demands.{Listed, CallRight, CabinetRight}
+use Rattle.protocol.specs.Demands.{CallRight, CabinetRight}
 use Rattle.verdicts.specs.Shape.{limits16}
 use Rattle.cabinet.specs.declared.Cabinet.{Cabinet}
 use Rattle.cabinet.specs.View.{view}

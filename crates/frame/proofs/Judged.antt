@@ -20,8 +20,8 @@ use Rattle.digits.specs.declared.Sums.{Sums}
 use Rattle.digits.specs.declared.Line.the-variants.{Whole, Fault}
 use Rattle.digits.specs.Digits.{number, numbers}
 use Rattle.digits.specs.Line.{checked, shapeOf}
-use Rattle.refusal.specs.declared.Verdict.{Verdict}
-use Rattle.refusal.specs.declared.Verdict.the-variants.{Accepted, Refused}
+use Rattle.refusal.specs.declared.Reply.{Reply}
+use Rattle.refusal.specs.declared.Reply.the-variants.{Done, Refused}
 use Rattle.frame.specs.declared.Header.{Header}
 use Rattle.frame.specs.declared.Frame.{Frame}
 use Rattle.frame.specs.declared.FrameRead.{FrameRead}
@@ -61,7 +61,7 @@ pub header-told :
     start ≡ startOf f h →
     c ≡ checked start (headerDigits f) input →
     a ≡ headerAllowed f due first h →
-    headerOr (cond c (cond a Accepted (Refused BadHeader)) (Refused BadCheck)) h ≡ headerOr (headerVerdict f due first input) (headerIn f input)
+    headerOr (cond c (cond a Done (Refused BadHeader)) (Refused BadCheck)) h ≡ headerOr (headerVerdict f due first input) (headerIn f input)
 unfolding headerVerdict
 header-told f due first input s e p q r = rw (s, r, q, p, e)
 
@@ -99,7 +99,7 @@ pub frame-told :
     shapeOf (frameDigits f n) input ≡ Whole →
     c ≡ checked start (frameDigits f n) input →
     a ≡ frameAllowed f card n state last (stateIn f input) (frameIn f n input) →
-    frameReadOf (cond c (cond a Accepted (Refused BadFrame)) (Refused BadCheck)) (frameIn f n input) ≡ frameReadOf (frameVerdict f start card n state last input) (frameIn f n input)
+    frameReadOf (cond c (cond a Done (Refused BadFrame)) (Refused BadCheck)) (frameIn f n input) ≡ frameReadOf (frameVerdict f start card n state last input) (frameIn f n input)
 unfolding frameVerdict
 frame-told f start card n state last input s q r = rw (s, r, q)
 
@@ -200,6 +200,6 @@ pub frame-kept :
     (f : Format) (n at : ℕ) (s : List ℕ) {change : ℕ} {entries : List ℕ} →
     change ≡ number (take 8 (drop (at + f .width) s)) →
     entries ≡ padded (entriesIn f n (drop (at + (f .width + 8)) s)) →
-    _≡_ {A = FrameRead} (record { entries = entries; line = frame-read change }) (frameReadOf Accepted (frameIn f n (drop at s)))
+    _≡_ {A = FrameRead} (record { entries = entries; line = frame-read change }) (frameReadOf Done (frameIn f n (drop at s)))
 unfolding frameIn
 frame-kept f n at s q r = rw (q, r, drop-drop (f .width) at s, drop-drop (f .width + 8) at s)

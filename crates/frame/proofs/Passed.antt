@@ -15,8 +15,8 @@ use Rattle.digits.specs.declared.Line.{Line}
 use Rattle.digits.specs.declared.Line.the-variants.{Whole, Fault}
 use Rattle.digits.specs.Line.{checked, shaped, shapeOf}
 use Rattle.digits.proofs.Lines.{whole-shaped, shaped-whole}
-use Rattle.refusal.specs.declared.Verdict.{Verdict}
-use Rattle.refusal.specs.declared.Verdict.the-variants.{Accepted, Refused}
+use Rattle.refusal.specs.declared.Reply.{Reply}
+use Rattle.refusal.specs.declared.Reply.the-variants.{Done, Refused}
 use Rattle.frame.specs.declared.Header.{Header}
 use Rattle.frame.specs.declared.Frame.{Frame}
 use Rattle.frame.specs.Format.{Format}
@@ -28,13 +28,13 @@ pub record Passed (line : Line) (right allowed : Bool) : Type 0 where
   pub right-is : right ≡ true
   pub allowed-is : allowed ≡ true
 
-pub passed : (line : Line) (right allowed : Bool) (r : Refusal) → judged line right allowed r ≡ Accepted → Passed line right allowed
+pub passed : (line : Line) (right allowed : Bool) (r : Refusal) → judged line right allowed r ≡ Done → Passed line right allowed
 passed (Fault x) right allowed r e = let z : _≡_ {A = ℕ} 0 1 = cc in absurd (omega arith)
 passed Whole true true r e = record { whole = refl; right-is = refl; allowed-is = refl }
 passed Whole true false r e = let z : _≡_ {A = ℕ} 0 1 = cc in absurd (omega arith)
 passed Whole false allowed r e = let z : _≡_ {A = ℕ} 0 1 = cc in absurd (omega arith)
 
-pub passes : {line : Line} {right allowed : Bool} (r : Refusal) → line ≡ Whole → right ≡ true → allowed ≡ true → judged line right allowed r ≡ Accepted
+pub passes : {line : Line} {right allowed : Bool} (r : Refusal) → line ≡ Whole → right ≡ true → allowed ≡ true → judged line right allowed r ≡ Done
 passes r x y z = rw (x, y, z)
 
 -- what an allowed header says
@@ -72,7 +72,7 @@ header-limits f due first h e =
       states = leb-true (h .base + h .count) (f .states) (and-right i j e₅);
     }
 
-module _ (f : Format) (due first : ℕ) (input : List ℕ) (e : headerVerdict f due first input ≡ Accepted) where
+module _ (f : Format) (due first : ℕ) (input : List ℕ) (e : headerVerdict f due first input ≡ Done) where
   pub header-passed : Passed (shapeOf (headerDigits f) input) (checked (startOf f (headerIn f input)) (headerDigits f) input) (headerAllowed f due first (headerIn f input))
   unfolding headerVerdict
   header-passed = passed (shapeOf (headerDigits f) input) (checked (startOf f (headerIn f input)) (headerDigits f) input) (headerAllowed f due first (headerIn f input)) BadHeader e
@@ -80,7 +80,7 @@ module _ (f : Format) (due first : ℕ) (input : List ℕ) (e : headerVerdict f 
   pub header-within : Header-in-limits f due first (headerIn f input)
   header-within = header-limits f due first (headerIn f input) (header-passed .allowed-is)
 
-module _ (f : Format) (start : Sums) (card n state : ℕ) (last : Frame) (input : List ℕ) (e : frameVerdict f start card n state last input ≡ Accepted) where
+module _ (f : Format) (start : Sums) (card n state : ℕ) (last : Frame) (input : List ℕ) (e : frameVerdict f start card n state last input ≡ Done) where
   pub frame-passed : Passed (shapeOf (frameDigits f n) input) (checked start (frameDigits f n) input) (frameAllowed f card n state last (stateIn f input) (frameIn f n input))
   unfolding frameVerdict
   frame-passed = passed (shapeOf (frameDigits f n) input) (checked start (frameDigits f n) input) (frameAllowed f card n state last (stateIn f input) (frameIn f n input)) BadFrame e

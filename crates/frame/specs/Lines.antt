@@ -14,8 +14,8 @@ use Rattle.digits.specs.declared.Line.the-variants.{Whole, Fault}
 use Rattle.digits.specs.Digits.{number, numbers, written}
 use Rattle.digits.specs.Line.{lineOf, checked, shapeOf}
 use Rattle.laws.specs.Below.{allBelow}
-use Rattle.refusal.specs.declared.Verdict.{Verdict}
-use Rattle.refusal.specs.declared.Verdict.the-variants.{Accepted, Refused}
+use Rattle.refusal.specs.declared.Reply.{Reply}
+use Rattle.refusal.specs.declared.Reply.the-variants.{Done, Refused}
 use Rattle.frame.specs.declared.Header.{Header}
 use Rattle.frame.specs.declared.HeaderLine.{HeaderLine}
 use Rattle.frame.specs.declared.HeaderLine.the-variants.{Read as header-read, Fault as header-fault}
@@ -26,9 +26,9 @@ use Rattle.frame.specs.declared.FrameLine.the-variants.{Read as frame-re
 use Rattle.frame.specs.Format.{Format, Formats, noneOf, heldBy, shownBy}
 
 -- the order of a line's refusals: "8, 5, 6, then 7 or 9"
-abbrev pub judged : Line → Bool → Bool → Refusal → Verdict
+abbrev pub judged : Line → Bool → Bool → Refusal → Reply
 judged (Fault r) right allowed refusal = Refused r
-judged Whole right allowed refusal = cond right (cond allowed Accepted (Refused refusal)) (Refused BadCheck)
+judged Whole right allowed refusal = cond right (cond allowed Done (Refused refusal)) (Refused BadCheck)
 
 -- ---- the header line: "session 8, card 2, number of cards 2, base 4, frame count 4, check 4"
 
@@ -84,18 +84,18 @@ headerAllowed f due first h =
     && leb (h .base + h .count) (f .states))))))
 
 -- what a line answers where a header is due
-unfoldable pub headerVerdict : Format → ℕ → ℕ → List ℕ → Verdict
+unfoldable pub headerVerdict : Format → ℕ → ℕ → List ℕ → Reply
 headerVerdict f due first input =
     judged (shapeOf (headerDigits f) input) (checked (startOf f (headerIn f input)) (headerDigits f) input) (headerAllowed f due first (headerIn f input)) BadHeader
 
 -- the header where the verdict accepts it, else the refusal
-abbrev pub headerOr : Verdict → Header → HeaderLine
-headerOr Accepted h = header-read h
+abbrev pub headerOr : Reply → Header → HeaderLine
+headerOr Done h = header-read h
 headerOr (Refused r) h = header-fault r
 
 -- the verdict that the header reader's answer tells
-abbrev pub headerTold : HeaderLine → Verdict
-headerTold (header-read h) = Accepted
+abbrev pub headerTold : HeaderLine → Reply
+headerTold (header-read h) = Done
 headerTold (header-fault r) = Refused r
 
 -- ---- the frame line: "state 4, change 8, one entry of 4 per card (none is FFFF), check 4"; n is the number of cards
@@ -140,7 +140,7 @@ frameAllowed f card n state last told fr =
     eqb told state && (ltb (last .change) (fr .change) && entriesAllowed f card state n (last .entries) (fr .entries))
 
 -- what a line answers where a frame is due
-unfoldable pub frameVerdict : Format → Sums → ℕ → ℕ → ℕ → Frame → List ℕ → Verdict
+unfoldable pub frameVerdict : Format → Sums → ℕ → ℕ → ℕ → Frame → List ℕ → Reply
 frameVerdict f start card n state last input =
     judged (shapeOf (frameDigits f n) input) (checked start (frameDigits f n) input) (frameAllowed f card n state last (stateIn f input) (frameIn f n input)) BadFrame
 
@@ -149,8 +149,8 @@ unfoldable pub padded : List ℕ → List ℕ
 padded es = sets (replicate mostCards 0) 0 es
 
 -- the frame where the verdict accepts it, else the refusal
-abbrev pub frameReadOf : Verdict → Frame → FrameRead
-frameReadOf Accepted fr = record { entries = padded (fr .entries); line = frame-read (fr .change) }
+abbrev pub frameReadOf : Reply → Frame → FrameRead
+frameReadOf Done fr = record { entries = padded (fr .entries); line = frame-read (fr .change) }
 frameReadOf (Refused r) fr = record { entries = replicate mostCards 0; line = frame-fault r }
 
 -- what stands before the first frame: change 0, no entries
@@ -158,6 +158,6 @@ abbrev pub noFrame : Frame
 noFrame = record { change = 0; entries = replicate mostCards 0 }
 
 -- the verdict that the frame reader's answer tells
-abbrev pub frameTold : FrameLine → Verdict
-frameTold (frame-read change) = Accepted
+abbrev pub frameTold : FrameLine → Reply
+frameTold (frame-read change) = Done
 frameTold (frame-fault r) = Refused r

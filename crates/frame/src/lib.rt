@@ -5,7 +5,7 @@ ghost use Rattle.frame.specs.Lines.{headerTold, frameTold};
 use digits::Sums;
 use limits::Limits;
 use refusal::Refusal;
-use refusal::Verdict;
+use refusal::Reply;
 
 // What the readers and writers of lines are told of a sheet's format: the number that says none, the greatest state,
 // what a header's number of cards is raised by, the digits of a state and of an entry, and whether entries are needs.
@@ -70,21 +70,21 @@ pub fn layout_of(told: u32) -> Layout
     plain()
 }
 
-pub fn header_told(l: HeaderLine) -> Verdict
+pub fn header_told(l: HeaderLine) -> Reply
     ensures { λ r. ⌜ r ≡ headerTold l ⌝ }
 {
     match l {
-        HeaderLine::Read(_) => Verdict::Accepted,
-        HeaderLine::Fault(r) => Verdict::Refused(r),
+        HeaderLine::Read(_) => Reply::Done,
+        HeaderLine::Fault(r) => Reply::Refused(r),
     }
 }
 
-pub fn frame_told(l: FrameLine) -> Verdict
+pub fn frame_told(l: FrameLine) -> Reply
     ensures { λ r. ⌜ r ≡ frameTold l ⌝ }
 {
     match l {
-        FrameLine::Read(_) => Verdict::Accepted,
-        FrameLine::Fault(r) => Verdict::Refused(r),
+        FrameLine::Read(_) => Reply::Done,
+        FrameLine::Fault(r) => Reply::Refused(r),
     }
 }
 

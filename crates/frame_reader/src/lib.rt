@@ -7,7 +7,7 @@ ghost use lib.Dec.{eqb, leb};
 ghost use Rattle.laws.specs.Below.{allBelow};
 ghost use Rattle.digits.specs.Line.{shapeOf};
 ghost use Rattle.digits.specs.declared.Line.the-variants.{Whole};
-ghost use Rattle.refusal.specs.declared.Verdict.{Verdict};
+ghost use Rattle.refusal.specs.declared.Reply.{Reply};
 ghost use Rattle.frame.specs.Format.{formatOf, Fits, heldBy};
 ghost use Rattle.frame.specs.Lines.{entriesBy, entriesAllowed, frameIn, frameAllowed, frameVerdict, frameReadOf, padded, noFrame, entryAllowed};
 use digits::Line;
@@ -151,7 +151,7 @@ pub fn frame_allowed(
 }
 
 fn frame_refused(r: Refusal) -> FrameRead
-    ensures { λ x. ⌜ x ≡ frameReadOf (Verdict.Refused r) noFrame ⌝ }
+    ensures { λ x. ⌜ x ≡ frameReadOf (Reply.Refused r) noFrame ⌝ }
 {
     FrameRead {
         entries: [0u32; Limits::CARDS],

@@ -10,7 +10,7 @@ use Rattle.protocol.specs.Codec.{verdictChecks}
 use Rattle.protocol.specs.Sound.{sound}
 use Rattle.protocol.proofs.Lists.{restart-reply}
 use Rattle.codec.specs.Sheets.{restartReply, codec}
-use Rattle.verdicts.specs.declared.Reply as verdict
+use Rattle.refusal.specs.declared.Reply as verdict
 use Rattle.verdicts.specs.Answers.{replyOf}
 use Rattle.verdicts.specs.Shape.{limits16}
 use Rattle.cabinet.specs.declared.Cabinet.{Cabinet}

@@ -15,7 +15,7 @@ use cabinet::Answer;
 use cabinet::Cabinet;
 use limits::Limits;
 use refusal::Refusal;
-use verdicts::Reply;
+use refusal::Reply;
 use write::Written;
 
 // How long the sheet is that was written; 0 with a refusal.

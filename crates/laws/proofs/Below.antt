@@ -1,7 +1,7 @@
 -- What the words of specs/Below.antt say, as laws. Assumes nothing.
-use Prim.Native.Nat.{ℕ, zero, suc, _+_, _≤_, _<_, max, zero-le}
-use mathlib.Core.Path.{_≡_, refl, sym, _∙_, ap, ap₂, subst}
-use mathlib.Core.Bool.{Bool, true, false, not, _&&_, _||_, cond}
+use Prim.Native.Nat.{ℕ, zero, suc, _+_, _≤_, _<_, max, zero-le, suc-le-suc}
+use mathlib.Core.Path.{_≡_, refl, sym, _∙_, ap, ap₂}
+use mathlib.Core.Bool.{Bool, true, false, _&&_, _||_, cond}
 use mathlib.Core.Logic.{_⊎_, inl, inr, ⊎-elim, by-cases}
 use mathlib.Core.List.{List, [], _∷_, _++_, append-nil}
 use native.Mathlib.Nat.{not-suc-le-zero, eq-or-lt-of-le, le-of-suc-le-suc, le-step, le-refl, le-trans, lt-suc-self, le-of-lt, lt-of-not-le, le-add-right, add-le-add, le-antisymm, le-max-left, le-max-right, max-le, max-eq-left, max-eq-right}
@@ -9,7 +9,7 @@ use native.Mathlib.Decide.{decLe, decLt}
 use native.Mathlib.Omega.{arith}
 use Rattle.laws.specs.Below.{one-if, allBelow, anyBelow, countBelow, greatest, tabulate, selected, firstBelow, occurs}
 use lib.Dec.{eqb}
-use Rattle.laws.proofs.Logic.{test, and-left, and-right, and-intro, or-left, or-right, or-elim, clash, fails}
+use Rattle.laws.proofs.Logic.{test, and-left, and-right, and-intro, or-left, or-right, or-elim, clash, fails, cond-case}
 
 -- a number below suc n is n or below n
 pub below-suc : {k n : ℕ} → k < suc n → (k ≡ n) ⊎ (k < n)
@@ -116,10 +116,6 @@ greatest-met (suc n) f h = by-cases (decLe (f n) (greatest n f)) (older (greates
     newer : ¬ (f n ≤ greatest n f) → Met (suc n) f (max (greatest n f) (f n))
     newer l = (n, lt-suc-self n, sym (max-eq-right (le-of-lt (lt-of-not-le l))))
 
-pub greatest-same : (n : ℕ) (f g : ℕ → ℕ) → ((k : ℕ) → k < n → f k ≡ g k) → greatest n f ≡ greatest n g
-greatest-same zero f g e = refl
-greatest-same (suc n) f g e = ap₂ max (greatest-same n f g (λ k h. e k (le-step h))) (e n (lt-suc-self n))
-
 -- where no number from i up passes, none is counted beyond i
 pub count-rest : (i n : ℕ) (p : ℕ → Bool) → ((k : ℕ) → i ≤ k → k < n → p k ≡ false) → countBelow n p ≤ countBelow i p
 count-rest i zero p f = zero-le
@@ -168,11 +164,6 @@ nth (suc n) p x h = by-cases (decLt x (countBelow n p)) (λ l. older (nth n p x 
 pub count-past : (p : ℕ → Bool) {i k : ℕ} → i < k → p i ≡ true → countBelow i p < countBelow k p
 count-past p {i} {k} h e = let z : one-if (p i) ≡ 1 = ap one-if e in omega (arith, count-mono (suc i) k p h)
 
-pub first-below : (n : ℕ) (p : ℕ → Bool) → anyBelow n p ≡ true → firstBelow n p < n
-first-below zero p e = clash e refl
-first-below (suc n) p e =
-    test (anyBelow n p) (λ d. rw d (le-step (first-below n p d))) (λ d. rw (d, rw d at e) (lt-suc-self n))
-
 pub all-same : (n : ℕ) (p q : ℕ → Bool) → ((k : ℕ) → k < n → p k ≡ q k) → allBelow n p ≡ allBelow n q
 all-same zero p q f = refl
 all-same (suc n) p q f = ap₂ (λ (a b : Bool). a && b) (all-same n p q (λ k h. f k (le-step h))) (f n (lt-suc-self n))
@@ -181,12 +172,43 @@ pub any-same : (n : ℕ) (p q : ℕ → Bool) → ((k : ℕ) → k < n → p k �
 any-same zero p q f = refl
 any-same (suc n) p q f = ap₂ (λ (a b : Bool). a || b) (any-same n p q (λ k h. f k (le-step h))) (f n (lt-suc-self n))
 
--- the first number at which the test passes: below n exactly where there is one, and it passes there
-pub first-passes : (n : ℕ) (p : ℕ → Bool) → firstBelow n p < n → p (firstBelow n p) ≡ true
-first-passes zero p h = absurd (not-suc-le-zero h)
-first-passes (suc n) p h =
-    test (anyBelow n p) (λ e. rw e (first-passes n p (first-below n p e)))
-    (λ e. test (p n) (λ d. rw (e, d) d) (λ d. let z : suc n < suc n = rw (e, d) at h in absurd (omega arith)))
+-- ---- the first number at which the test passes
+-- it passes there
+pub first-at : (n : ℕ) (p : ℕ → Bool) → firstBelow n p < n → p (firstBelow n p) ≡ true
+first-at zero p h = absurd (not-suc-le-zero h)
+first-at (suc n) p h =
+    cond-case (λ (k : ℕ). k < suc n → p k ≡ true) (p 0) (λ e l. e) (λ e l. first-at n (λ i. p (suc i)) (le-of-suc-le-suc l)) h
+
+-- nothing before it does
+pub first-before : (n : ℕ) (p : ℕ → Bool) (k : ℕ) → k < firstBelow n p → p k ≡ false
+first-before zero p k h = absurd (not-suc-le-zero h)
+first-before (suc n) p k h =
+    cond-case (λ (i : ℕ). k < i → p k ≡ false) (p 0) (λ e l. absurd (not-suc-le-zero l)) (rest (first-before n (λ i. p (suc i))) k) h
+  where
+    rest : ((j : ℕ) → j < firstBelow n (λ i. p (suc i)) → p (suc j) ≡ false) → (j : ℕ) → p 0 ≡ false → j < suc (firstBelow n (λ i. p (suc i))) → p j ≡ false
+    rest f zero e l = e
+    rest f (suc j) e l = f j (le-of-suc-le-suc l)
+
+-- it is below n where there is one
+pub first-below : (n : ℕ) (p : ℕ → Bool) → anyBelow n p ≡ true → firstBelow n p < n
+first-below n p e =
+    let f : Found n p = any-elim n p e in
+    by-cases (decLt (f .0) (firstBelow n p)) (λ (l : f .0 < firstBelow n p). clash (f .2) (first-before n p (f .0) l)) (λ l. omega (arith, l, f .1))
+
+pub first-some : (n : ℕ) (p : ℕ → Bool) → anyBelow n p ≡ true → p (firstBelow n p) ≡ true
+first-some n p e = first-at n p (first-below n p e)
+
+-- and n where there is none
+pub first-none : (n : ℕ) (p : ℕ → Bool) → ((k : ℕ) → k < n → p k ≡ false) → firstBelow n p ≡ n
+first-none zero p f = refl
+first-none (suc n) p f = rw (f 0 (suc-le-suc zero-le)) (ap suc (first-none n (λ i. p (suc i)) (λ k h. f (suc k) (suc-le-suc h))))
+
+-- one that passes with nothing before it is the first
+pub first-is : (n : ℕ) (p : ℕ → Bool) (k : ℕ) → k < n → p k ≡ true → ((j : ℕ) → j < k → p j ≡ false) → firstBelow n p ≡ k
+first-is zero p k h t f = absurd (not-suc-le-zero h)
+first-is (suc n) p zero h t f = rw t
+first-is (suc n) p (suc k) h t f =
+    rw (f 0 (suc-le-suc zero-le)) (ap suc (first-is n (λ i. p (suc i)) k (le-of-suc-le-suc h) t (λ j l. f (suc j) (suc-le-suc l))))
 
 pub occurs-append : (k : ℕ) (xs ys : List ℕ) → occurs k (xs ++ ys) ≡ occurs k xs + occurs k ys
 occurs-append k [] ys = omega arith

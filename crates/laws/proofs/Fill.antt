@@ -1,27 +1,18 @@
 -- What a loop has done when it has passed the numbers below i, as records, and how each begins, goes on and ends. Assumes nothing.
-use Prim.Native.Nat.{ℕ, zero, suc, _+_, _-_, _≤_, _<_, max, zero-le}
+use Prim.Native.Nat.{ℕ, zero, suc, _+_, _-_, _≤_, _<_, zero-le}
 use mathlib.Core.Path.{_≡_, refl, sym, _∙_, ap, ap₂}
-use mathlib.Core.Bool.{Bool, true, false, not, _&&_, _||_, cond}
-use mathlib.Core.Logic.{_⊎_, inl, inr, ⊎-elim, by-cases}
+use mathlib.Core.Bool.{Bool, true, false, not, _&&_, _||_}
+use mathlib.Core.Logic.{_⊎_, ⊎-elim}
 use mathlib.Core.List.{List, [], _∷_, _++_}
 use native.Mathlib.Nat.{not-suc-le-zero, le-step, lt-suc-self}
 use native.Mathlib.Numerals.{add-one}
-use native.Mathlib.Decide.{decLt}
 use native.Mathlib.Omega.{arith}
-use lib.ListN.{length, getD, set, length-append, length-set, List·getD-append, List·getD-eq-default}
+use lib.ListN.{length, getD, set, length-append, length-set, List·getD-append}
 use lib.Seq.{sets, getD-set-same, getD-set-other, getD-append-add, ext-getD}
-use Rattle.laws.specs.Below.{allBelow, anyBelow, greatest, tabulate, firstBelow}
-use Rattle.laws.proofs.Logic.{clash, fails, cond-true, cond-false}
-use Rattle.laws.proofs.Below.{below-suc, step-below, any-intro, any-elim, Found}
-
--- tests that agree below n
-pub all-same : (n : ℕ) (p q : ℕ → Bool) → ((k : ℕ) → k < n → p k ≡ q k) → allBelow n p ≡ allBelow n q
-all-same zero p q f = refl
-all-same (suc n) p q f = ap₂ (λ (a b : Bool). a && b) (all-same n p q (λ k h. f k (le-step h))) (f n (lt-suc-self n))
-
-pub any-same : (n : ℕ) (p q : ℕ → Bool) → ((k : ℕ) → k < n → p k ≡ q k) → anyBelow n p ≡ anyBelow n q
-any-same zero p q f = refl
-any-same (suc n) p q f = ap₂ (λ (a b : Bool). a || b) (any-same n p q (λ k h. f k (le-step h))) (f n (lt-suc-self n))
+use Rattle.laws.specs.Below.{allBelow, anyBelow, tabulate, firstBelow}
+use Rattle.laws.proofs.Logic.{clash, fails}
+use Rattle.laws.proofs.Below.{below-suc, step-below, any-intro, first-none, first-is}
+pub use Rattle.laws.proofs.Below.{all-same, any-same}
 
 -- none passes where each fails
 pub not-any : (n : ℕ) (p : ℕ → Bool) → not (anyBelow n p) ≡ allBelow n (λ k. not (p k))
@@ -63,21 +54,6 @@ any-more {n} {p} {found} {i} {b} r h e =
 pub any-done : {n w : ℕ} {p : ℕ → Bool} {found : Bool} {i : ℕ} → AnySoFar n p found i → n ≤ i → w ≡ n → found ≡ anyBelow w p
 any-done {n} {w} {p} {found} {i} r h q = let l : i ≤ n = r .within in let e : i ≡ w = omega arith in r .so ∙ ap (λ (k : ℕ). anyBelow k p) e
 
--- ---- the greatest of what was passed
-pub record GreatestSoFar (n : ℕ) (f : ℕ → ℕ) (most i : ℕ) : Type 0 where
-  pub within : i ≤ n
-  pub so : most ≡ greatest i f
-
-pub greatest-none : {n : ℕ} {f : ℕ → ℕ} → GreatestSoFar n f 0 0
-greatest-none = record { within = zero-le; so = refl }
-
-pub greatest-more : {n : ℕ} {f : ℕ → ℕ} {most i v : ℕ} → GreatestSoFar n f most i → i < n → v ≡ max most (f i) → GreatestSoFar n f v (i + 1)
-greatest-more {n} {f} {most} {i} {v} r h e =
-    record { within = omega arith; so = e ∙ ap (λ (x : ℕ). max x (f i)) (r .so) ∙ ap (λ (k : ℕ). greatest k f) (sym (add-one i)) }
-
-pub greatest-done : {n w : ℕ} {f : ℕ → ℕ} {most i : ℕ} → GreatestSoFar n f most i → n ≤ i → w ≡ n → most ≡ greatest w f
-greatest-done {n} {w} {f} {most} {i} r h q = let l : i ≤ n = r .within in let e : i ≡ w = omega arith in r .so ∙ ap (λ (k : ℕ). greatest k f) e
-
 -- ---- no number passed passes the test: a search for the first
 pub record NoneSoFar (n : ℕ) (p : ℕ → Bool) (i : ℕ) : Type 0 where
   pub within : i ≤ n
@@ -90,36 +66,19 @@ pub search-more : {n : ℕ} {p : ℕ → Bool} {i : ℕ} → NoneSoFar n p i →
 search-more {n} {p} {i} r h e =
     record { within = omega arith; so = ap (λ (k : ℕ). anyBelow k p) (add-one i) ∙ ap₂ (λ (x y : Bool). x || y) (r .so) e }
 
--- nothing passes below n: the first is n
-pub first-none : (n : ℕ) (p : ℕ → Bool) → anyBelow n p ≡ false → firstBelow n p ≡ n
-first-none zero p e = refl
-first-none (suc n) p e =
-    let a : anyBelow n p ≡ false = fails (anyBelow n p) (λ (t : anyBelow n p ≡ true). clash (rw t) e) in
-    let b : p n ≡ false = fails (p n) (λ (t : p n ≡ true). clash (any-intro (suc n) p n (lt-suc-self n) t) e) in
-    cond-false (firstBelow n p) (cond (p n) n (suc n)) a ∙ cond-false n (suc n) b
-
-pub first-here : (n : ℕ) (p : ℕ → Bool) (i : ℕ) → i < n → anyBelow i p ≡ false → p i ≡ true → firstBelow n p ≡ i
-first-here zero p i h a e = absurd (not-suc-le-zero h)
-first-here (suc n) p i h a e = ⊎-elim last (λ l. before l (first-here n p i l a e)) (below-suc h)
-  where
-    last : i ≡ n → firstBelow (suc n) p ≡ i
-    last q =
-        let a′ : anyBelow n p ≡ false = ap (λ (k : ℕ). anyBelow k p) (sym q) ∙ a in
-        let e′ : p n ≡ true = ap p (sym q) ∙ e in
-        cond-false (firstBelow n p) (cond (p n) n (suc n)) a′ ∙ cond-true n (suc n) e′ ∙ sym q
-
-    before : i < n → firstBelow n p ≡ i → firstBelow (suc n) p ≡ i
-    before l q = cond-true (firstBelow n p) (cond (p n) n (suc n)) (any-intro n p i l e) ∙ q
+-- each fails where none passes
+none-at : (n : ℕ) (p : ℕ → Bool) → anyBelow n p ≡ false → (k : ℕ) → k < n → p k ≡ false
+none-at n p e k h = fails (p k) (λ (t : p k ≡ true). clash (any-intro n p k h t) e)
 
 pub search-done : {n w : ℕ} {p : ℕ → Bool} {i : ℕ} → NoneSoFar n p i → n ≤ i → w ≡ n → firstBelow w p ≡ i
 search-done {n} {w} {p} {i} r h q =
     let l : i ≤ n = r .within in
     let e : i ≡ w = omega arith in
-    first-none w p (ap (λ (k : ℕ). anyBelow k p) (sym e) ∙ r .so) ∙ sym e
+    first-none w p (none-at w p (ap (λ (k : ℕ). anyBelow k p) (sym e) ∙ r .so)) ∙ sym e
 
 -- the search stops at i, where the test passes
 pub search-found : {n w : ℕ} {p : ℕ → Bool} {i : ℕ} → NoneSoFar n p i → i < n → w ≡ n → p i ≡ true → firstBelow w p ≡ i
-search-found {n} {w} {p} {i} r h q e = first-here w p i (omega arith) (r .so) e
+search-found {n} {w} {p} {i} r h q e = first-is w p i (omega arith) e (none-at i p (r .so))
 
 -- ---- a list filled so far with the values of f
 module _ {A : Type 0} where

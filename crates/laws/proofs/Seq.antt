@@ -1,12 +1,11 @@
 -- Laws of parts of lists and of runs of stores. Assumes nothing.
-use Prim.Native.Nat.{ℕ, zero, suc, _+_, _-_, _≤_, _<_}
+use Prim.Native.Nat.{ℕ, suc, _+_, _-_, _≤_, _<_}
 use mathlib.Core.Path.{_≡_, refl, sym, _∙_, ap}
 use mathlib.Core.List.{List, [], _∷_, _++_, append-assoc}
-use native.Mathlib.Nat.{add-zero, suc-add, le-refl}
-use native.Mathlib.Numerals.{add-one}
+use native.Mathlib.Nat.{add-zero}
 use native.Mathlib.Omega.{arith}
-use lib.ListN.{length, take, drop, getD, set, length-append, length-set, length-take, length-drop}
-use lib.Seq.{drop-cons, sets, set-comm, length-sets, sets-eq, take-at, drop-append-le, drop-at, length-take-le}
+use lib.ListN.{length, take, drop, getD, set}
+use lib.Seq.{drop-cons, sets, set-comm, sets-eq, take-at, drop-at, length-take-le}
 
 module _ {A : Type 0} where
   -- what a walk over the n elements from `at` on has still to see when i of them are passed

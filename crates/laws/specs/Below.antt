@@ -43,7 +43,7 @@ selected (suc n) p f = selected n p f ++ cond (p n) (f n ∷ []) []
 -- the first number below n at which the test passes, and n where there is none
 abbrev pub firstBelow : ℕ → (ℕ → Bool) → ℕ
 firstBelow zero p = 0
-firstBelow (suc n) p = cond (anyBelow n p) (firstBelow n p) (cond (p n) n (suc n))
+firstBelow (suc n) p = cond (p 0) 0 (suc (firstBelow n (λ i. p (suc i))))
 
 -- how often k stands in a list
 abbrev pub occurs : ℕ → List ℕ → ℕ

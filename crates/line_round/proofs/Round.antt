@@ -19,7 +19,7 @@ use Rattle.digits.specs.Digits.{isNumeral, isLetter, isDigit, number, numbers, 
 use Rattle.digits.specs.Line.{added, summed, checkOf, lineOf, shaped, checked}
 use Rattle.digits.proofs.Digits.{total, Fitting, written-length, written-all, numbers-written, written-numbers, number-take, all-getD}
 use Rattle.digits.proofs.Lines.{whole-shaped, shaped-whole, line-rest, line-shaped, line-checked, line-bytes, body-all, body-length, shape, altered}
-use Rattle.refusal.specs.declared.Verdict.the-variants.{Accepted}
+use Rattle.refusal.specs.declared.Reply.the-variants.{Done}
 use Rattle.frame.specs.declared.Header.{Header}
 use Rattle.frame.specs.declared.Frame.{Frame}
 use Rattle.frame.specs.Format.{Format, Formats, format, formats, noneOf, heldBy, shownBy}
@@ -144,7 +144,7 @@ module _ (f : Format) (s : Sound f) (due first : ℕ) (h : Header) (rest : List 
   header-rest = line-rest (startOf f h) (headerDigits f) (written (headerWidths f) (headerNumbers h)) rest (written-all (headerWidths f) (headerNumbers h)) header-length
 
   -- and is accepted
-  pub header-accepted : headerVerdict f due first (headerLine f h ++ rest) ≡ Accepted
+  pub header-accepted : headerVerdict f due first (headerLine f h ++ rest) ≡ Done
   unfolding headerVerdict headerLine
   header-accepted = rw header-back (passes BadHeader (shaped-whole (headerDigits f) (headerLine f h ++ rest) well-shaped) well-checked a)
     where
@@ -157,7 +157,7 @@ module _ (f : Format) (s : Sound f) (due first : ℕ) (h : Header) (rest : List 
           (check-small (startOf f h) (written (headerWidths f) (headerNumbers h)) (s .first (h .card) (h .session)) (s .second (h .card) (h .session)))
 
 -- a header line that is accepted is the line that is written of what was read
-pub header-again : (f : Format) (due first : ℕ) (input : List ℕ) → headerVerdict f due first input ≡ Accepted → headerLine f (headerIn f input) ++ drop (headerDigits f + 5) input ≡ input
+pub header-again : (f : Format) (due first : ℕ) (input : List ℕ) → headerVerdict f due first input ≡ Done → headerLine f (headerIn f input) ++ drop (headerDigits f + 5) input ≡ input
 unfolding headerLine
 header-again f due first input e =
     let p = header-passed f due first input e in
@@ -242,7 +242,7 @@ module _ (f : Format) (s : Sound f) (start : Sums) (p : start .first < 256) (q :
     unfolding frameLine
     frame-rest = line-rest start (frameDigits f n) (written (frameWidths f n) (frameNumbers f state fr)) rest (written-all (frameWidths f n) (frameNumbers f state fr)) frame-length
 
-    pub frame-accepted : frameVerdict f start card n state last (frameLine f start n state fr ++ rest) ≡ Accepted
+    pub frame-accepted : frameVerdict f start card n state last (frameLine f start n state fr ++ rest) ≡ Done
     unfolding frameVerdict frameLine
     frame-accepted = rw (state-back, frame-back) (passes BadFrame (shaped-whole (frameDigits f n) (frameLine f start n state fr ++ rest) well-shaped) well-checked a)
       where
@@ -257,7 +257,7 @@ module _ (f : Format) (s : Sound f) (start : Sums) (p : start .first < 256) (q :
 -- a frame line that is accepted is the line that is written of what was read
 pub frame-again :
     (f : Format) (start : Sums) (card n state : ℕ) (last : Frame) (input : List ℕ) →
-    frameVerdict f start card n state last input ≡ Accepted →
+    frameVerdict f start card n state last input ≡ Done →
     frameLine f start n state (frameIn f n input) ++ drop (frameDigits f n + 5) input ≡ input
 unfolding frameLine frameAllowed
 frame-again f start card n state last input e =
@@ -285,19 +285,19 @@ unfolding frameIn entriesIn
 entries-all f n input =
     length-map (numbers (replicate n (f .width)) (drop (f .width + 8) input)) (heldBy (f .short) (noneOf f)) ∙ numbers-count (replicate n (f .width)) (drop (f .width + 8) input) ∙ length-replicate n (f .width)
 
-pub change-fits : (f : Format) (start : Sums) (card n state : ℕ) (last : Frame) (input : List ℕ) → frameVerdict f start card n state last input ≡ Accepted → frameIn f n input .change < 16 ^ 8
+pub change-fits : (f : Format) (start : Sums) (card n state : ℕ) (last : Frame) (input : List ℕ) → frameVerdict f start card n state last input ≡ Done → frameIn f n input .change < 16 ^ 8
 unfolding frameIn
 change-fits f start card n state last input e =
     let l = shape (frameDigits f n) input (whole-shaped (frameDigits f n) input (frame-passed f start card n state last input e .whole)) .long in
     number-take 8 (drop (f .width) input) (rw length-drop (omega arith))
 
-pub session-fits : (f : Format) (due first : ℕ) (input : List ℕ) → headerVerdict f due first input ≡ Accepted → headerIn f input .session < 16 ^ 8
+pub session-fits : (f : Format) (due first : ℕ) (input : List ℕ) → headerVerdict f due first input ≡ Done → headerIn f input .session < 16 ^ 8
 unfolding headerIn
 session-fits f due first input e =
     let l = shape (headerDigits f) input (whole-shaped (headerDigits f) input (header-passed f due first input e .whole)) .long in
     number-take 8 input (omega arith)
 
-pub state-is : (f : Format) (start : Sums) (card n state : ℕ) (last : Frame) (input : List ℕ) → frameVerdict f start card n state last input ≡ Accepted → frameAllowed f card n state last state (frameIn f n input) ≡ true
+pub state-is : (f : Format) (start : Sums) (card n state : ℕ) (last : Frame) (input : List ℕ) → frameVerdict f start card n state last input ≡ Done → frameAllowed f card n state last state (frameIn f n input) ≡ true
 unfolding frameAllowed
 state-is f start card n state last input e =
     let p = frame-passed f start card n state last input e in
@@ -309,8 +309,8 @@ state-is f start card n state last input e =
 pub frame-altered :
     (f : Format) (start : Sums) (card n state : ℕ) (last : Frame) (input : List ℕ) (p b : ℕ) →
     p < frameDigits f n + 5 →
-    frameVerdict f start card n state last input ≡ Accepted →
-    frameVerdict f start card n state last (set input p b) ≡ Accepted →
+    frameVerdict f start card n state last input ≡ Done →
+    frameVerdict f start card n state last (set input p b) ≡ Done →
     b ≡ getD input p 0
 frame-altered f start card n state last input p b h e g =
     let k = frameDigits f n in
@@ -372,7 +372,7 @@ not-both n m xs ys h s t e =
     let w : _≡_ {A = ℕ} 0 1 = cc in
     absurd (omega arith)
 
-module _ (F : Formats) (t : Alike F) (due first : ℕ) (input : List ℕ) (p b : ℕ) (e : headerVerdict (formatIn F input) due first input ≡ Accepted) (g : headerVerdict (formatIn F (set input p b)) due first (set input p b) ≡ Accepted) where
+module _ (F : Formats) (t : Alike F) (due first : ℕ) (input : List ℕ) (p b : ℕ) (e : headerVerdict (formatIn F input) due first input ≡ Done) (g : headerVerdict (formatIn F (set input p b)) due first (set input p b) ≡ Done) where
   -- where both lines are of one length
   of-one-length : p < headerDigits (formatIn F input) + 5 → formatIn F input .width ≡ formatIn F (set input p b) .width → b ≡ getD input p 0
   of-one-length h r =
@@ -465,8 +465,8 @@ frame-untouched f n input p b h l =
     ∙ ap (from-numbers f) (same-numbers (frameWidths f n) (set input p b) input k (omega arith) (rw length-set (omega arith)) (omega arith) (take-set-le k input p b (omega arith)))
     ∙ sym (frame-from f n input)
 
-pub header-room : (f : Format) (due first : ℕ) (input : List ℕ) → headerVerdict f due first input ≡ Accepted → headerDigits f + 5 ≤ length input
+pub header-room : (f : Format) (due first : ℕ) (input : List ℕ) → headerVerdict f due first input ≡ Done → headerDigits f + 5 ≤ length input
 header-room f due first input e = shape (headerDigits f) input (whole-shaped (headerDigits f) input (header-passed f due first input e .whole)) .long
 
-pub frame-room : (f : Format) (start : Sums) (card n state : ℕ) (last : Frame) (input : List ℕ) → frameVerdict f start card n state last input ≡ Accepted → frameDigits f n + 5 ≤ length input
+pub frame-room : (f : Format) (start : Sums) (card n state : ℕ) (last : Frame) (input : List ℕ) → frameVerdict f start card n state last input ≡ Done → frameDigits f n + 5 ≤ length input
 frame-room f start card n state last input e = shape (frameDigits f n) input (whole-shaped (frameDigits f n) input (frame-passed f start card n state last input e .whole)) .long

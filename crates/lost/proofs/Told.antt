@@ -23,8 +23,8 @@ use Rattle.protocol.specs.Plan.{CardRow, fixed, Check, _⇒_, Plan, accepted, r
 use Rattle.protocol.specs.Sound.{sound}
 use Rattle.protocol.specs.Calls.{lines, lineOf, isLost, frameAbove, cardRows, fixChecks, fixPlan}
 use Rattle.verdicts.specs.declared.Core.{Core}
-use Rattle.verdicts.specs.declared.Reply.{Reply}
-use Rattle.verdicts.specs.declared.Reply.the-variants.{Done, Refused}
+use Rattle.refusal.specs.declared.Reply.{Reply}
+use Rattle.refusal.specs.declared.Reply.the-variants.{Done, Refused}
 use Rattle.verdicts.specs.Shape.{limits16, at, listOf, presentOf, ringMaker, inHand, makerInHand, headModel, modelOf}
 use Rattle.verdicts.specs.Answers.{firstFailing, after28, next}
 use Rattle.verdicts.proofs.Limits.{width16, inHand48, places8}

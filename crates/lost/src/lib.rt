@@ -16,10 +16,10 @@ use listing::write_lost;
 use recovery::FixReply;
 use recovery::Outcome;
 use refusal::Refusal;
+use refusal::Reply;
 use replies::next;
 use verdicts::Core;
 use verdicts::Head;
-use verdicts::Reply;
 use verdicts::is_down;
 
 mod listing;

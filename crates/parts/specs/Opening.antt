@@ -1,7 +1,7 @@
 -- What an opening answers, by its verdict.
 use Prim.Native.Nat.{ℕ, _+_}
-use Rattle.verdicts.specs.declared.Reply.{Reply}
-use Rattle.verdicts.specs.declared.Reply.the-variants.{Done, Refused}
+use Rattle.refusal.specs.declared.Reply.{Reply}
+use Rattle.refusal.specs.declared.Reply.the-variants.{Done, Refused}
 use Rattle.verdicts.specs.declared.OpenReply.{OpenReply}
 use Rattle.verdicts.specs.declared.OpenReply.the-variants.{Opened, NotOpened}
 

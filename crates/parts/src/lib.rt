@@ -12,9 +12,9 @@ ghost use Rattle.protocol.specs.Model.{freePlace};
 ghost use Rattle.verdicts.specs.Shape.{limits16, at, ringPlace, listOf, vectorFor, openAt, placeFor};
 ghost use Rattle.parts.specs.Opening.{openAnswer};
 use limits::Limits;
+use refusal::Reply;
 use verdicts::OpenReply;
 use verdicts::Place;
-use verdicts::Reply;
 use verdicts::Vector;
 
 // The vector of a frame, at its place in the ring.

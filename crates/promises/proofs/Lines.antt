@@ -12,16 +12,17 @@ use lib.ListN.{length}
 use lib.Seq.{sets}
 use Rattle.laws.proofs.Logic.{test}
 use Rattle.refusal.specs.declared.Refusal.{Refusal}
+use Rattle.refusal.specs.Number.{rowOf}
 use Rattle.refusal.specs.declared.Refusal.the-variants.{CardCount, NoSuchCard}
 use Rattle.bits.specs.Member.{member}
-use Rattle.bits.specs.Sets.{firstBelow}
+use Rattle.laws.specs.Below.{firstBelow}
 use Rattle.protocol.specs.Plan.{done, Plan, accepted, refused, _⇒_}
 use Rattle.protocol.specs.Calls.{barred, freshRefused, openPlan, votePlan, takePlan, withdrawPlan, storePlan, trimPlan, safePlan, losePlan, fixPlan, rollPlan}
 use Rattle.protocol.specs.Codec.{sheetPlan}
 use Rattle.protocol.specs.Choices.{chosen}
 use Rattle.protocol.specs.Run as run
 use Rattle.protocol.proofs.Choices.{choosable}
-use Rattle.protocol.proofs.Claims.{all-listed, not-both}
+use Rattle.protocol.proofs.Claims.{not-both}
 use Rattle.codec.specs.Sheets.{restartReply, codec}
 use Rattle.readout.specs.Joint.{readoutOf}
 use Rattle.verdicts.specs.Shape.{limits16}
@@ -115,7 +116,7 @@ some Unreadable r = (r, unreadableText, record { same = refl; answer = refl })
 -- ---- every one is as said
 -- a fresh cabinet takes the place of the present one, or not
 fresh-line : (b : Bool) (r new : Replay) → Said (b ⇒ CardCount ∷ []) (cond b (refused CardCount) (accepted done)) × ((q : Refusal) → cond b (refused CardCount) (accepted done) ≡ refused q → cond b r new ≡ r)
-fresh-line true r new = (refuses CardCount (inl (refl, refl)) (all-listed CardCount), λ q e. refl)
+fresh-line true r new = (refuses CardCount (inl (refl, refl)) (rowOf CardCount .listed), λ q e. refl)
 fresh-line false r new = (answers done (refl, tt), λ q e. not-both done q e)
 
 each : (said : Spoken) (r next : Replay) (text : List ℕ) → Steps said r next text → LineGets said r next text

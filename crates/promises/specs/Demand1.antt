@@ -6,8 +6,8 @@ use mathlib.Core.Bool.{false}
 use mathlib.Core.List.{List, [], _∷_}
 use Rattle.refusal.specs.declared.Refusal.{Refusal}
 use Rattle.refusal.specs.declared.Refusal.the-variants.{CardCount}
-use Rattle.refusal.specs.Number.{numberOf}
-use Rattle.refusal.specs.declared.Verdict.the-variants.{Refused}
+use Rattle.refusal.specs.Number.{Listed, numberOf}
+use Rattle.refusal.specs.declared.Reply.the-variants.{Refused}
 use Rattle.sheet.specs.declared.Reading.{Reading}
 use Rattle.sheet.specs.Pages.{Page}
 use Rattle.sheet.specs.Walk.{noReadout}
@@ -18,7 +18,6 @@ use Rattle.write.specs.declared.Written.the-variants.{Refused as written-refuse
 use Rattle.protocol.specs.Plan.{Reply, refused, _⇒_}
 use Rattle.protocol.specs.Calls.{freshRefused}
 use Rattle.protocol.specs.Codec.{verdictChecks}
-use Rattle.protocol.specs.Demands.{Listed}
 use Rattle.codec.specs.Sheets.{restartReply}
 use Rattle.verdicts.specs.Shape.{limits16}
 use Rattle.cabinet.specs.declared.Cabinet.{Cabinet}

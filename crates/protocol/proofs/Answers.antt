@@ -21,7 +21,7 @@ use Rattle.history.proofs.Lines.{line-cut, cut-below}
 use Rattle.history.proofs.Theorems.{line-whole}
 use Rattle.history.proofs.Reports.{cut-same}
 use Rattle.refusal.specs.declared.Refusal.the-variants.{LimitReached}
-use Rattle.refusal.specs.declared.Verdict.the-variants.{Accepted, Refused}
+use Rattle.refusal.specs.declared.Reply.the-variants.{Done, Refused}
 use Rattle.protocol.specs.Sound.{sound}
 use Rattle.protocol.specs.Codec.{Codec}
 use Rattle.protocol.specs.Model.{Limits, Phase, noCards, up, down, rolling, isUp, isDown, isRolling, OpenChange, Model, isCard, isOpen, decided, toWrite, awaitsWrite, placeOf, isKnown, withCard}
@@ -250,10 +250,6 @@ module _ (L : Limits) (n : CardSet) (m : Model) (j : Journal) (v : Invariant L n
     stored-reached c l = le-trans (r .ranges .stored-held c l) (r .ranges .held-reached c l)
 
     module _ (i : ℕ) (h : i < decisions j) (e : H j i .number ≡ k) where
-      -- all its states are stored
-      abbrev AllStored : Type 0
-      AllStored = (c : ℕ) → c < L .width → H j i .writes c ≡ true → made (H j) (j .start) i c ≤ j .stored c
-
       -- a card that it has yet to write: its place is there
       left-there : (c : ℕ) → c < L .width → H j i .writes c ≡ true → r .took i c ≡ false → writesLeft L m k ≡ true
       left-there c l wr nt =
@@ -374,7 +370,7 @@ call-right C L n carded law r (sheetCall c places) x p a e = tt
 call-right C L n carded law {cs} {m} r restartCall x p a e =
     by-cases (decLt (m .session) (L .greatestNumber))
     (λ z. let q : Remade C L m = law .remade m (journal L n cs) (v .present-is) (recallable L n m (journal L n cs) v) z in
-    rw (restart-reply C L m Accepted fine (q .accepts)) (restart-right L n m (journal L n cs) v (C .restarted L (C .joined L m)) (q .recalled)))
+    rw (restart-reply C L m Done fine (q .accepts)) (restart-right L n m (journal L n cs) v (C .restarted L (C .joined L m)) (q .recalled)))
     (λ z. not-both a LimitReached (sym e ∙ restart-reply C L m (Refused LimitReached) fine (law .last-session m (journal L n cs) (v .present-is) (recallable L n m (journal L n cs) v) (omega (arith, z)))))
   where
     v : Invariant L n m (journal L n cs)

@@ -10,7 +10,7 @@ use lib.Dec.{eqb}
 use borrow.Author.Tests.{eq-eqb, eqb-true}
 use Rattle.laws.specs.Below.{one-if, anyBelow, countBelow, greatest}
 use Rattle.laws.proofs.Logic.{fails, and-right, or-elim}
-use Rattle.laws.proofs.Below.{Found, any-elim, first-below, first-passes, greatest-above, count-rest, count-once, occurs-selected}
+use Rattle.laws.proofs.Below.{Found, any-elim, first-below, first-at, greatest-above, count-rest, count-once, occurs-selected}
 use Rattle.protocol.specs.Model.{Limits, Model}
 use Rattle.protocol.specs.Calls.{barred, frameAbove, someFrameAbove, lineOf, isLost}
 use Rattle.protocol.specs.Run.{openCall, voteCall, takeCall, withdrawCall, storeCall, trimCall, safeCall, loseCall, fixCall, rollCall, sheetCall, restartCall}
@@ -62,7 +62,7 @@ module _ (L : Limits) (m : Model) where
           omega (arith, a, b, d)
 
 pub choosable : Choosable
-choosable L m (openCall reads writes) = λ e. (first-below (L .width) (barred L m reads writes) e, first-passes (L .width) (barred L m reads writes) (first-below (L .width) (barred L m reads writes) e))
+choosable L m (openCall reads writes) = λ e. (first-below (L .width) (barred L m reads writes) e, first-at (L .width) (barred L m reads writes) (first-below (L .width) (barred L m reads writes) e))
 choosable L m (voteCall k c agrees) = tt
 choosable L m (takeCall k c) = tt
 choosable L m (withdrawCall k) = tt

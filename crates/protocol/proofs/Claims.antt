@@ -1,49 +1,22 @@
 -- Demand 1, for any limits, any cabinet and any arguments. Assumes nothing.
-use Prim.Native.Nat.{ℕ, _-_, _≤_}
+use Prim.Native.Nat.{ℕ}
 use mathlib.Core.Path.{_≡_, refl, sym, _∙_, ap}
 use mathlib.Core.Bool.{true, false}
 use mathlib.Core.Logic.{inl, inr}
 use mathlib.Core.List.{List, [], _∷_}
 use native.Mathlib.Omega.{arith}
-use lib.Dec.{lit≤}
 use Rattle.refusal.specs.declared.Refusal.{Refusal}
-use Rattle.refusal.specs.declared.Refusal.the-variants.{CardCount, NoSuchCard, BothSetsEmpty, TooShort, BadLine, BadCheck, BadHeader, EndOrMore, BadFrame, TwoVectors, SessionsApart, TooLong, WrongPhase, Barred, NoPlace, InHandFull, LimitReached, NotAwaited, AlreadyDecided, StoreOutside, BadCabinet, NotDecided, AlreadyRolled}
-use Rattle.refusal.specs.Number.{numberOf}
+use Rattle.refusal.specs.Number.{rowOf}
 use Rattle.protocol.specs.Codec.{Codec, sheetChecks}
 use Rattle.protocol.specs.Model.{Limits, Model}
 use Rattle.protocol.specs.Edit.{Edit}
 use Rattle.protocol.specs.Plan.{Answer, Reply, accepted, refused, Check, _⇒_, Plan, checked, Passed, Due, afterPlan}
 use Rattle.protocol.specs.Calls.{openChecks, voteChecks, takeChecks, withdrawChecks, storeChecks, trimChecks, safeChecks, loseChecks, fixChecks, rollChecks}
 use Rattle.protocol.specs.Run.{Call, openCall, voteCall, takeCall, withdrawCall, storeCall, trimCall, safeCall, loseCall, fixCall, rollCall, sheetCall, restartCall, Choice, checksOf, planOf, afterCall, afterRestart}
-use Rattle.protocol.specs.Demands.{Listed, Demand1}
+use Rattle.protocol.specs.Demands.{Demand1}
 use Rattle.protocol.proofs.Steps.{checked-case}
 
 -- ---- demand 1
-pub all-listed : (r : Refusal) → Listed (numberOf r)
-all-listed CardCount = inl (lit≤ tt, lit≤ tt)
-all-listed NoSuchCard = inl (lit≤ tt, lit≤ tt)
-all-listed BothSetsEmpty = inl (lit≤ tt, lit≤ tt)
-all-listed TooShort = inl (lit≤ tt, lit≤ tt)
-all-listed BadLine = inl (lit≤ tt, lit≤ tt)
-all-listed BadCheck = inl (lit≤ tt, lit≤ tt)
-all-listed BadHeader = inl (lit≤ tt, lit≤ tt)
-all-listed EndOrMore = inl (lit≤ tt, lit≤ tt)
-all-listed BadFrame = inl (lit≤ tt, lit≤ tt)
-all-listed TwoVectors = inl (lit≤ tt, lit≤ tt)
-all-listed SessionsApart = inl (lit≤ tt, lit≤ tt)
-all-listed TooLong = inl (lit≤ tt, lit≤ tt)
-all-listed WrongPhase = inr (lit≤ tt, lit≤ tt)
-all-listed (Barred c) = inr (lit≤ tt, lit≤ tt)
-all-listed NoPlace = inr (lit≤ tt, lit≤ tt)
-all-listed InHandFull = inr (lit≤ tt, lit≤ tt)
-all-listed LimitReached = inr (lit≤ tt, lit≤ tt)
-all-listed NotAwaited = inr (lit≤ tt, lit≤ tt)
-all-listed AlreadyDecided = inr (lit≤ tt, lit≤ tt)
-all-listed StoreOutside = inr (lit≤ tt, lit≤ tt)
-all-listed BadCabinet = inr (lit≤ tt, lit≤ tt)
-all-listed NotDecided = inr (lit≤ tt, lit≤ tt)
-all-listed AlreadyRolled = inr (lit≤ tt, lit≤ tt)
-
 pub not-both : {A : Type 0} (a : Answer) (r : Refusal) → accepted a ≡ refused r → A
 not-both a r e = let z : _≡_ {A = ℕ} 0 1 = cc in absurd (omega arith)
 
@@ -80,7 +53,7 @@ demand-1 C L m call x =
     record {
       passed = λ b e. acceptance-passed (checksOf C L m call x) (t .0) (t .1) b (sym (ap (λ (p : Plan). p .reply) (t .2)) ∙ e);
       due = λ r e. refusal-due (checksOf C L m call x) (t .0) (t .1) r (sym (ap (λ (p : Plan). p .reply) (t .2)) ∙ e);
-      listed = λ r e. all-listed r;
+      listed = λ r e. rowOf r .listed;
       unchanged = unchanged call;
     }
   where

@@ -10,8 +10,8 @@ use native.Mathlib.Omega.{arith}
 use lib.ListN.{length}
 use Rattle.laws.proofs.Logic.{test, clash}
 use Rattle.refusal.specs.declared.Refusal.the-variants.{LimitReached}
-use Rattle.refusal.specs.declared.Verdict.{Verdict}
-use Rattle.refusal.specs.declared.Verdict.the-variants.{Accepted, Refused}
+use Rattle.refusal.specs.declared.Reply.{Reply}
+use Rattle.refusal.specs.declared.Reply.the-variants.{Done, Refused}
 use Rattle.history.specs.Change.{CardSet, History, Numbers, writers, UpTo, historyOf}
 use Rattle.history.specs.Vector.{vector, entryOf, LastPreceding}
 use Rattle.history.proofs.Writers.{Maker, maker, makers-order}
@@ -24,10 +24,10 @@ use Rattle.protocol.specs.Codec.{Codec, sheetChecks, verdictChecks, rest
 use Rattle.protocol.specs.Model.{Limits, Phase, up, down, rolling, isUp, isRolling, Model}
 use Rattle.protocol.specs.Sound.{sound}
 use Rattle.protocol.specs.Edit.{Edit}
-use Rattle.protocol.specs.Plan.{Answer, done, accepted, Check, Plan, checked, afterPlan}
+use Rattle.protocol.specs.Plan.{Answer, done, accepted, replyOf, Check, Plan, checked, afterPlan}
 use Rattle.protocol.specs.Calls.{cardRows, openChecks, voteChecks, takeChecks, withdrawChecks, storeChecks, trimChecks, safeChecks, loseChecks, fixChecks, rollChecks}
 use Rattle.protocol.specs.Journal.{Journal, Fixing, unfixed, fixing, noteOpen, noteVote, noteStruck, noteStore, noteLose, noteFix, noteRoll}
-use Rattle.protocol.specs.Run.{Call, openCall, voteCall, takeCall, withdrawCall, storeCall, trimCall, safeCall, loseCall, fixCall, rollCall, sheetCall, restartCall, Choice, planOf, afterCall, verdictReply, afterRestart, Calls, Run, start, next, note, journal}
+use Rattle.protocol.specs.Run.{Call, openCall, voteCall, takeCall, withdrawCall, storeCall, trimCall, safeCall, loseCall, fixCall, rollCall, sheetCall, restartCall, Choice, planOf, afterCall, afterRestart, Calls, Run, start, next, note, journal}
 use Rattle.protocol.specs.Demands.{VectorsRight}
 use Rattle.protocol.proofs.Restart.{recallable, restart-again, Remade, CodecLaw}
 use Rattle.protocol.proofs.Taking.{Framed, ByTakenWriters}
@@ -43,11 +43,11 @@ same-note L n j j' call cs a es e =
     checked-case (λ (p : Plan). noted j j' (p .reply) ≡ note L n j call (p .reply)) cs a es (λ r. refl) (λ ps. sym e)
 
 -- of a cabinet that passes 28 a restart answers the verdict
-pub restart-reply : (C : Codec) (L : Limits) (m : Model) (v : Verdict) → sound L m ≡ true → C .verdict (C .joined L m) ≡ v → restartPlan C L m .reply ≡ verdictReply v
+pub restart-reply : (C : Codec) (L : Limits) (m : Model) (v : Reply) → sound L m ≡ true → C .verdict (C .joined L m) ≡ v → restartPlan C L m .reply ≡ replyOf v
 restart-reply C L m v fine e = rw (fine, e) (same v)
   where
-    same : (w : Verdict) → checked (verdictChecks w) done [] .reply ≡ verdictReply w
-    same Accepted = refl
+    same : (w : Reply) → checked (verdictChecks w) done [] .reply ≡ replyOf w
+    same Done = refl
     same (Refused r) = refl
 
 -- a restart: accepted where another session can follow, and refused in the last one
@@ -56,7 +56,7 @@ restart-step : (C : Codec) (L : Limits) (n : CardSet) → CodecLaw C L n → (m 
 restart-step C L n law m j v =
     by-cases (decLt (m .session) (L .greatestNumber))
     (λ z. let e : Remade C L m = law .remade m j (v .present-is) (recallable L n m j v) z in
-    rw (restart-reply C L m Accepted fine (e .accepts)) (restart-again L n m (C .restarted L (C .joined L m)) j v z (e .recalled)))
+    rw (restart-reply C L m Done fine (e .accepts)) (restart-again L n m (C .restarted L (C .joined L m)) j v z (e .recalled)))
     (λ z. rw (restart-reply C L m (Refused LimitReached) fine (law .last-session m j (v .present-is) (recallable L n m j v) (omega (arith, z)))) v)
   where
     fine : sound L m ≡ true

@@ -12,7 +12,7 @@ use borrow.Author.Tests.{lt-ltb, le-ltb}
 use Rattle.laws.proofs.Logic.{test, clash, fails, and-right, and-intro, or-elim, not-true}
 use Rattle.laws.proofs.Below.{all-same, all-at, all-intro}
 use Rattle.refusal.specs.declared.Refusal.the-variants.{LimitReached}
-use Rattle.refusal.specs.declared.Verdict.the-variants.{Accepted, Refused}
+use Rattle.refusal.specs.declared.Reply.the-variants.{Done, Refused}
 use Rattle.history.specs.Change.{CardSet, History, Numbers, writers, made, historyOf}
 use Rattle.history.specs.Vector.{Vector, vector}
 use Rattle.history.specs.Line.{lineFrom}
@@ -364,7 +364,7 @@ recallable L n m j v = ⊎-elim (λ (r : Running L m j). running-recallable L m 
 -- ---- what a list of calls asks of sheets
 -- a cabinet's sheets, joined, are accepted, and what restarts from them has of it what it must
 pub record Remade (C : Codec) (L : Limits) (m : Model) : Type 0 where
-  pub accepts : C .verdict (C .joined L m) ≡ Accepted
+  pub accepts : C .verdict (C .joined L m) ≡ Done
   pub recalled : Recalled L m (C .restarted L (C .joined L m))
 
 pub record CodecLaw (C : Codec) (L : Limits) (n : CardSet) : Type 0 where

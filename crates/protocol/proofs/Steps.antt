@@ -9,7 +9,7 @@ use borrow.Author.Tests.{leb-true, leb-false, ltb-true, eqb-true}
 use Rattle.refusal.specs.declared.Refusal.{Refusal}
 use Rattle.laws.specs.Below.{anyBelow}
 use Rattle.laws.proofs.Logic.{test, clash, fails, and-left, and-right, and-intro, or-left, or-right, or-elim, not-true, not-intro, cond-case}
-use Rattle.laws.proofs.Below.{Found, any-elim, any-intro, first-passes}
+use Rattle.laws.proofs.Below.{Found, any-elim, any-intro, first-at}
 use Rattle.history.specs.Change.{CardSet, touches}
 use Rattle.history.specs.Vector.{vectorOf}
 use Rattle.protocol.specs.Model.{Limits, Phase, up, down, rolling, isUp, isDown, isRolling, OpenChange, Model, freePlace, isCard, strays, isEmpty, withCard, isOpen, decided, placeOf, freeAt, isKnown, tracked, withYes, withVector}
@@ -59,7 +59,7 @@ card-below L m c e = ltb-true c (L .width) (and-left (ltb c (L .width)) (m .pres
 pub known-place : (L : Limits) (m : Model) (k : ℕ) → isKnown L m k ≡ true → (placeOf L m k < L .places) × (isOpen (m .place (placeOf L m k)) ≡ true) × (m .place (placeOf L m k) .change .number ≡ k)
 known-place L m k e =
     let l : placeOf L m k < L .places = ltb-true (placeOf L m k) (L .places) e in
-    let q : isOpen (m .place (placeOf L m k)) && eqb (m .place (placeOf L m k) .change .number) k ≡ true = first-passes (L .places) (λ p. isOpen (m .place p) && eqb (m .place p .change .number) k) l in
+    let q : isOpen (m .place (placeOf L m k)) && eqb (m .place (placeOf L m k) .change .number) k ≡ true = first-at (L .places) (λ p. isOpen (m .place p) && eqb (m .place p .change .number) k) l in
     (l, and-left (isOpen (m .place (placeOf L m k))) (eqb (m .place (placeOf L m k) .change .number) k) q, eqb-true (m .place (placeOf L m k) .change .number) k (and-right (isOpen (m .place (placeOf L m k))) (eqb (m .place (placeOf L m k) .change .number) k) q))
 
 pub up-only : (p : Phase) → isUp p ≡ true → isRolling p ≡ false
@@ -82,7 +82,7 @@ module _ (L : Limits) (m : Model) (j : Journal) (r : Running L m j) where
       (λ c l z. ⊎-elim (λ (y : reads c ≡ true). in-cabinet L m reads (stray .0) c l y) (λ (y : writes c ≡ true). in-cabinet L m writes (stray .1) c l y) (or-elim (reads c) (writes c) z))
       (some-card (ps .1 .1 .0))
       (λ p c lp lc. none-at (L .places) (λ q. bars (m .place q) reads writes c) (none-at (L .width) (barred L m reads writes) (ps .1 .1 .1 .1 .0) c lc) p lp)
-      free (not-true (isOpen (m .place (freeAt L m))) (first-passes (L .places) (λ p. not (isOpen (m .place p))) free))
+      free (not-true (isOpen (m .place (freeAt L m))) (first-at (L .places) (λ p. not (isOpen (m .place p))) free))
       (leb-false (L .greatestNumber) (m .count) (or-none (someWritten L writes (λ d. leb (L .greatestState) (m .numbers .reached d))) (leb (L .greatestNumber) (m .count)) (ps .1 .1 .1 .1 .1 .1 .1 .0) .1))
       (λ c l z. (
         leb-false (m .numbers .base c + L .inHand) (m .numbers .reached c) (fails (leb (m .numbers .base c + L .inHand) (m .numbers .reached c)) (λ y. clash (and-intro z y) (none-at (L .width) (λ d. writes d && leb (m .numbers .base d + L .inHand) (m .numbers .reached d)) (ps .1 .1 .1 .1 .1 .1 .0) c l))),

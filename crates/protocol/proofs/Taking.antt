@@ -9,7 +9,7 @@ use native.Mathlib.Decide.{decLe, decLt, ℕ-discrete}
 use native.Mathlib.Omega.{arith}
 use lib.Dec.{eqb}
 use borrow.Author.Tests.{eqb-true, eq-eqb, ne-eqb}
-use Rattle.laws.proofs.Logic.{clash, and-left, and-right, or-left, or-right, or-elim, fails}
+use Rattle.laws.proofs.Logic.{clash, and-left, and-right, or-left, or-right, or-elim}
 use Rattle.laws.proofs.Below.{below-suc}
 use Rattle.protocol.specs.Edit.{put}
 use Rattle.history.specs.Change.{CardSet, History, Numbers, touches, meets, writers, found, made, direct, UpTo}
@@ -58,9 +58,6 @@ pub record Based (w : ℕ) (H : History) (start : Numbers) (n : ℕ) (base : Num
 
 module _ (w : ℕ) (H : History) (start : Numbers) (n : ℕ) (took : Took) where
   -- ---- a decision: change n joins the history, with every change that meets it taken
-  not-yet : Orderly w H n took → (c : ℕ) → took n c ≡ false
-  not-yet o c = fails (took n c) (λ t. absurd (omega (arith, o .decided-only n c t)))
-
   pub orderly-decided : Orderly w H n took → ((i c : ℕ) → i < n → c < w → meets (H i) (H n) c ≡ true → took i c ≡ true) → Orderly w H (suc n) took
   orderly-decided o joins =
       record {

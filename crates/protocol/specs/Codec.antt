@@ -5,8 +5,8 @@ use mathlib.Core.List.{List, [], _∷_}
 use lib.Dec.{ltb}
 use lib.ListN.{length}
 use Rattle.refusal.specs.declared.Refusal.the-variants.{NoSuchCard, TooShort, BadCabinet}
-use Rattle.refusal.specs.declared.Verdict.{Verdict}
-use Rattle.refusal.specs.declared.Verdict.the-variants.{Accepted, Refused}
+use Rattle.refusal.specs.declared.Reply.{Reply}
+use Rattle.refusal.specs.declared.Reply.the-variants.{Done, Refused}
 use Rattle.protocol.specs.Model.{Limits, Model, isCard}
 use Rattle.protocol.specs.Sound.{sound}
 use Rattle.protocol.specs.Plan.{done, written, Check, _⇒_, Plan, checked}
@@ -18,7 +18,7 @@ pub record Codec : Type 0 where
   -- the bytes of the sheets of all cards in card order, joined
   pub joined : Limits → Model → List ℕ
   -- the verdict on any bytes, and the cabinet restarted from them
-  pub verdict : List ℕ → Verdict
+  pub verdict : List ℕ → Reply
   pub restarted : Limits → List ℕ → Model
 
 abbrev pub sheetChecks : Codec → Limits → Model → ℕ → ℕ → List Check
@@ -30,8 +30,8 @@ abbrev pub sheetPlan : Codec → Limits → Model → (c places : ℕ) → Plan
 sheetPlan C L m c places = checked (sheetChecks C L m c places) (written (C .sheet L m c)) []
 
 -- restart from the sheets of all cards as this cabinet writes them, joined: no sheet of a cabinet that 28 refuses is written, and then it goes by the verdict on the bytes
-abbrev pub verdictChecks : Verdict → List Check
-verdictChecks Accepted = []
+abbrev pub verdictChecks : Reply → List Check
+verdictChecks Done = []
 verdictChecks (Refused r) = true ⇒ r ∷ []
 
 abbrev pub restartChecks : Codec → Limits → Model → List Check

@@ -2,15 +2,15 @@
 use Prim.Native.Nat.{ℕ, _≤_, _<_}
 use mathlib.Core.Path.{_≡_}
 use mathlib.Core.Bool.{true, false, _&&_}
-use mathlib.Core.Logic.{_⊎_, _↔_}
+use mathlib.Core.Logic.{_↔_}
 use mathlib.Core.List.{List}
 use lib.Dec.{eqb}
 use lib.ListN.{length}
 use Rattle.laws.specs.Below.{one-if, anyBelow, selected, occurs}
 use Rattle.refusal.specs.declared.Refusal.{Refusal}
-use Rattle.refusal.specs.Number.{numberOf}
+use Rattle.refusal.specs.Number.{Listed, numberOf}
 use Rattle.refusal.specs.declared.Refusal.the-variants.{LimitReached}
-use Rattle.refusal.specs.declared.Verdict.the-variants.{Accepted, Refused}
+use Rattle.refusal.specs.declared.Reply.the-variants.{Done, Refused}
 use Rattle.history.specs.Change.{CardSet, History, Numbers, made, Cut, On, historyOf}
 use Rattle.history.specs.Vector.{entryOf, LastPreceding}
 use Rattle.history.specs.Line.{lost}
@@ -24,10 +24,6 @@ use Rattle.protocol.specs.Run.{Call, voteCall, takeCall, withdrawCall, o
 
 -- ---- Demand 1, for any cabinet, a forged one too, and any arguments: "gets an answer or a refusal from document 01. A refusal changes neither the cabinet nor any lent list or buffer."
 -- (The lent lists and buffers are in the contracts of the calls.)
-
--- a number of document 01's two tables
-abbrev pub Listed : ℕ → Type 0
-Listed k = ((1 ≤ k) × (k ≤ 12)) ⊎ ((20 ≤ k) × (k ≤ 30))
 
 pub record Refuses (C : Codec) (L : Limits) (m : Model) (call : Call) (x : Choice) : Type 0 where
   -- accepted, no row of the call's table fails
@@ -132,7 +128,7 @@ CallRight L n cs restartCall a m m' = RestartRight L n (journal L n cs) m'
 
 -- the sheets of the cabinet m, joined, restart to the line
 pub record RestartsTo (C : Codec) (L : Limits) (n : CardSet) (m : Model) (line : Numbers) : Type 0 where
-  pub accepted-so : C .verdict (C .joined L m) ≡ Accepted
+  pub accepted-so : C .verdict (C .joined L m) ≡ Done
   pub same-line : (c : ℕ) → c < L .width → n c ≡ true → C .restarted L (C .joined L m) .line c ≡ line c
 
 -- what holds of the cabinet m after the calls cs
@@ -147,7 +143,7 @@ pub record CabinetRight (C : Codec) (L : Limits) (n : CardSet) (cs : Calls) (m :
   -- "After an accepted fix, and after each later call short of the last roll, the sheets of all cards, joined, restart to the line answered": the engine's memory is gone; so after a restart too
   pub sheets-give-line : (line : Numbers) (marked : CardSet) → journal L n cs .fix ≡ fixing line marked → RestartsTo C L n m line
   -- a restart is accepted in every phase while another session can follow, and in the last session it is refused with 24
-  pub restart-accepted : m .session < L .greatestNumber → C .verdict (C .joined L m) ≡ Accepted
+  pub restart-accepted : m .session < L .greatestNumber → C .verdict (C .joined L m) ≡ Done
   pub restart-last : L .greatestNumber ≤ m .session → C .verdict (C .joined L m) ≡ Refused LimitReached
 
 -- throughout a list: of each call, and of the cabinet after it

@@ -5,6 +5,8 @@ use mathlib.Core.Bool.{Bool, true, false, cond}
 use mathlib.Core.Logic.{_⊎_}
 use mathlib.Core.List.{List, [], _∷_}
 use Rattle.refusal.specs.declared.Refusal.{Refusal}
+use Rattle.refusal.specs.declared.Reply as refusal
+use Rattle.refusal.specs.declared.Reply.the-variants.{Done, Refused}
 use Rattle.protocol.specs.Model.{Limits, Model}
 use Rattle.protocol.specs.Edit.{Edit, editedAll}
 
@@ -30,6 +32,11 @@ pub data Answer : Type 0 where
 pub data Reply : Type 0 where
   accepted : Answer → Reply
   refused : Refusal → Reply
+
+-- what is answered by acceptance or a refusal alone: a verdict on bytes, and the calls that answer nothing else
+abbrev pub replyOf : refusal.Reply → Reply
+replyOf Done = accepted done
+replyOf (Refused r) = refused r
 
 -- a check that fails, and the refusal that it gives
 infix 90 _⇒_

@@ -4,8 +4,6 @@ use mathlib.Core.Path.{_≡_}
 use mathlib.Core.Bool.{Bool, true}
 use mathlib.Core.List.{List, []}
 use Rattle.laws.specs.Below.{one-if, anyBelow, occurs}
-use Rattle.refusal.specs.declared.Verdict.{Verdict}
-use Rattle.refusal.specs.declared.Verdict.the-variants.{Accepted, Refused}
 use Rattle.history.specs.Change.{CardSet, Numbers}
 use Rattle.protocol.specs.Model.{Limits, Model}
 use Rattle.protocol.specs.Edit.{put}
@@ -50,11 +48,6 @@ Proper L m (fixCall a b) x = (k : ℕ) → occurs k (x .lost) ≡ one-if (isLost
 Proper L m (rollCall c) x = Unit {0}
 Proper L m (sheetCall c places) x = Unit {0}
 Proper L m restartCall x = Unit {0}
-
--- what a verdict on a read-out answers
-abbrev pub verdictReply : Verdict → Reply
-verdictReply Accepted = accepted done
-verdictReply (Refused r) = refused r
 
 -- the cabinet after a restart: the one restarted, or the old one where it is refused
 abbrev pub afterRestart : Reply → Model → Model → Model

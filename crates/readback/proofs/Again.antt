@@ -8,7 +8,7 @@ use lib.ListN.{length, getD}
 use borrow.Author.Tests.{ltb-true, ltb-false}
 use Rattle.laws.proofs.Logic.{test, cond-true, cond-false}
 use Rattle.laws.proofs.Fill.{tabulate-ext}
-use Rattle.refusal.specs.declared.Verdict.the-variants.{Accepted}
+use Rattle.refusal.specs.declared.Reply.the-variants.{Done}
 use Rattle.frame.specs.Format.{formats}
 use Rattle.frame.specs.Lines.{noFrame}
 use Rattle.sheet.specs.Pages.{Page, pagesBytes}
@@ -24,7 +24,7 @@ use Rattle.readback.specs.Readback.{WritesTheSame}
 use Rattle.readout.proofs.Accepted.{AcceptedPages, accepted-pages, joint-passed, session-low, session-high}
 use Rattle.readback.proofs.Shown.{stored-is, long, change-at, vector-at}
 
-module _ (ps : List Page) (w : Whole formats ps) (joint : jointVerdict ps ≡ Accepted) where
+module _ (ps : List Page) (w : Whole formats ps) (joint : jointVerdict ps ≡ Done) where
   abbrev m : Model
   m = restarted limits16 ps
 

@@ -19,7 +19,7 @@ use Rattle.history.specs.Line.{lineFrom}
 use Rattle.history.proofs.Climb.{line-climbed}
 use Rattle.protocol.specs.Model.{Model}
 use Rattle.protocol.specs.Sound.{sound, sessionSound, cardsSound, numbersSound, entriesSound, frameSound, risesSound, framesSound, lineSound, cardSound, placeSound}
-use Rattle.refusal.specs.declared.Verdict.the-variants.{Accepted}
+use Rattle.refusal.specs.declared.Reply.the-variants.{Done}
 use Rattle.frame.specs.Format.{formats}
 use Rattle.sheet.specs.Pages.{Page}
 use Rattle.sheet.specs.Ring.{noPage, pageAt}
@@ -32,7 +32,7 @@ use Rattle.readback.specs.Readback.{NeverRefused28}
 use Rattle.readout.proofs.Accepted.{AcceptedPages, accepted-pages, joint-passed, lowest-some}
 use Rattle.readback.proofs.Shown.{stored-is, long, change-at, vector-at, passes}
 
-module _ (ps : List Page) (w : Whole formats ps) (joint : jointVerdict ps ≡ Accepted) where
+module _ (ps : List Page) (w : Whole formats ps) (joint : jointVerdict ps ≡ Done) where
   abbrev m : Model
   m = restarted limits16 ps
 

@@ -4,15 +4,15 @@ use mathlib.Core.Path.{_≡_}
 use mathlib.Core.Bool.{true}
 use mathlib.Core.List.{List}
 use Rattle.frame.specs.Format.{formats}
-use Rattle.refusal.specs.declared.Verdict.the-variants.{Accepted}
+use Rattle.refusal.specs.declared.Reply.the-variants.{Done}
 use Rattle.protocol.specs.Sound.{sound}
 use Rattle.codec.specs.Sheets.{joinedSheets, restartReply, restartedFrom}
 use Rattle.verdicts.specs.Shape.{limits16}
 
 -- an accepted restart is never refused with 28
 abbrev pub NeverRefused28 : Type 0
-NeverRefused28 = (bytes : List ℕ) → restartReply bytes ≡ Accepted → sound limits16 (restartedFrom limits16 bytes) ≡ true
+NeverRefused28 = (bytes : List ℕ) → restartReply bytes ≡ Done → sound limits16 (restartedFrom limits16 bytes) ≡ true
 
 -- an accepted read-out is the very bytes that the restarted cabinet writes
 abbrev pub WritesTheSame : Type 0
-WritesTheSame = (bytes : List ℕ) → restartReply bytes ≡ Accepted → joinedSheets formats limits16 (restartedFrom limits16 bytes) ≡ bytes
+WritesTheSame = (bytes : List ℕ) → restartReply bytes ≡ Done → joinedSheets formats limits16 (restartedFrom limits16 bytes) ≡ bytes

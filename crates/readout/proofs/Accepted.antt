@@ -10,8 +10,8 @@ use lib.ListN.{length}
 use borrow.Author.Tests.{eqb-false, ltb-false, le-ltb}
 use Rattle.laws.proofs.Logic.{test, cond-case}
 use Rattle.refusal.specs.declared.Refusal.the-variants.{TwoVectors, SessionsApart, LimitReached}
-use Rattle.refusal.specs.declared.Verdict.{Verdict}
-use Rattle.refusal.specs.declared.Verdict.the-variants.{Accepted, Refused}
+use Rattle.refusal.specs.declared.Reply.{Reply}
+use Rattle.refusal.specs.declared.Reply.the-variants.{Done, Refused}
 use Rattle.frame.specs.Format.{formats}
 use Rattle.sheet.specs.Pages.{Page, pagesBytes, readSheets}
 use Rattle.sheet.specs.Ring.{pageAt, pagesOf}
@@ -27,58 +27,58 @@ use Rattle.readout.specs.Joint.{lowestSession, sessionsApart, jointVerdi
 -- its sheets: within the limits by themselves, and beside each other; written, they are the bytes
 pub record AcceptedPages (input : List ℕ) (ps : List Page) : Type 0 where
   pub whole : Whole formats ps
-  pub joint : jointVerdict ps ≡ Accepted
+  pub joint : jointVerdict ps ≡ Done
   pub bytes : pagesBytes formats ps ≡ input
   pub short : length input ≤ 65536
 
 -- what was judged
-record Judged (v : Verdict) (ps : List Page) (x : PagesRead) : Type 0 where
-  pub verdict : v ≡ Accepted
+record Judged (v : Reply) (ps : List Page) (x : PagesRead) : Type 0 where
+  pub verdict : v ≡ Done
   pub pages : x .pages ≡ ps
 
-judged-accepted : (v : Verdict) (ps : List Page) → judged v ps .verdict ≡ Accepted → Judged v ps (judged v ps)
-judged-accepted Accepted ps e = record { verdict = refl; pages = refl }
+judged-accepted : (v : Reply) (ps : List Page) → judged v ps .verdict ≡ Done → Judged v ps (judged v ps)
+judged-accepted Done ps e = record { verdict = refl; pages = refl }
 judged-accepted (Refused x) ps e = let z : _≡_ {A = ℕ} 0 1 = cc in absurd (omega arith)
 
-record Lined (v : Verdict) (ps : List Page) (x : PagesRead) : Type 0 where
-  pub lines : v ≡ Accepted
+record Lined (v : Reply) (ps : List Page) (x : PagesRead) : Type 0 where
+  pub lines : v ≡ Done
   pub joint : Judged (jointVerdict ps) ps x
 
-lined-accepted : (v : Verdict) (ps : List Page) → lined v ps .verdict ≡ Accepted → Lined v ps (lined v ps)
-lined-accepted Accepted ps e = record { lines = refl; joint = judged-accepted (jointVerdict ps) ps e }
+lined-accepted : (v : Reply) (ps : List Page) → lined v ps .verdict ≡ Done → Lined v ps (lined v ps)
+lined-accepted Done ps e = record { lines = refl; joint = judged-accepted (jointVerdict ps) ps e }
 lined-accepted (Refused x) ps e = let z : _≡_ {A = ℕ} 0 1 = cc in absurd (omega arith)
 
-pub accepted-pages : (input : List ℕ) → pagesRead input .verdict ≡ Accepted → AcceptedPages input (pagesRead input .pages)
+pub accepted-pages : (input : List ℕ) → pagesRead input .verdict ≡ Done → AcceptedPages input (pagesRead input .pages)
 unfolding pagesRead
 accepted-pages input e =
     test (ltb 65536 (length input))
     (λ (t : ltb 65536 (length input) ≡ true). let z : _≡_ {A = ℕ} 0 1 = cc (rw t at e) in absurd (omega arith))
     (λ (t : ltb 65536 (length input) ≡ false).
     let ps : List Page = readSheets formats true 0 input .pages in
-    let v : Verdict = readSheets formats true 0 input .verdict in
+    let v : Reply = readSheets formats true 0 input .verdict in
     let l : Lined v ps (lined v ps) = lined-accepted v ps (rw t at e) in
     rw (t, l .joint .pages)
     (record { whole = whole-read formats input (l .lines); joint = l .joint .verdict; bytes = read-writes-again formats true 0 input (l .lines); short = ltb-false 65536 (length input) t }))
 
 -- a refused read-out has no sheets
-judged-or : (v : Verdict) (ps : List Page) → (judged v ps .verdict ≡ Accepted) ⊎ (judged v ps .pages ≡ [])
-judged-or Accepted ps = inl refl
+judged-or : (v : Reply) (ps : List Page) → (judged v ps .verdict ≡ Done) ⊎ (judged v ps .pages ≡ [])
+judged-or Done ps = inl refl
 judged-or (Refused x) ps = inr refl
 
-lined-or : (v : Verdict) (ps : List Page) → (lined v ps .verdict ≡ Accepted) ⊎ (lined v ps .pages ≡ [])
-lined-or Accepted ps = judged-or (jointVerdict ps) ps
+lined-or : (v : Reply) (ps : List Page) → (lined v ps .verdict ≡ Done) ⊎ (lined v ps .pages ≡ [])
+lined-or Done ps = judged-or (jointVerdict ps) ps
 lined-or (Refused x) ps = inr refl
 
-pub read-or : (input : List ℕ) → (pagesRead input .verdict ≡ Accepted) ⊎ (pagesRead input .pages ≡ [])
+pub read-or : (input : List ℕ) → (pagesRead input .verdict ≡ Done) ⊎ (pagesRead input .pages ≡ [])
 unfolding pagesRead
 read-or input =
-    cond-case (λ (x : PagesRead). (x .verdict ≡ Accepted) ⊎ (x .pages ≡ [])) (ltb 65536 (length input)) (λ t. inr refl)
+    cond-case (λ (x : PagesRead). (x .verdict ≡ Done) ⊎ (x .pages ≡ [])) (ltb 65536 (length input)) (λ t. inr refl)
     (λ t. lined-or (readSheets formats true 0 input .verdict) (readSheets formats true 0 input .pages))
 
 -- The read-out that the reader gives is a representation of the sheets read, whatever the bytes.
 pub readout-pages : (input : List ℕ) → pagesOf (readoutOf input .readout) ≡ pagesRead input .pages
 readout-pages input =
-    ⊎-elim (λ (e : pagesRead input .verdict ≡ Accepted). pages-back (pagesRead input .pages) (accepted-pages input e .whole))
+    ⊎-elim (λ (e : pagesRead input .verdict ≡ Done). pages-back (pagesRead input .pages) (accepted-pages input e .whole))
     (λ (e : pagesRead input .pages ≡ []). rw e) (read-or input)
 
 -- and whole sheets, written, are read back and judged
@@ -92,12 +92,12 @@ pub record Joint (ps : List Page) : Type 0 where
   pub below : lowestSession ps ≡ 4294967295 → ⊥
   pub one-vector : twoVectors ps ≡ false
 
-pub joint-passed : (ps : List Page) → jointVerdict ps ≡ Accepted → Joint ps
+pub joint-passed : (ps : List Page) → jointVerdict ps ≡ Done → Joint ps
 unfolding jointVerdict
 joint-passed ps e = go (sessionsApart ps) (eqb (lowestSession ps) 4294967295) (twoVectors ps) refl refl refl e
   where
     go : (a b c : Bool) → sessionsApart ps ≡ a → eqb (lowestSession ps) 4294967295 ≡ b → twoVectors ps ≡ c
-        → cond a (Refused SessionsApart) (cond b (Refused LimitReached) (cond c (Refused TwoVectors) Accepted)) ≡ Accepted → Joint ps
+        → cond a (Refused SessionsApart) (cond b (Refused LimitReached) (cond c (Refused TwoVectors) Done)) ≡ Done → Joint ps
     go true b c p q r z = let w : _≡_ {A = ℕ} 0 1 = cc in absurd (omega arith)
     go false true c p q r z = let w : _≡_ {A = ℕ} 0 1 = cc in absurd (omega arith)
     go false false true p q r z = let w : _≡_ {A = ℕ} 0 1 = cc in absurd (omega arith)

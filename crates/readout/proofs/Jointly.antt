@@ -10,8 +10,8 @@ use borrow.Author.Tests.{lt-ltb, le-ltb}
 use Rattle.laws.proofs.Fill.{length-tabulate}
 use Rattle.refusal.specs.declared.Refusal.{Refusal}
 use Rattle.refusal.specs.declared.Refusal.the-variants.{TwoVectors, SessionsApart, TooLong, LimitReached}
-use Rattle.refusal.specs.declared.Verdict.{Verdict}
-use Rattle.refusal.specs.declared.Verdict.the-variants.{Accepted, Refused}
+use Rattle.refusal.specs.declared.Reply.{Reply}
+use Rattle.refusal.specs.declared.Reply.the-variants.{Done, Refused}
 use Rattle.frame.specs.Format.{formats}
 use Rattle.sheet.specs.declared.Readout.{Readout}
 use Rattle.sheet.specs.declared.Reading.{Reading}
@@ -66,7 +66,7 @@ pub joint-tests :
     eqb low 4294967295 ≡ d →
     u ≡ twoVectors (pagesOf (listsRead (r .changes) (r .entries) [] (r .bases) (r .counts) (r .cards))) →
     u ≡ c →
-    cond a (Refused SessionsApart) (cond d (Refused LimitReached) (cond c (Refused TwoVectors) Accepted)) ≡ jointVerdict (pagesOf r)
+    cond a (Refused SessionsApart) (cond d (Refused LimitReached) (cond c (Refused TwoVectors) Done)) ≡ jointVerdict (pagesOf r)
 unfolding jointVerdict
 joint-tests r {low} h p q e x y f =
     let l : lowestSession (pagesOf r) ≡ low = lowest-on r h ∙ sym p in
@@ -74,10 +74,10 @@ joint-tests r {low} h p q e x y f =
     rw (apart-on r l, l, ← two, ← y, f, ← x, ← q, e)
 
 -- ---- the answer by the joint verdict
-pub joint-accepted : (r : Readout) {v : Verdict} → layPages (pagesOf r) noReadout ≡ r → v ≡ jointVerdict (pagesOf r) → v ≡ Accepted → _≡_ {A = Reading} (record { readout = r; verdict = Accepted }) (given (judged (jointVerdict (pagesOf r)) (pagesOf r)))
-joint-accepted r e p q = rw (← p, q) (λ i. record { readout = sym e i; verdict = Accepted })
+pub joint-accepted : (r : Readout) {v : Reply} → layPages (pagesOf r) noReadout ≡ r → v ≡ jointVerdict (pagesOf r) → v ≡ Done → _≡_ {A = Reading} (record { readout = r; verdict = Done }) (given (judged (jointVerdict (pagesOf r)) (pagesOf r)))
+joint-accepted r e p q = rw (← p, q) (λ i. record { readout = sym e i; verdict = Done })
 
-pub joint-refused : (r : Readout) {v : Verdict} {x : Refusal} {g : Reading} → g ≡ given (judged (Refused x) []) → v ≡ jointVerdict (pagesOf r) → v ≡ Refused x → g ≡ given (judged (jointVerdict (pagesOf r)) (pagesOf r))
+pub joint-refused : (r : Readout) {v : Reply} {x : Refusal} {g : Reading} → g ≡ given (judged (Refused x) []) → v ≡ jointVerdict (pagesOf r) → v ≡ Refused x → g ≡ given (judged (jointVerdict (pagesOf r)) (pagesOf r))
 joint-refused r e p q = rw (← p, q) e
 
 -- ---- the answer to bytes
@@ -85,12 +85,12 @@ pub long-read : (input : List ℕ) → 65536 < length input → _≡_ {A = Readi
 unfolding pagesRead
 long-read input h = rw (lt-ltb 65536 (length input) h)
 
-pub lines-accepted : (input : List ℕ) {g : Reading} → length input ≤ 65536 → g ≡ readingOf true 0 input → g .verdict ≡ Accepted → given (judged (jointVerdict (pagesOf (g .readout))) (pagesOf (g .readout))) ≡ readoutOf input
+pub lines-accepted : (input : List ℕ) {g : Reading} → length input ≤ 65536 → g ≡ readingOf true 0 input → g .verdict ≡ Done → given (judged (jointVerdict (pagesOf (g .readout))) (pagesOf (g .readout))) ≡ readoutOf input
 unfolding pagesRead
 lines-accepted input h e v =
     let ps : List Page = readSheets formats true 0 input .pages in
     let all-read = accepted-is formats true 0 input e v in
-    let l : readSheets formats true 0 input .verdict ≡ Accepted = sym (ap (λ (x : Reading). x .verdict) all-read) ∙ v in
+    let l : readSheets formats true 0 input .verdict ≡ Done = sym (ap (λ (x : Reading). x .verdict) all-read) ∙ v in
     ap (λ (x : Reading). given (judged (jointVerdict (pagesOf (x .readout))) (pagesOf (x .readout)))) all-read
     ∙ ap (λ (qs : List Page). given (judged (jointVerdict qs) qs)) (pages-back ps (whole-read formats input l))
     ∙ rw (le-ltb 65536 (length input) h, l)

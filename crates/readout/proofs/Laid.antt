@@ -12,7 +12,7 @@ use borrow.Author.Tests.{ltb-true}
 use Rattle.laws.proofs.Logic.{test, cond-true, cond-false}
 use Rattle.laws.proofs.Fill.{getD-tabulate}
 use Rattle.merge.specs.Merge.{at, maker, CardRises}
-use Rattle.refusal.specs.declared.Verdict.the-variants.{Accepted}
+use Rattle.refusal.specs.declared.Reply.the-variants.{Done}
 use Rattle.frame.specs.Format.{format, formats}
 use Rattle.frame.specs.Lines.{noFrame}
 use Rattle.sheet.specs.declared.Readout.{Readout}
@@ -85,7 +85,7 @@ module _ (ps : List Page) (w : Whole formats ps) where
         again = ap (λ (qs : List Page). layPages qs noReadout) (pages-back ps w);
       }
 
-pub reading-laid : {g : Reading} (input : List ℕ) → g ≡ readingOf true 0 input → g .verdict ≡ Accepted → Laid (g .readout)
+pub reading-laid : {g : Reading} (input : List ℕ) → g ≡ readingOf true 0 input → g .verdict ≡ Done → Laid (g .readout)
 reading-laid {g} input e v =
     let all-read = accepted-is formats true 0 input e v in
     subst (λ (x : Reading). Laid (x .readout)) (sym all-read)

@@ -6,8 +6,8 @@ use lib.Dec.{ltb, eqb}
 use lib.ListN.{length}
 use Rattle.limits.specs.Document.{lastNumber, longestInput}
 use Rattle.refusal.specs.declared.Refusal.the-variants.{TwoVectors, SessionsApart, TooLong, LimitReached}
-use Rattle.refusal.specs.declared.Verdict.{Verdict}
-use Rattle.refusal.specs.declared.Verdict.the-variants.{Accepted, Refused}
+use Rattle.refusal.specs.declared.Reply.{Reply}
+use Rattle.refusal.specs.declared.Reply.the-variants.{Done, Refused}
 use Rattle.frame.specs.Format.{formats}
 use Rattle.sheet.specs.declared.Reading.{Reading}
 use Rattle.sheet.specs.Pages.{Page, readSheets}
@@ -25,23 +25,23 @@ unfoldable pub sessionsApart : List Page → Bool
 sessionsApart ps = apart (λ c. pageAt ps c .header .session) (λ c. length (pageAt ps c .frames)) (lowestSession ps) (length ps)
 
 -- "then 11, 24, 10"
-unfoldable pub jointVerdict : List Page → Verdict
+unfoldable pub jointVerdict : List Page → Reply
 jointVerdict ps =
-    cond (sessionsApart ps) (Refused SessionsApart) (cond (eqb (lowestSession ps) lastNumber) (Refused LimitReached) (cond (twoVectors ps) (Refused TwoVectors) Accepted))
+    cond (sessionsApart ps) (Refused SessionsApart) (cond (eqb (lowestSession ps) lastNumber) (Refused LimitReached) (cond (twoVectors ps) (Refused TwoVectors) Done))
 
 -- the sheets of a read-out, and the verdict on it
 pub record PagesRead : Type 0 where
   pub pages : List Page
-  pub verdict : Verdict
+  pub verdict : Reply
 
 -- a refused read-out has no sheets: "nothing of the sheet is used"
-abbrev pub judged : Verdict → List Page → PagesRead
-judged Accepted ps = record { pages = ps; verdict = Accepted }
+abbrev pub judged : Reply → List Page → PagesRead
+judged Done ps = record { pages = ps; verdict = Done }
 judged (Refused x) ps = record { pages = []; verdict = Refused x }
 
 -- a read-out by the verdict on its lines, and then jointly
-abbrev pub lined : Verdict → List Page → PagesRead
-lined Accepted ps = judged (jointVerdict ps) ps
+abbrev pub lined : Reply → List Page → PagesRead
+lined Done ps = judged (jointVerdict ps) ps
 lined (Refused x) ps = judged (Refused x) ps
 
 -- what any bytes are as the sheets of all cards: "12 comes before any line"

@@ -7,7 +7,7 @@ ghost use Rattle.readout.specs.Joint.{jointVerdict, judged, given, reado
 ghost use Rattle.readout.specs.Laid.{Laid};
 use limits::Limits;
 use refusal::Refusal;
-use refusal::Verdict;
+use refusal::Reply;
 use sheet::Reading;
 use sheet::Readout;
 
@@ -19,21 +19,21 @@ fn joint_verdict<'a>(
     bases: [u32; Limits::CARDS],
     counts: [u32; Limits::CARDS],
     n: u32,
-) -> Verdict
+) -> Reply
     requires { ⌜ (1 ≤ n) × (n ≤ 16) × Orderly (now changes) bases counts n ⌝ }
     ensures { λ x. ⌜ x ≡ jointVerdict (pagesOf (listsRead (now (changes .entry)) (now (entries .entry)) sessions bases counts n)) ⌝ }
 {
     let low = sessions::lowest(sessions, n - 1);
     if sessions::sessions_apart(sessions, counts, low, n) {
-        return Verdict::Refused(Refusal::SessionsApart);
+        return Reply::Refused(Refusal::SessionsApart);
     }
     if low == Limits::GREATEST_NUMBER {
-        return Verdict::Refused(Refusal::LimitReached);
+        return Reply::Refused(Refusal::LimitReached);
     }
     if two_vectors::two_vectors(changes, entries, bases, counts, n) {
-        return Verdict::Refused(Refusal::TwoVectors);
+        return Reply::Refused(Refusal::TwoVectors);
     }
-    Verdict::Accepted
+    Reply::Done
 }
 
 // A read-out whose lines are accepted, by the joint verdict.
@@ -47,11 +47,11 @@ fn judged_jointly(r: Readout) -> Reading
     let n = r.cards;
     let v = joint_verdict(&r.changes, &r.entries, sessions, bases, counts, n);
     match v {
-        Verdict::Accepted => Reading {
+        Reply::Done => Reading {
             readout: r,
-            verdict: Verdict::Accepted,
+            verdict: Reply::Done,
         },
-        Verdict::Refused(x) => sheet::nothing_read(x),
+        Reply::Refused(x) => sheet::nothing_read(x),
     }
 }
 
@@ -65,10 +65,10 @@ pub fn read_readout(s: &[u8]) -> Reading
     let read = sheet::read_sheets(s, 0, true);
     let v = read.verdict;
     match v {
-        Verdict::Accepted => {
+        Reply::Done => {
             let r = read.readout;
             judged_jointly(r)
         }
-        Verdict::Refused(x) => sheet::nothing_read(x),
+        Reply::Refused(x) => sheet::nothing_read(x),
     }
 }

@@ -14,10 +14,10 @@ ghost use Rattle.verdicts.specs.Shape.{limits16, at, listOf, setOf, vectorFor, 
 ghost use Rattle.verdicts.specs.Answers.{firstFailing, after28};
 use limits::Limits;
 use refusal::Refusal;
+use refusal::Reply;
 use replies::is_card;
 use replies::next;
 use verdicts::Head;
-use verdicts::Reply;
 use verdicts::Vector;
 use verdicts::is_rolling;
 use verdicts::is_up;

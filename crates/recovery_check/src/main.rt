@@ -8,9 +8,9 @@ use libc::STDOUT_FILENO;
 use records::CardRecord;
 use recovery::FixReply;
 use refusal::Refusal;
+use refusal::Reply;
 use verdicts::OpenReply;
 use verdicts::Phase;
-use verdicts::Reply;
 use verdicts::SafeReply;
 
 fn number(n: u32) {

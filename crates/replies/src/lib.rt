@@ -9,9 +9,9 @@ ghost use Rattle.verdicts.specs.Shape.{limits16, headModel, numbersModel, place
 ghost use Rattle.verdicts.specs.Answers.{next, firstFailing, after28};
 use limits::Limits;
 use refusal::Refusal;
+use refusal::Reply;
 use verdicts::Head;
 use verdicts::Place;
-use verdicts::Reply;
 use verdicts::at;
 use verdicts::is_rolling;
 use verdicts::is_up;

@@ -7,18 +7,14 @@ use native.Mathlib.Omega.{arith}
 use lib.ListN.{length}
 use Rattle.refusal.specs.declared.Refusal.{Refusal}
 use Rattle.refusal.specs.Number.{numberOf}
-use Rattle.refusal.specs.declared.Verdict.{Verdict}
-use Rattle.refusal.specs.declared.Verdict.the-variants.{Accepted, Refused}
+use Rattle.refusal.specs.declared.Reply.{Reply}
+use Rattle.refusal.specs.declared.Reply.the-variants.{Done, Refused}
 use Rattle.readout.specs.Joint.{pagesRead, readoutOf}
 use Rattle.readout.proofs.Accepted.{accepted-pages, joint-passed, readout-pages}
 use Rattle.history.specs.Change.{Numbers}
-use Rattle.protocol.specs.Plan.{done, accepted, refused}
+use Rattle.protocol.specs.Plan.{done, accepted, refused, replyOf}
 use Rattle.protocol.specs.Model.{Model}
-use Rattle.protocol.specs.Run.{verdictReply}
 use Rattle.codec.specs.Sheets.{restarted, restartReply, restartedFrom}
-use Rattle.verdicts.specs.declared.Reply.{Reply}
-use Rattle.verdicts.specs.declared.Reply.the-variants.{Done, Refused as not-done}
-use Rattle.verdicts.specs.Answers.{replyOf}
 use Rattle.verdicts.specs.Shape.{limits16, at, listOf}
 use Rattle.verdicts.proofs.Held.{at-list}
 use Rattle.cabinet.specs.declared.Cabinet.{Cabinet}
@@ -34,12 +30,12 @@ rows-same zero s l s′ l′ e f = refl
 rows-same (suc n) s l s′ l′ e f =
     ap₂ (λ (a b : List ℕ). a ++ b) (rows-same n s l s′ l′ (λ c h. e c (le-step h)) (λ c h. f c (le-step h))) (ap₂ (rowText n) (e n (lt-suc-self n)) (f n (lt-suc-self n)))
 
-is-accepted : (v : Verdict) → accepted done ≡ verdictReply v → v ≡ Accepted
-is-accepted Accepted e = refl
+is-accepted : (v : Reply) → accepted done ≡ replyOf v → v ≡ Done
+is-accepted Done e = refl
 is-accepted (Refused q) e = let z : _≡_ {A = ℕ} 0 1 = cc in absurd (omega arith)
 
-is-refused : (v : Verdict) (q : Refusal) → refused q ≡ verdictReply v → v ≡ Refused q
-is-refused Accepted q e = let z : _≡_ {A = ℕ} 0 1 = cc in absurd (omega arith)
+is-refused : (v : Reply) (q : Refusal) → refused q ≡ replyOf v → v ≡ Refused q
+is-refused Done q e = let z : _≡_ {A = ℕ} 0 1 = cc in absurd (omega arith)
 is-refused (Refused x) q e = let z : x ≡ q = cc in ap Refused z
 
 module _ (bytes : List ℕ) (reply : Reply) (next : Cabinet) (h : Restarted bytes (replyOf reply) next) where
@@ -47,7 +43,7 @@ module _ (bytes : List ℕ) (reply : Reply) (next : Cabinet) (h : Restarted byte
     abbrev m : Model
     m = restartedFrom limits16 bytes
 
-    was-accepted : restartReply bytes ≡ Accepted
+    was-accepted : restartReply bytes ≡ Done
     was-accepted = is-accepted (restartReply bytes) (sym (ap replyOf d) ∙ h .answer)
 
     -- the number of cards, that of the sheets
@@ -56,7 +52,7 @@ module _ (bytes : List ℕ) (reply : Reply) (next : Cabinet) (h : Restarted byte
 
     is-cabinet : next ≡ cabinetOf (readoutOf bytes .readout .entries) (readoutOf bytes .readout .changes) n m
     is-cabinet =
-        h .cabinet ∙ ap (λ (v : Verdict). cabinetFor v (readoutOf bytes .readout)) was-accepted
+        h .cabinet ∙ ap (λ (v : Reply). cabinetFor v (readoutOf bytes .readout)) was-accepted
         ∙ ap₂ (λ (k : ℕ) (ps : List Page). cabinetOf (readoutOf bytes .readout .entries) (readoutOf bytes .readout .changes) k (restarted limits16 ps)) (restarted-cards bytes was-accepted) (readout-pages bytes)
 
     sixteen : n ≤ 16
@@ -73,12 +69,12 @@ module _ (bytes : List ℕ) (reply : Reply) (next : Cabinet) (h : Restarted byte
         e
         ∙ ap (λ (x : Cabinet). textOf (rowsText (x .core .head .cards) (at (x .core .stored)) (at (x .core .line)) ++ sessionText (x .core .head .session + 1))) is-cabinet
         ∙ ap (λ (l : List ℕ). textOf (l ++ sessionText (m .session + 1))) (rows-same n (at (listOf (m .numbers .stored))) (at (listOf (m .line))) (m .numbers .stored) (m .line) (λ c l. at-list (m .numbers .stored) c (below c l)) (λ c l. at-list (m .line) c (below c l)))
-        ∙ sym (ap (λ (v : Verdict). textOf (textFor v n m)) was-accepted)
+        ∙ sym (ap (λ (v : Reply). textOf (textFor v n m)) was-accepted)
       where
         below : (c : ℕ) → c < length (pagesRead bytes .pages) → c < 16
         below c l = omega (arith, sixteen, l)
 
-  pub refused-same : (q : Refusal) (n : ℕ) {t : Text} → reply ≡ not-done q → n ≡ numberOf q → t ≡ textOf (refusedText n) → t ≡ textOf (lineText bytes)
+  pub refused-same : (q : Refusal) (n : ℕ) {t : Text} → reply ≡ Refused q → n ≡ numberOf q → t ≡ textOf (refusedText n) → t ≡ textOf (lineText bytes)
   refused-same q n d k e =
       let v : restartReply bytes ≡ Refused q = is-refused (restartReply bytes) q (sym (ap replyOf d) ∙ h .answer) in
-      e ∙ ap (λ (x : ℕ). textOf (refusedText x)) k ∙ sym (ap (λ (y : Verdict). textOf (textFor y (length (pagesRead bytes .pages)) (restartedFrom limits16 bytes))) v)
+      e ∙ ap (λ (x : ℕ). textOf (refusedText x)) k ∙ sym (ap (λ (y : Reply). textOf (textFor y (length (pagesRead bytes .pages)) (restartedFrom limits16 bytes))) v)

@@ -5,8 +5,8 @@ use lib.ListN.{length, replicate}
 use lib.Seq.{sets}
 use Rattle.refusal.specs.Number.{numberOf}
 use Rattle.decimal.specs.Digits.{decimal}
-use Rattle.refusal.specs.declared.Verdict.{Verdict}
-use Rattle.refusal.specs.declared.Verdict.the-variants.{Accepted, Refused}
+use Rattle.refusal.specs.declared.Reply.{Reply}
+use Rattle.refusal.specs.declared.Reply.the-variants.{Done, Refused}
 use Rattle.readout.specs.Joint.{pagesRead}
 use Rattle.history.specs.Change.{Numbers}
 use Rattle.protocol.specs.Model.{Model}
@@ -37,8 +37,8 @@ abbrev pub refusedText : ℕ → List ℕ
 refusedText n = refusedWord ++ (decimal n ++ (10 ∷ []))
 
 -- "then the session after recovery"; "A refusal prints one line alone, as `refused 8`."
-abbrev pub textFor : Verdict → ℕ → Model → List ℕ
-textFor Accepted n m = rowsText n (m .numbers .stored) (m .line) ++ sessionText (m .session + 1)
+abbrev pub textFor : Reply → ℕ → Model → List ℕ
+textFor Done n m = rowsText n (m .numbers .stored) (m .line) ++ sessionText (m .session + 1)
 textFor (Refused r) n m = refusedText (numberOf r)
 
 -- the text for any bytes on standard input; there are as many cards as sheets

@@ -7,7 +7,7 @@ ghost use Rattle.verdicts.specs.Shape.{at};
 ghost use Rattle.report.specs.Report.{pushed, textOf, rowText, rowsText, sessionText, refusedText, lineText};
 use decimal::Writing;
 use limits::Limits;
-use verdicts::Reply;
+use refusal::Reply;
 
 // A text of so many bytes, at the front of an array.
 pub struct Text {

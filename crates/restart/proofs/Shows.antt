@@ -52,11 +52,10 @@ use Rattle.readback.proofs.Again.{writes-the-same}
 use Rattle.readback.proofs.Whole.{never-refused-28}
 use Rattle.cabinet.specs.Fresh.{zeroCabinet, voidHead}
 use Rattle.refusal.specs.declared.Refusal.{Refusal}
-use Rattle.refusal.specs.declared.Verdict.{Verdict}
-use Rattle.refusal.specs.declared.Verdict.the-variants.{Accepted, Refused}
+use Rattle.refusal.specs.declared.Reply.{Reply}
+use Rattle.refusal.specs.declared.Reply.the-variants.{Done, Refused}
 use Rattle.sheet.specs.declared.Reading.{Reading}
-use Rattle.protocol.specs.Plan.{done, accepted, refused}
-use Rattle.protocol.specs.Run.{verdictReply}
+use Rattle.protocol.specs.Plan.{done, accepted, refused, replyOf}
 use Rattle.restart.specs.Restart.{cabinetOf, restartedCabinet, cabinetFor, Restarted, RestartGoesOn, VoidRefused, Within}
 
 -- the vectors of all cards, read back
@@ -226,7 +225,7 @@ restarted-is r z w s line vs head core low rolled es el er ev eh en ec =
 
 -- ---- the cabinet behind a restart
 -- what an accepted read-out shows of its numbers
-pub within : (bytes : List ℕ) → restartReply bytes ≡ Accepted → Within (readoutOf bytes .readout)
+pub within : (bytes : List ℕ) → restartReply bytes ≡ Done → Within (readoutOf bytes .readout)
 within bytes e = whole-within (pagesRead bytes .pages) (accepted-pages bytes e .whole)
   where
     whole-within : (ps : List Page) → Whole formats ps → Within (layPages ps noReadout)
@@ -269,7 +268,7 @@ within bytes e = whole-within (pagesRead bytes .pages) (accepted-pages bytes e .
             long : length (getD (pageAt ps c .frames) (x - suc (pageAt ps c .header .base)) noFrame .entries) ≡ length ps
             long = formed-at (length ps) (pageAt ps c .frames) (w .sheet c here .formed) (x - suc (pageAt ps c .header .base)) inside
 
-module _ (bytes : List ℕ) (e : restartReply bytes ≡ Accepted) where
+module _ (bytes : List ℕ) (e : restartReply bytes ≡ Done) where
   abbrev read : Readout
   read = readoutOf bytes .readout
 
@@ -288,7 +287,7 @@ module _ (bytes : List ℕ) (e : restartReply bytes ≡ Accepted) where
 
 pub restart-goes-on : RestartGoesOn
 restart-goes-on bytes reply next h e =
-    let v : view next ≡ restartedFrom limits16 bytes = ap view (h .cabinet ∙ ap (λ (x : Verdict). cabinetFor x (readoutOf bytes .readout)) e) ∙ restarted-shows bytes e in
+    let v : view next ≡ restartedFrom limits16 bytes = ap view (h .cabinet ∙ ap (λ (x : Reply). cabinetFor x (readoutOf bytes .readout)) e) ∙ restarted-shows bytes e in
     record {
       shows = v;
       passes28 = ap (sound limits16) v ∙ never-refused-28 bytes e;
@@ -300,18 +299,18 @@ void-refused = refl
 
 -- ---- what a restart answers and hands back
 module _ (bytes : List ℕ) (x : Reading) (e : x ≡ readoutOf bytes) where
-  pub read-within : x .verdict ≡ Accepted → Within (x .readout)
+  pub read-within : x .verdict ≡ Done → Within (x .readout)
   read-within a = subst (λ (y : Reading). Within (y .readout)) (sym e) (within bytes (sym (ap (λ (y : Reading). y .verdict) e) ∙ a))
 
-  pub restart-done : (next : Cabinet) → x .verdict ≡ Accepted → next ≡ restartedCabinet (x .readout) → Restarted bytes (accepted done) next
+  pub restart-done : (next : Cabinet) → x .verdict ≡ Done → next ≡ restartedCabinet (x .readout) → Restarted bytes (accepted done) next
   restart-done next a n =
-      let v : restartReply bytes ≡ Accepted = sym (ap (λ (y : Reading). y .verdict) e) ∙ a in
+      let v : restartReply bytes ≡ Done = sym (ap (λ (y : Reading). y .verdict) e) ∙ a in
       record {
-        answer = sym (ap verdictReply v);
-        cabinet = n ∙ ap (λ (y : Reading). restartedCabinet (y .readout)) e ∙ sym (ap (λ (y : Verdict). cabinetFor y (readoutOf bytes .readout)) v);
+        answer = sym (ap replyOf v);
+        cabinet = n ∙ ap (λ (y : Reading). restartedCabinet (y .readout)) e ∙ sym (ap (λ (y : Reply). cabinetFor y (readoutOf bytes .readout)) v);
       }
 
   pub restart-refused : (next : Cabinet) (q : Refusal) → x .verdict ≡ Refused q → next ≡ zeroCabinet voidHead → Restarted bytes (refused q) next
   restart-refused next q a n =
       let v : restartReply bytes ≡ Refused q = sym (ap (λ (y : Reading). y .verdict) e) ∙ a in
-      record { answer = sym (ap verdictReply v); cabinet = n ∙ sym (ap (λ (y : Verdict). cabinetFor y (readoutOf bytes .readout)) v) }
+      record { answer = sym (ap replyOf v); cabinet = n ∙ sym (ap (λ (y : Reply). cabinetFor y (readoutOf bytes .readout)) v) }

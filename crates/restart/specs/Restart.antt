@@ -6,8 +6,8 @@ use mathlib.Core.List.{List}
 use Rattle.limits.specs.Document.{mostCards, lastState}
 use Rattle.laws.specs.Below.{tabulate}
 use Rattle.frame.specs.Format.{formats}
-use Rattle.refusal.specs.declared.Verdict.{Verdict}
-use Rattle.refusal.specs.declared.Verdict.the-variants.{Accepted, Refused}
+use Rattle.refusal.specs.declared.Reply as refusal
+use Rattle.refusal.specs.declared.Reply.the-variants.{Done, Refused}
 use Rattle.sheet.specs.declared.Readout.{Readout}
 use Rattle.sheet.specs.Walk.{placeOf}
 use Rattle.sheet.specs.Ring.{pagesOf}
@@ -15,8 +15,7 @@ use Rattle.readout.specs.Joint.{readoutOf}
 use Rattle.history.specs.Vector as history
 use Rattle.protocol.specs.Model.{Model}
 use Rattle.protocol.specs.Model as model
-use Rattle.protocol.specs.Plan.{Reply}
-use Rattle.protocol.specs.Run.{verdictReply}
+use Rattle.protocol.specs.Plan.{Reply, replyOf}
 use Rattle.protocol.specs.Sound.{sound}
 use Rattle.codec.specs.Sheets.{joinedSheets, restarted, restartReply, restartedFrom}
 use Rattle.verdicts.specs.declared.Phase.{Phase}
@@ -50,13 +49,13 @@ abbrev pub restartedCabinet : Readout → Cabinet
 restartedCabinet r = cabinetOf (r .entries) (r .changes) (r .cards) (restarted limits16 (pagesOf r))
 
 -- the void cabinet where the read-out is refused
-abbrev pub cabinetFor : Verdict → Readout → Cabinet
-cabinetFor Accepted r = restartedCabinet r
+abbrev pub cabinetFor : refusal.Reply → Readout → Cabinet
+cabinetFor Done r = restartedCabinet r
 cabinetFor (Refused x) r = zeroCabinet voidHead
 
 -- what a restart answers and hands back
 pub record Restarted (bytes : List ℕ) (reply : Reply) (next : Cabinet) : Type 0 where
-  pub answer : reply ≡ verdictReply (restartReply bytes)
+  pub answer : reply ≡ replyOf (restartReply bytes)
   pub cabinet : next ≡ cabinetFor (restartReply bytes) (readoutOf bytes .readout)
 
 -- what an accepted read-out shows of its numbers: within the limits, and 0 of cards that are not there
@@ -76,7 +75,7 @@ pub record GoesOn (bytes : List ℕ) (next : Cabinet) : Type 0 where
   pub writes : joinedSheets formats limits16 (view next) ≡ bytes
 
 abbrev pub RestartGoesOn : Type 0
-RestartGoesOn = (bytes : List ℕ) (reply : Reply) (next : Cabinet) → Restarted bytes reply next → restartReply bytes ≡ Accepted → GoesOn bytes next
+RestartGoesOn = (bytes : List ℕ) (reply : Reply) (next : Cabinet) → Restarted bytes reply next → restartReply bytes ≡ Done → GoesOn bytes next
 
 -- The void cabinet behind a refused one is always refused with 28.
 abbrev pub VoidRefused : Type 0

@@ -13,10 +13,9 @@ ghost use Rattle.restart.specs.Restart.{Within, restartedCabinet, Restar
 use cabinet::Answer;
 use cabinet::Cabinet;
 use limits::Limits;
-use refusal::Verdict;
+use refusal::Reply;
 use sheet::Readout;
 use verdicts::Phase;
-use verdicts::Reply;
 use verdicts::Vector;
 
 // The state that each card has stored: base plus the count of its frames.
@@ -145,7 +144,7 @@ pub fn restart(bytes: &[u8]) -> Answer
     let read = readout::read_readout(bytes);
     let v = read.verdict;
     match v {
-        Verdict::Accepted => {
+        Reply::Done => {
             let r = read.readout;
             let c = restarted(r);
             Answer {
@@ -153,7 +152,7 @@ pub fn restart(bytes: &[u8]) -> Answer
                 reply: Reply::Done,
             }
         }
-        Verdict::Refused(x) => {
+        Reply::Refused(x) => {
             let head = verdicts::head_of(0, 0, Phase::Up);
             let c = cabinet::zeros(head);
             Answer {

@@ -10,7 +10,7 @@ use Rattle.protocol.specs.Model.{Model, isCard, isRolling, withCard}
 use Rattle.protocol.specs.Sound.{sound}
 use Rattle.protocol.specs.Calls.{rollChecks}
 use Rattle.protocol.specs.Plan.{Check}
-use Rattle.verdicts.specs.declared.Reply.the-variants.{Done}
+use Rattle.refusal.specs.declared.Reply.the-variants.{Done}
 use Rattle.verdicts.specs.Answers.{firstFailing, rest}
 use Rattle.verdicts.specs.Shape.{headOf, limits16, setOf, at, vectorFor, withHead, withVectors, withNumbers, withLine}
 use lib.ListN.{set}

@@ -4,10 +4,10 @@ ghost use mathlib.Core.Bool.{true};
 ghost use Rattle.verdicts.specs.Answers.{replyOf};
 ghost use Rattle.verdicts.specs.Applied.{CoreCarried};
 ghost use Rattle.carried.specs.Plans.{Stands, rollOn};
+use refusal::Reply;
 use verdicts::Core;
 use verdicts::CoreAnswer;
 use verdicts::Phase;
-use verdicts::Reply;
 
 // 10. roll
 pub fn roll(sound: bool, mut core: Core, card: u32) -> CoreAnswer

@@ -4,8 +4,8 @@ use mathlib.Core.Bool.{Bool, cond}
 use mathlib.Core.List.{List}
 use Rattle.limits.specs.Document.{mostCards, lastState}
 use Rattle.protocol.specs.Plan.{Reply, accepted, refused, safe, unsafe}
-use Rattle.verdicts.specs.declared.Reply as verdict
-use Rattle.verdicts.specs.declared.Reply.the-variants.{Done, Refused}
+use Rattle.refusal.specs.declared.Reply as verdict
+use Rattle.refusal.specs.declared.Reply.the-variants.{Done, Refused}
 use Rattle.verdicts.specs.Shape.{at}
 
 -- base ≤ stored, and reached within the limit, for the n cards that are there

@@ -12,10 +12,10 @@ ghost use Rattle.verdicts.specs.Answers.{safeReplyOf, after28};
 ghost use Rattle.safety.specs.Known.{InOrder, gradedOf};
 use limits::Limits;
 use refusal::Refusal;
+use refusal::Reply;
 use replies::next;
 use verdicts::Head;
 use verdicts::Place;
-use verdicts::Reply;
 use verdicts::SafeReply;
 
 // How many states there are above x, up to reached.

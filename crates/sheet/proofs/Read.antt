@@ -6,7 +6,7 @@ use mathlib.Core.List.{List, [], _∷_}
 use lib.ListN.{length, drop}
 use Rattle.laws.proofs.Logic.{and-intro}
 use Rattle.digits.specs.declared.Sums.{Sums}
-use Rattle.refusal.specs.declared.Verdict.the-variants.{Accepted}
+use Rattle.refusal.specs.declared.Reply.the-variants.{Done}
 use Rattle.frame.specs.declared.Frame.{Frame}
 use Rattle.frame.specs.Format.{Format, Formats}
 use Rattle.frame.specs.Lines.{cardsOf, formatIn, formatFor, startOf, headerDigits, headerIn, headerVerdict, frameDigits, frameIn, frameVerdict, noFrame}
@@ -23,7 +23,7 @@ record Frames-read (f : Format) (card n k state : ℕ) (last : Frame) (frs : Lis
   pub count : length frs ≡ k
 
 frames-read :
-    (f : Format) (start : Sums) (card n k state : ℕ) (last : Frame) (input : List ℕ) → readFrames f start card n k state last input .verdict ≡ Accepted → Frames-read f card n k state last (readFrames f start card n k state last input .frames)
+    (f : Format) (start : Sums) (card n k state : ℕ) (last : Frame) (input : List ℕ) → readFrames f start card n k state last input .verdict ≡ Done → Frames-read f card n k state last (readFrames f start card n k state last input .frames)
 frames-read f start card n zero state last input e = record { allowed = refl; formed = tt; count = refl }
 frames-read f start card n (suc k) state last input e =
     let fr = frameIn f n input in
@@ -35,8 +35,8 @@ frames-read f start card n (suc k) state last input e =
 -- a page whose header and frames were accepted
 page-read :
     (f : Format) (due first : ℕ) (input : List ℕ) →
-    headerVerdict f due first input ≡ Accepted →
-    framesOf f (headerIn f input) input .verdict ≡ Accepted →
+    headerVerdict f due first input ≡ Done →
+    framesOf f (headerIn f input) input .verdict ≡ Done →
     Allowed f due first (record { header = headerIn f input; frames = framesOf f (headerIn f input) input .frames })
 page-read f due first input e v =
     let h = headerIn f input in
@@ -56,7 +56,7 @@ pub record Sheet-read (F : Formats) (card : ℕ) (input : List ℕ) : Type 0 whe
   pub allowed : Allowed (formatIn F input) card 0 page
   pub pages : readSheets F false card input .pages ≡ page ∷ []
 
-pub sheet-read : (F : Formats) (card : ℕ) (input : List ℕ) → readSheets F false card input .verdict ≡ Accepted → Sheet-read F card input
+pub sheet-read : (F : Formats) (card : ℕ) (input : List ℕ) → readSheets F false card input .verdict ≡ Done → Sheet-read F card input
 unfolding readSheets
 sheet-read F card input e =
     let f = formatIn F input in
@@ -70,7 +70,7 @@ record More-read (F : Formats) (k due first : ℕ) (ps : List Page) : Type 0 whe
   pub allowed : AllAllowed F due first ps
   pub long : length ps ≡ k
 
-more-read : (F : Formats) (k due first : ℕ) (input : List ℕ) → moreSheets F k due first input .verdict ≡ Accepted → More-read F k due first (moreSheets F k due first input .pages)
+more-read : (F : Formats) (k due first : ℕ) (input : List ℕ) → moreSheets F k due first input .verdict ≡ Done → More-read F k due first (moreSheets F k due first input .pages)
 more-read F zero due first input e = record { allowed = tt; long = refl }
 more-read F (suc k) due first input e =
     let f = formatIn F input in
@@ -91,7 +91,7 @@ pub record Lines-read (F : Formats) (ps : List Page) : Type 0 where
   pub more : AllAllowed F 1 (cardsOf (formatFor F (head .header)) (head .header)) tail
   pub long : length tail ≡ cardsOf (formatFor F (head .header)) (head .header) - 1
 
-pub lines-read : (F : Formats) (input : List ℕ) → readSheets F true 0 input .verdict ≡ Accepted → Lines-read F (readSheets F true 0 input .pages)
+pub lines-read : (F : Formats) (input : List ℕ) → readSheets F true 0 input .verdict ≡ Done → Lines-read F (readSheets F true 0 input .pages)
 unfolding readSheets
 lines-read F input e =
     let f = formatIn F input in

@@ -18,8 +18,8 @@ use Rattle.laws.proofs.Logic.{test, and-left, and-right}
 use Rattle.digits.specs.declared.Sums.{Sums}
 use Rattle.digits.specs.declared.Line.the-variants.{Whole, Fault}
 use Rattle.digits.specs.Line.{shaped, checked, shapeOf}
-use Rattle.refusal.specs.declared.Verdict.{Verdict}
-use Rattle.refusal.specs.declared.Verdict.the-variants.{Accepted, Refused}
+use Rattle.refusal.specs.declared.Reply.{Reply}
+use Rattle.refusal.specs.declared.Reply.the-variants.{Done, Refused}
 use Rattle.frame.specs.declared.Header.{Header}
 use Rattle.frame.specs.declared.Frame.{Frame}
 use Rattle.frame.specs.Format.{Format, Formats, formats}
@@ -58,7 +58,7 @@ module _ (f : Format) (s : Sound f) (start : Sums) (p : start .first < 256) (q :
       rw (suc-add (length frs) k, i, v, g, d, c, frames-back frs k (state + 1) fr rest a₁ (m .2) (omega arith))
 
 -- the frames of a sheet within the limits
-page-frames : (f : Format) → Sound f → (due first : ℕ) (p : Page) (rest : List ℕ) → Allowed f due first p → framesOf f (p .header) (bytesIn f p ++ rest) ≡ record { frames = p .frames; verdict = Accepted; rest = rest }
+page-frames : (f : Format) → Sound f → (due first : ℕ) (p : Page) (rest : List ℕ) → Allowed f due first p → framesOf f (p .header) (bytesIn f p ++ rest) ≡ record { frames = p .frames; verdict = Done; rest = rest }
 page-frames f s due first p rest a =
     let h = p .header in
     let l = header-limits f due first h (a .header) in
@@ -68,10 +68,10 @@ page-frames f s due first p rest a =
     let b = a .count in
     rw (i, header-rest f s due first h (body ++ rest) (a .header) (a .session), c)
     (frames-back f s (startOf f h) (s .first (h .card) (h .session)) (s .second (h .card) (h .session)) (h .card) (cardsOf f h) (p .frames) 0 (h .base + 1) noFrame rest (a .frames) (a .formed) (omega (arith, l .states))
-    ∙ (λ i. record { frames = append-nil (p .frames) i; verdict = Accepted; rest = rest }))
+    ∙ (λ i. record { frames = append-nil (p .frames) i; verdict = Done; rest = rest }))
 
 -- the header of a sheet within the limits, written and read
-page-header : (f : Format) → Sound f → (due first : ℕ) (p : Page) (rest : List ℕ) → Allowed f due first p → (headerVerdict f due first (bytesIn f p ++ rest) ≡ Accepted) × (headerIn f (bytesIn f p ++ rest) ≡ p .header)
+page-header : (f : Format) → Sound f → (due first : ℕ) (p : Page) (rest : List ℕ) → Allowed f due first p → (headerVerdict f due first (bytesIn f p ++ rest) ≡ Done) × (headerIn f (bytesIn f p ++ rest) ≡ p .header)
 page-header f s due first p rest a =
     let h = p .header in
     let body = framesBytes f (startOf f h) (cardsOf f h) (h .base + 1) (p .frames) in
@@ -79,7 +79,7 @@ page-header f s due first p rest a =
     (rw i (header-accepted f s due first h (body ++ rest) (a .header) (a .session)), rw i (header-back f s due first h (body ++ rest) (a .header) (a .session)))
 
 sheet-in-back :
-    (f : Format) → Sound f → (due first : ℕ) (p : Page) (rest : List ℕ) (next : ℕ → List ℕ → Sheets) → Allowed f due first p → sheetIn f due first next (bytesIn f p ++ rest) ≡ withSheet Accepted Accepted (p .header) (record { frames = p .frames; verdict = Accepted; rest = rest }) (bytesIn f p ++ rest) (next (cardsOf f (p .header)) rest)
+    (f : Format) → Sound f → (due first : ℕ) (p : Page) (rest : List ℕ) (next : ℕ → List ℕ → Sheets) → Allowed f due first p → sheetIn f due first next (bytesIn f p ++ rest) ≡ withSheet Done Done (p .header) (record { frames = p .frames; verdict = Done; rest = rest }) (bytesIn f p ++ rest) (next (cardsOf f (p .header)) rest)
 sheet-in-back f s due first p rest next a =
     let e = page-header f s due first p rest a in
     rw (e .0, e .1, page-frames f s due first p rest a)
@@ -93,16 +93,16 @@ formats-sound told = format-sound
 
 -- a sheet within the limits reads back, and the reading goes on behind it
 pub sheet-back :
-    (F : Formats) → AllSound F → (due first : ℕ) (p : Page) (rest : List ℕ) (next : ℕ → List ℕ → Sheets) → Allowed (formatFor F (p .header)) due first p → readSheet F due first next (pageBytes F p ++ rest) ≡ withSheet Accepted Accepted (p .header) (record { frames = p .frames; verdict = Accepted; rest = rest }) (pageBytes F p ++ rest) (next (cardsOf (formatFor F (p .header)) (p .header)) rest)
+    (F : Formats) → AllSound F → (due first : ℕ) (p : Page) (rest : List ℕ) (next : ℕ → List ℕ → Sheets) → Allowed (formatFor F (p .header)) due first p → readSheet F due first next (pageBytes F p ++ rest) ≡ withSheet Done Done (p .header) (record { frames = p .frames; verdict = Done; rest = rest }) (pageBytes F p ++ rest) (next (cardsOf (formatFor F (p .header)) (p .header)) rest)
 sheet-back F s due first p rest next a =
     let f = formatFor F (p .header) in
     let k = s (p .header .cards) in
     ap (λ (g : Format). sheetIn g due first next (pageBytes F p ++ rest)) (told-again F f (bytesIn f p ++ rest) (page-header f k due first p rest a .1)) ∙ sheet-in-back f k due first p rest next a
 
-more-back : (F : Formats) → AllSound F → (due first : ℕ) (ps : List Page) → AllAllowed F due first ps → moreSheets F (length ps) due first (pagesBytes F ps) ≡ record { pages = ps; verdict = Accepted; rest = [] }
+more-back : (F : Formats) → AllSound F → (due first : ℕ) (ps : List Page) → AllAllowed F due first ps → moreSheets F (length ps) due first (pagesBytes F ps) ≡ record { pages = ps; verdict = Done; rest = [] }
 more-back F s due first [] a = refl
 more-back F s due first (p ∷ ps) a =
-    sheet-back F s due first p (pagesBytes F ps) (λ cards rest. moreSheets F (length ps) (due + 1) first rest) (a .0) ∙ ap (withSheet Accepted Accepted (p .header) (record { frames = p .frames; verdict = Accepted; rest = pagesBytes F ps }) (pageBytes F p ++ pagesBytes F ps)) (more-back F s (due + 1) first ps (a .1))
+    sheet-back F s due first p (pagesBytes F ps) (λ cards rest. moreSheets F (length ps) (due + 1) first rest) (a .0) ∙ ap (withSheet Done Done (p .header) (record { frames = p .frames; verdict = Done; rest = pagesBytes F ps }) (pageBytes F p ++ pagesBytes F ps)) (more-back F s (due + 1) first ps (a .1))
 
 -- What is written reads back the same: a sheet (`all` false), and a read-out of as many sheets as its number of cards (`all` true).
 pub written-reads-back :
@@ -110,26 +110,26 @@ pub written-reads-back :
     Allowed (formatFor F (p .header)) due 0 p →
     AllAllowed F (due + 1) (cardsOf (formatFor F (p .header)) (p .header)) ps →
     cond all (cardsOf (formatFor F (p .header)) (p .header) - 1) 0 ≡ length ps →
-    readSheets F all due (pagesBytes F (p ∷ ps)) ≡ record { pages = p ∷ ps; verdict = Accepted; rest = [] }
+    readSheets F all due (pagesBytes F (p ∷ ps)) ≡ record { pages = p ∷ ps; verdict = Done; rest = [] }
 unfolding readSheets
 written-reads-back F s all due p ps a more e =
     sheet-back F s due 0 p (pagesBytes F ps) (λ cards rest. moreSheets F (cond all (cards - 1) 0) (due + 1) cards rest) a
-    ∙ rw e (ap (withSheet Accepted Accepted (p .header) (record { frames = p .frames; verdict = Accepted; rest = pagesBytes F ps }) (pageBytes F p ++ pagesBytes F ps)) (more-back F s (due + 1) (cardsOf (formatFor F (p .header)) (p .header)) ps more))
+    ∙ rw e (ap (withSheet Done Done (p .header) (record { frames = p .frames; verdict = Done; rest = pagesBytes F ps }) (pageBytes F p ++ pagesBytes F ps)) (more-back F s (due + 1) (cardsOf (formatFor F (p .header)) (p .header)) ps more))
 
 -- ---- read, then written
 
-pub with-accepted : (v : Verdict) (fr : Frame) (input : List ℕ) (next : Frames) → withFrame v fr input next .verdict ≡ Accepted → (v ≡ Accepted) × (next .verdict ≡ Accepted)
-with-accepted Accepted fr input next e = (refl, e)
+pub with-accepted : (v : Reply) (fr : Frame) (input : List ℕ) (next : Frames) → withFrame v fr input next .verdict ≡ Done → (v ≡ Done) × (next .verdict ≡ Done)
+with-accepted Done fr input next e = (refl, e)
 with-accepted (Refused r) fr input next e = let z : _≡_ {A = ℕ} 0 1 = cc in absurd (omega arith)
 
-pub with-both : (v w : Verdict) (h : Header) (fs : Frames) (input : List ℕ) (next : Sheets) → withSheet v w h fs input next .verdict ≡ Accepted → (v ≡ Accepted) × (w ≡ Accepted) × (next .verdict ≡ Accepted)
+pub with-both : (v w : Reply) (h : Header) (fs : Frames) (input : List ℕ) (next : Sheets) → withSheet v w h fs input next .verdict ≡ Done → (v ≡ Done) × (w ≡ Done) × (next .verdict ≡ Done)
 with-both (Refused r) w h fs input next e = let z : _≡_ {A = ℕ} 0 1 = cc in absurd (omega arith)
-with-both Accepted (Refused r) h fs input next e = let z : _≡_ {A = ℕ} 0 1 = cc in absurd (omega arith)
-with-both Accepted Accepted h fs input next e = (refl, refl, e)
+with-both Done (Refused r) h fs input next e = let z : _≡_ {A = ℕ} 0 1 = cc in absurd (omega arith)
+with-both Done Done h fs input next e = (refl, refl, e)
 
 frames-again :
     (f : Format) (start : Sums) (card n k state : ℕ) (last : Frame) (input : List ℕ) →
-    readFrames f start card n k state last input .verdict ≡ Accepted →
+    readFrames f start card n k state last input .verdict ≡ Done →
     framesBytes f start n state (readFrames f start card n k state last input .frames) ++ readFrames f start card n k state last input .rest ≡ input
 frames-again f start card n zero state last input e = refl
 frames-again f start card n (suc k) state last input e =
@@ -145,8 +145,8 @@ frames-again f start card n (suc k) state last input e =
 
 sheet-again :
     (F : Formats) (due first : ℕ) (next : ℕ → List ℕ → Sheets) (input : List ℕ) →
-    ((cards : ℕ) (rest : List ℕ) → next cards rest .verdict ≡ Accepted → pagesBytes F (next cards rest .pages) ≡ rest) →
-    readSheet F due first next input .verdict ≡ Accepted →
+    ((cards : ℕ) (rest : List ℕ) → next cards rest .verdict ≡ Done → pagesBytes F (next cards rest .pages) ≡ rest) →
+    readSheet F due first next input .verdict ≡ Done →
     pagesBytes F (readSheet F due first next input .pages) ≡ input
 sheet-again F due first next input g e =
     let f = formatIn F input in
@@ -163,16 +163,16 @@ sheet-again F due first next input g e =
     ∙ ap (λ (x : List ℕ). headerLine f h ++ x) (frames-again f (startOf f h) (h .card) (cardsOf f h) (h .count) (h .base + 1) noFrame (drop (headerDigits f + 5) input) (a .1))
     ∙ header-again f due first input (a .0))
 
-empty-end : (input : List ℕ) → ended input .verdict ≡ Accepted → [] ≡ input
+empty-end : (input : List ℕ) → ended input .verdict ≡ Done → [] ≡ input
 empty-end [] e = refl
 empty-end (b ∷ bs) e = let q : eqb (suc (length bs)) 0 ≡ false = eqb·suc-zero (length bs) in let z : _≡_ {A = ℕ} 0 1 = cc (rw q at e) in absurd (omega arith)
 
-more-again : (F : Formats) (k due first : ℕ) (input : List ℕ) → moreSheets F k due first input .verdict ≡ Accepted → pagesBytes F (moreSheets F k due first input .pages) ≡ input
+more-again : (F : Formats) (k due first : ℕ) (input : List ℕ) → moreSheets F k due first input .verdict ≡ Done → pagesBytes F (moreSheets F k due first input .pages) ≡ input
 more-again F zero due first input e = empty-end input e
 more-again F (suc k) due first input e = sheet-again F due first (λ cards rest. moreSheets F k (due + 1) first rest) input (λ cards rest. more-again F k (due + 1) first rest) e
 
 -- Bytes that a reader accepts are the very bytes that are written of what was read: a sheet (`all` false), and a read-out (`all` true).
-pub read-writes-again : (F : Formats) (all : Bool) (due : ℕ) (input : List ℕ) → readSheets F all due input .verdict ≡ Accepted → pagesBytes F (readSheets F all due input .pages) ≡ input
+pub read-writes-again : (F : Formats) (all : Bool) (due : ℕ) (input : List ℕ) → readSheets F all due input .verdict ≡ Done → pagesBytes F (readSheets F all due input .pages) ≡ input
 unfolding readSheets
 read-writes-again F all due input e =
     sheet-again F due 0 (λ cards rest. moreSheets F (cond all (cards - 1) 0) (due + 1) cards rest) input (λ cards rest. more-again F (cond all (cards - 1) 0) (due + 1) cards rest) e
@@ -205,8 +205,8 @@ Passed-on rest rest′ b = (p : ℕ) × Alters rest p b × (rest′ ≡ set rest
 frames-altered :
     (f : Format) (start : Sums) (card n k state : ℕ) (last : Frame) (input : List ℕ) (p b : ℕ) →
     Alters input p b →
-    readFrames f start card n k state last input .verdict ≡ Accepted →
-    readFrames f start card n k state last (set input p b) .verdict ≡ Accepted →
+    readFrames f start card n k state last input .verdict ≡ Done →
+    readFrames f start card n k state last (set input p b) .verdict ≡ Done →
     Passed-on (readFrames f start card n k state last input .rest) (readFrames f start card n k state last (set input p b) .rest) b
 frames-altered f start card n zero state last input p b a e g = (p, a, refl)
 frames-altered f start card n (suc k) state last input p b a e g =
@@ -224,10 +224,10 @@ frames-altered f start card n (suc k) state last input p b a e g =
 
 sheet-altered :
     (F : Formats) → Alike F → (due first : ℕ) (next : ℕ → List ℕ → Sheets) (input : List ℕ) (p b : ℕ) →
-    ((cards : ℕ) (rest : List ℕ) (q : ℕ) → Alters rest q b → next cards rest .verdict ≡ Accepted → next cards (set rest q b) .verdict ≡ Accepted → ⊥) →
+    ((cards : ℕ) (rest : List ℕ) (q : ℕ) → Alters rest q b → next cards rest .verdict ≡ Done → next cards (set rest q b) .verdict ≡ Done → ⊥) →
     Alters input p b →
-    readSheet F due first next input .verdict ≡ Accepted →
-    readSheet F due first next (set input p b) .verdict ≡ Accepted →
+    readSheet F due first next input .verdict ≡ Done →
+    readSheet F due first next (set input p b) .verdict ≡ Done →
     ⊥
 sheet-altered F t due first next input p b n a e g =
     let f = formatIn F input in
@@ -251,8 +251,8 @@ sheet-altered F t due first next input p b n a e g =
 more-altered :
     (F : Formats) → Alike F → (k due first : ℕ) (input : List ℕ) (p b : ℕ) →
     Alters input p b →
-    moreSheets F k due first input .verdict ≡ Accepted →
-    moreSheets F k due first (set input p b) .verdict ≡ Accepted →
+    moreSheets F k due first input .verdict ≡ Done →
+    moreSheets F k due first (set input p b) .verdict ≡ Done →
     ⊥
 more-altered F t zero due first input p b a e g = let q : length input ≡ 0 = ap length (sym (empty-end input e)) in omega (arith, a .inside)
 more-altered F t (suc k) due first input p b a e g =
@@ -263,12 +263,12 @@ pub altered-refused :
     (F : Formats) → Alike F → (all : Bool) (due : ℕ) (input : List ℕ) (p b : ℕ) →
     p < length input →
     (b ≡ getD input p 0 → ⊥) →
-    readSheets F all due input .verdict ≡ Accepted →
+    readSheets F all due input .verdict ≡ Done →
     (r : Refusal) × (readSheets F all due (set input p b) .verdict ≡ Refused r)
 unfolding readSheets
 altered-refused F t all due input p b h o e =
     ⊎-elim
-    (λ (g : readSheets F all due (set input p b) .verdict ≡ Accepted).
+    (λ (g : readSheets F all due (set input p b) .verdict ≡ Done).
     absurd (sheet-altered F t due 0 (λ cards rest. moreSheets F (cond all (cards - 1) 0) (due + 1) cards rest) input p b (λ cards rest q. more-altered F t (cond all (cards - 1) 0) (due + 1) cards rest q b) (record { inside = h; other = o }) e g))
     (λ (x : (r : Refusal) × (readSheets F all due (set input p b) .verdict ≡ Refused r)). x) (accepts-or (readSheets F all due (set input p b) .verdict))
 

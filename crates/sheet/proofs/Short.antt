@@ -11,7 +11,7 @@ use lib.Seq.{getD-take, length-take-le}
 use Rattle.laws.proofs.Logic.{clash, fails}
 use Rattle.refusal.specs.declared.Refusal.{Refusal}
 use Rattle.refusal.specs.declared.Refusal.the-variants.{BadLine}
-use Rattle.refusal.specs.declared.Verdict.the-variants.{Refused}
+use Rattle.refusal.specs.declared.Reply.the-variants.{Refused}
 use Rattle.digits.specs.declared.Sums.{Sums}
 use Rattle.digits.specs.declared.Line.the-variants.{Fault}
 use Rattle.digits.specs.Digits.{isDigit, written}

@@ -13,8 +13,8 @@ use Rattle.refusal.specs.declared.Refusal.{Refusal}
 use Rattle.laws.proofs.Logic.{test, or-elim, cond-case}
 use Rattle.digits.specs.declared.Sums.{Sums}
 use Rattle.digits.proofs.Lines.{whole-room}
-use Rattle.refusal.specs.declared.Verdict.{Verdict}
-use Rattle.refusal.specs.declared.Verdict.the-variants.{Accepted, Refused}
+use Rattle.refusal.specs.declared.Reply.{Reply}
+use Rattle.refusal.specs.declared.Reply.the-variants.{Done, Refused}
 use Rattle.frame.specs.declared.Header.{Header}
 use Rattle.frame.specs.declared.HeaderLine.the-variants.{Read as header-read, Fault as header-fault}
 use Rattle.frame.specs.declared.Frame.{Frame}
@@ -33,24 +33,24 @@ use Rattle.sheet.specs.Walk.{placeOf, noReadout, layHeader, layFrame, la
 -- ---- answers told apart
 
 -- a verdict accepts, or refuses with some refusal
-pub accepts-or : (v : Verdict) → (v ≡ Accepted) ⊎ ((r : Refusal) × (v ≡ Refused r))
-accepts-or Accepted = inl refl
+pub accepts-or : (v : Reply) → (v ≡ Done) ⊎ ((r : Refusal) × (v ≡ Refused r))
+accepts-or Done = inl refl
 accepts-or (Refused r) = inr (r, refl)
 
-pub header-read-is : (v : Verdict) (h g : Header) → headerOr v h ≡ header-read g → (v ≡ Accepted) × (h ≡ g)
-header-read-is Accepted h g e = (refl, cc)
+pub header-read-is : (v : Reply) (h g : Header) → headerOr v h ≡ header-read g → (v ≡ Done) × (h ≡ g)
+header-read-is Done h g e = (refl, cc)
 header-read-is (Refused r) h g e = let z : _≡_ {A = ℕ} 0 1 = cc in absurd (omega arith)
 
-pub header-fault-is : (v : Verdict) (h : Header) (r : Refusal) → headerOr v h ≡ header-fault r → v ≡ Refused r
-header-fault-is Accepted h r e = let z : _≡_ {A = ℕ} 0 1 = cc in absurd (omega arith)
+pub header-fault-is : (v : Reply) (h : Header) (r : Refusal) → headerOr v h ≡ header-fault r → v ≡ Refused r
+header-fault-is Done h r e = let z : _≡_ {A = ℕ} 0 1 = cc in absurd (omega arith)
 header-fault-is (Refused q) h r e = let i : q ≡ r = cc in ap Refused i
 
-pub frame-read-is : (v : Verdict) (fr : Frame) (change : ℕ) → frameReadOf v fr .line ≡ frame-read change → (v ≡ Accepted) × (fr .change ≡ change)
-frame-read-is Accepted fr change e = (refl, cc)
+pub frame-read-is : (v : Reply) (fr : Frame) (change : ℕ) → frameReadOf v fr .line ≡ frame-read change → (v ≡ Done) × (fr .change ≡ change)
+frame-read-is Done fr change e = (refl, cc)
 frame-read-is (Refused r) fr change e = let z : _≡_ {A = ℕ} 0 1 = cc in absurd (omega arith)
 
-pub frame-fault-is : (v : Verdict) (fr : Frame) (r : Refusal) → frameReadOf v fr .line ≡ frame-fault r → v ≡ Refused r
-frame-fault-is Accepted fr r e = let z : _≡_ {A = ℕ} 0 1 = cc in absurd (omega arith)
+pub frame-fault-is : (v : Reply) (fr : Frame) (r : Refusal) → frameReadOf v fr .line ≡ frame-fault r → v ≡ Refused r
+frame-fault-is Done fr r e = let z : _≡_ {A = ℕ} 0 1 = cc in absurd (omega arith)
 frame-fault-is (Refused q) fr r e = let i : q ≡ r = cc in ap Refused i
 
 -- ---- what is left of the walk
@@ -60,8 +60,8 @@ abbrev pub going : Formats → Bool → ℕ → ℕ → ℕ → List ℕ → She
 going F all first left due input = cond (eqb first 0) (readSheets F all due input) (moreSheets F left due first input)
 
 -- frames laid from a state on, and what follows where they are accepted
-abbrev pub laidOn : Verdict → Readout → List ℕ → (List ℕ → Sheets) → Reading
-laidOn Accepted r rest next = laid r (next rest)
+abbrev pub laidOn : Reply → Readout → List ℕ → (List ℕ → Sheets) → Reading
+laidOn Done r rest next = laid r (next rest)
 laidOn (Refused x) r rest next = record { readout = r; verdict = Refused x }
 
 abbrev pub laidFrames : ℕ → ℕ → ℕ → Readout → Frames → (List ℕ → Sheets) → Reading
@@ -69,19 +69,19 @@ laidFrames card state k r fs next = laidOn (fs .verdict) (layFrames card state k
 
 -- a sheet whose header is accepted goes on with its frames
 pub sheet-on :
-    (v : Verdict) (h : Header) (fs : Frames) (input : List ℕ) (r : Readout) (next : List ℕ → Sheets) →
-    v ≡ Accepted →
+    (v : Reply) (h : Header) (fs : Frames) (input : List ℕ) (r : Readout) (next : List ℕ → Sheets) →
+    v ≡ Done →
     laid r (withSheet v (fs .verdict) h fs input (next (fs .rest))) ≡ laidFrames (h .card) (h .base + 1) 0 (layHeader h r) fs next
 sheet-on v h fs input r next e = rw e (by (fs .verdict))
   where
-    by : (w : Verdict) → laid r (withSheet Accepted w h fs input (next (fs .rest))) ≡ laidOn w (layFrames (h .card) (h .base + 1) 0 (fs .frames) (layHeader h r)) (fs .rest) next
-    by Accepted = refl
+    by : (w : Reply) → laid r (withSheet Done w h fs input (next (fs .rest))) ≡ laidOn w (layFrames (h .card) (h .base + 1) 0 (fs .frames) (layHeader h r)) (fs .rest) next
+    by Done = refl
     by (Refused x) = refl
 
 -- a frame that is accepted goes on with the frames behind it
 pub frame-on :
     (card state k : ℕ) (r : Readout) (fr : Frame) (input : List ℕ) (fs : Frames) (next : List ℕ → Sheets) →
-    laidFrames card state k r (withFrame Accepted fr input fs) next ≡ laidFrames card (state + 1) (k + 1) (layFrame card state k fr r) fs next
+    laidFrames card state k r (withFrame Done fr input fs) next ≡ laidFrames card (state + 1) (k + 1) (layFrame card state k fr r) fs next
 frame-on card state k r fr input fs next = refl
 
 -- the frame before, with its entries in an array
@@ -145,7 +145,7 @@ module _ {F : Formats} {s : List ℕ} {card : ℕ} {all : Bool} {r : Readout} {a
   more-on : (first ≡ 0 → ⊥) → laid r (moreSheets F left due first (drop at s)) ≡ readUpTo F all card s
   more-on e = rw (ne-eqb first 0 e) at (o .goes-on)
 
-  pub outer-end : left ≡ 0 → {v : Verdict} → v ≡ ended (drop at s) .verdict → _≡_ {A = Reading} (record { readout = r; verdict = v }) (readUpTo F all card s)
+  pub outer-end : left ≡ 0 → {v : Reply} → v ≡ ended (drop at s) .verdict → _≡_ {A = Reading} (record { readout = r; verdict = v }) (readUpTo F all card s)
   outer-end e {v} q =
       let g : laid r (moreSheets F 0 due first (drop at s)) ≡ readUpTo F all card s = rw e at (more-on (λ z. omega (arith, o .begun z))) in
       rw q g
@@ -183,13 +183,13 @@ module _ {F : Formats} {s : List ℕ} {card : ℕ} {all : Bool} {r : Readout} {a
   inner-on :
       (h : Header) →
       h ≡ headerIn picked (drop at s) →
-      headerVerdict picked due first (drop at s) ≡ Accepted →
+      headerVerdict picked due first (drop at s) ≡ Done →
       0 < left →
       (first ≡ 0) ⊎ (first ≡ 0 → ⊥) →
       laidFrames (h .card) (h .base + 1) 0 (layHeader h r) (framesOf picked h (drop at s)) (moreSheets F (now-left (cardsOf picked h) - 1) (due + 1) (cardsOf picked h)) ≡ readUpTo F all card s
   unfolding readSheets
   inner-on h q e l (inl z) =
-      let e′ : headerVerdict picked due 0 (drop at s) ≡ Accepted = rw z at e in
+      let e′ : headerVerdict picked due 0 (drop at s) ≡ Done = rw z at e in
       let g = headerIn picked (drop at s) in
       rw (q, ← sheet-first z (o .begun z) (cardsOf picked g))
       (sym (sheet-on (headerVerdict picked due 0 (drop at s)) g (framesOf picked g (drop at s)) (drop at s) r (moreSheets F (cond all (cardsOf picked g - 1) 0) (due + 1) (cardsOf picked g)) e′)
@@ -211,7 +211,7 @@ module _ {F : Formats} {s : List ℕ} {card : ℕ} {all : Bool} {r : Readout} {a
       f .cards ≤ 16 →
       f ≡ picked →
       h ≡ headerIn f (drop at s) →
-      headerVerdict f due first (drop at s) ≡ Accepted →
+      headerVerdict f due first (drop at s) ≡ Done →
       n ≡ cardsOf f h →
       left′ ≡ now-left n →
       i ≡ due →
@@ -240,7 +240,7 @@ module _ {F : Formats} {s : List ℕ} {card : ℕ} {all : Bool} {r : Readout} {a
           f ≡ picked →
           (h : Header) →
           h ≡ headerIn f (drop at s) →
-          headerVerdict f due first (drop at s) ≡ Accepted →
+          headerVerdict f due first (drop at s) ≡ Done →
           laidFrames (h .card) (h .base + 1) 0 (layHeader h r) (framesOf f h (drop at s)) (moreSheets F (now-left (cardsOf f h) - 1) (due + 1) (cardsOf f h)) ≡ readUpTo F all card s
       on-picked f p h q e = rw p (inner-on h (rw p at q) (rw p at e) l (zero-or first))
 
@@ -274,7 +274,7 @@ module _ {F : Formats} {f : Format} {s : List ℕ} {card : ℕ} {all : Bool} {du
       (fr : Frame) →
       k < count →
       fr ≡ frameIn f n (drop at s) →
-      frameVerdict f (f .start due session) due n (base + 1 + k) last (drop at s) ≡ Accepted →
+      frameVerdict f (f .start due session) due n (base + 1 + k) last (drop at s) ≡ Done →
       Inner F f s card all due left n base count session i (layFrame due (base + 1 + k) k fr r) (at + (frameDigits f n + 5)) (paddedFrame fr) (k + 1)
   inner-step fr h q e =
       let b : base + 1 + (k + 1) ≡ base + 1 + k + 1 = omega arith in
@@ -297,7 +297,7 @@ module _ {F : Formats} {f : Format} {s : List ℕ} {card : ℕ} {all : Bool} {du
   pub inner-again :
       {change : ℕ} {es stored : List ℕ} →
       k < count →
-      frameVerdict f (f .start due session) due n (base + 1 + k) last (drop at s) ≡ Accepted →
+      frameVerdict f (f .start due session) due n (base + 1 + k) last (drop at s) ≡ Done →
       frameIn f n (drop at s) .change ≡ change →
       es ≡ padded (frameIn f n (drop at s) .entries) →
       stored ≡ sets (r .entries) (placeOf due (base + 1 + k) * 16) es →
@@ -325,15 +325,15 @@ sheets-fewer all first left n left′ e b l p q = rw (ne-eqb n 0 (λ (z : n ≡ 
 -- ---- the answer, by the verdict
 
 -- a reading by its parts
-pub read-as : {r r′ : Readout} {v v′ : Verdict} {g : Reading} → r ≡ r′ → v ≡ v′ → _≡_ {A = Reading} (record { readout = r′; verdict = v′ }) g → _≡_ {A = Reading} (record { readout = r; verdict = v }) g
+pub read-as : {r r′ : Readout} {v v′ : Reply} {g : Reading} → r ≡ r′ → v ≡ v′ → _≡_ {A = Reading} (record { readout = r′; verdict = v′ }) g → _≡_ {A = Reading} (record { readout = r; verdict = v }) g
 read-as p q e = (λ i. record { readout = p i; verdict = q i }) ∙ e
 
-module _ (F : Formats) (all : Bool) (card : ℕ) (s : List ℕ) {r : Readout} {v : Verdict} (e : _≡_ {A = Reading} (record { readout = r; verdict = v }) (readUpTo F all card s)) where
+module _ (F : Formats) (all : Bool) (card : ℕ) (s : List ℕ) {r : Readout} {v : Reply} (e : _≡_ {A = Reading} (record { readout = r; verdict = v }) (readUpTo F all card s)) where
   verdict-is : readSheets F all card s .verdict ≡ v
   unfolding readUpTo
   verdict-is = sym (ap (λ (x : Reading). x .verdict) e)
 
-  pub kept : v ≡ Accepted → _≡_ {A = Reading} (record { readout = r; verdict = v }) (readingIn F all card s)
+  pub kept : v ≡ Done → _≡_ {A = Reading} (record { readout = r; verdict = v }) (readingIn F all card s)
   unfolding readUpTo readingIn
   kept q = e ∙ rw (verdict-is, q)
 
@@ -342,8 +342,8 @@ module _ (F : Formats) (all : Bool) (card : ℕ) (s : List ℕ) {r : Readout} {v
   wiped q p = p ∙ rw (verdict-is, q)
 
 -- an accepted answer is all that was read
-pub accepted-is : (F : Formats) (all : Bool) (card : ℕ) (s : List ℕ) {g : Reading} → g ≡ readingIn F all card s → g .verdict ≡ Accepted → g ≡ laid noReadout (readSheets F all card s)
+pub accepted-is : (F : Formats) (all : Bool) (card : ℕ) (s : List ℕ) {g : Reading} → g ≡ readingIn F all card s → g .verdict ≡ Done → g ≡ laid noReadout (readSheets F all card s)
 unfolding readingIn
 accepted-is F all card s e v =
-    let q : readSheets F all card s .verdict ≡ Accepted = sym (ap (λ (x : Reading). x .verdict) e) ∙ v in
+    let q : readSheets F all card s .verdict ≡ Done = sym (ap (λ (x : Reading). x .verdict) e) ∙ v in
     e ∙ rw q

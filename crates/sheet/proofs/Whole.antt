@@ -12,7 +12,7 @@ use borrow.Author.Tests.{eqb-true, ltb-true, eq-eqb, ne-eqb, lt-ltb, le-leb}
 use Rattle.laws.specs.Below.{tabulate}
 use Rattle.laws.proofs.Logic.{and-left, and-right, or-right, or-elim}
 use Rattle.laws.proofs.Fill.{length-tabulate, getD-tabulate, tabulate-ext}
-use Rattle.refusal.specs.declared.Verdict.the-variants.{Accepted}
+use Rattle.refusal.specs.declared.Reply.the-variants.{Done}
 use Rattle.frame.specs.declared.Frame.{Frame}
 use Rattle.frame.specs.Format.{Format, Formats, format, formats}
 use Rattle.frame.specs.Lines.{cardsOf, formatFor, frameAllowed, entriesAllowed, noFrame}
@@ -90,7 +90,7 @@ whole-of F ps r = subst (Whole F) (sym (r .all)) whole
     whole = record { some = let s = some in rw long s; few = rw long (header-limits f 0 0 (p .header) (r .first .header) .cards); sheet = each }
 
 -- the sheets of a read-out whose lines are accepted
-pub whole-read : (F : Formats) (input : List ℕ) → readSheets F true 0 input .verdict ≡ Accepted → Whole F (readSheets F true 0 input .pages)
+pub whole-read : (F : Formats) (input : List ℕ) → readSheets F true 0 input .verdict ≡ Done → Whole F (readSheets F true 0 input .pages)
 whole-read F input e = whole-of F (readSheets F true 0 input .pages) (lines-read F input e)
 
 -- ---- written, then read
@@ -122,7 +122,7 @@ all-allowed due first (p ∷ ps) g = (now, all-allowed (due + 1) first ps later)
     later i h = let e : due + suc i ≡ due + 1 + i = omega arith in rw e at (g (suc i) (omega arith))
 
 -- the sheets of a whole read-out, written, read back
-pub whole-back : (ps : List Page) → Whole formats ps → readSheets formats true 0 (pagesBytes formats ps) ≡ record { pages = ps; verdict = Accepted; rest = [] }
+pub whole-back : (ps : List Page) → Whole formats ps → readSheets formats true 0 (pagesBytes formats ps) ≡ record { pages = ps; verdict = Done; rest = [] }
 whole-back [] w = absurd (not-suc-le-zero (w .some))
 whole-back (p ∷ ps) w =
     written-reads-back formats formats-sound true 0 p ps (allowed-of (suc (length ps)) 0 0 p (w .sheet 0 (w .some)) (w .some) (w .few) refl)

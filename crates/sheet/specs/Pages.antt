@@ -7,8 +7,8 @@ use lib.ListN.{length, drop}
 use Rattle.refusal.specs.declared.Refusal.{Refusal}
 use Rattle.refusal.specs.declared.Refusal.the-variants.{EndOrMore}
 use Rattle.digits.specs.declared.Sums.{Sums}
-use Rattle.refusal.specs.declared.Verdict.{Verdict}
-use Rattle.refusal.specs.declared.Verdict.the-variants.{Accepted, Refused}
+use Rattle.refusal.specs.declared.Reply.{Reply}
+use Rattle.refusal.specs.declared.Reply.the-variants.{Done, Refused}
 use Rattle.frame.specs.declared.Header.{Header}
 use Rattle.frame.specs.declared.Frame.{Frame}
 use Rattle.frame.specs.Format.{Format, Formats}
@@ -43,17 +43,17 @@ pagesBytes F (p ∷ ps) = pageBytes F p ++ pagesBytes F ps
 -- frames read: those before the first line at fault, the verdict, what is left of the input
 pub record Frames : Type 0 where
   pub frames : List Frame
-  pub verdict : Verdict
+  pub verdict : Reply
   pub rest : List ℕ
 
 -- a frame line with its verdict, before the frames that follow where it is accepted
-abbrev pub withFrame : Verdict → Frame → List ℕ → Frames → Frames
-withFrame Accepted fr input next = record { frames = fr ∷ next .frames; verdict = next .verdict; rest = next .rest }
+abbrev pub withFrame : Reply → Frame → List ℕ → Frames → Frames
+withFrame Done fr input next = record { frames = fr ∷ next .frames; verdict = next .verdict; rest = next .rest }
 withFrame (Refused r) fr input next = record { frames = []; verdict = Refused r; rest = input }
 
 -- k frames of n entries of a card, from a state on; `last` is the frame before
 abbrev pub readFrames : Format → Sums → ℕ → ℕ → ℕ → ℕ → Frame → List ℕ → Frames
-readFrames f start card n zero state last input = record { frames = []; verdict = Accepted; rest = input }
+readFrames f start card n zero state last input = record { frames = []; verdict = Done; rest = input }
 readFrames f start card n (suc k) state last input =
     withFrame (frameVerdict f start card n state last input) (frameIn f n input) input
     (readFrames f start card n k (state + 1) (frameIn f n input) (drop (frameDigits f n + 5) input))
@@ -65,14 +65,14 @@ framesOf f h input = readFrames f (startOf f h) (h .card) (cardsOf f h) (h .coun
 -- sheets read: those before the first line at fault, the last of them as far as it was read; the verdict; what is left of the input
 pub record Sheets : Type 0 where
   pub pages : List Page
-  pub verdict : Verdict
+  pub verdict : Reply
   pub rest : List ℕ
 
 -- a sheet with the verdicts of its header and of its frames, before the sheets that follow where both accept it
-abbrev pub withSheet : Verdict → Verdict → Header → Frames → List ℕ → Sheets → Sheets
+abbrev pub withSheet : Reply → Reply → Header → Frames → List ℕ → Sheets → Sheets
 withSheet (Refused r) v h fs input next = record { pages = []; verdict = Refused r; rest = input }
-withSheet Accepted (Refused r) h fs input next = record { pages = record { header = h; frames = fs .frames } ∷ []; verdict = Refused r; rest = fs .rest }
-withSheet Accepted Accepted h fs input next =
+withSheet Done (Refused r) h fs input next = record { pages = record { header = h; frames = fs .frames } ∷ []; verdict = Refused r; rest = fs .rest }
+withSheet Done Done h fs input next =
     record { pages = record { header = h; frames = fs .frames } ∷ next .pages; verdict = next .verdict; rest = next .rest }
 
 -- one sheet, where a card is due, and what follows it by its number of cards
@@ -87,7 +87,7 @@ readSheet F due first next input = sheetIn (formatIn F input) due first next inp
 
 -- after the last sheet: 8 where the input goes on
 abbrev pub ended : List ℕ → Sheets
-ended input = record { pages = []; verdict = cond (eqb (length input) 0) Accepted (Refused EndOrMore); rest = input }
+ended input = record { pages = []; verdict = cond (eqb (length input) 0) Done (Refused EndOrMore); rest = input }
 
 -- k further sheets of a read-out, in card order, each with the first sheet's number of cards
 abbrev pub moreSheets : Formats → ℕ → ℕ → ℕ → List ℕ → Sheets

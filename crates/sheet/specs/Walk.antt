@@ -5,8 +5,8 @@ use mathlib.Core.List.{List, [], _∷_}
 use lib.ListN.{set, replicate}
 use lib.Seq.{sets}
 use Rattle.limits.specs.Document.{mostCards, mostInHand, mostFrames, mostEntries}
-use Rattle.refusal.specs.declared.Verdict.{Verdict}
-use Rattle.refusal.specs.declared.Verdict.the-variants.{Accepted, Refused}
+use Rattle.refusal.specs.declared.Reply.{Reply}
+use Rattle.refusal.specs.declared.Reply.the-variants.{Done, Refused}
 use Rattle.frame.specs.declared.Header.{Header}
 use Rattle.frame.specs.declared.Frame.{Frame}
 use Rattle.frame.specs.Format.{Formats, formats}
@@ -75,11 +75,11 @@ unfoldable pub readUpTo : Formats → Bool → ℕ → List ℕ → Reading
 readUpTo F all card input = laid noReadout (readSheets F all card input)
 
 -- the sheets answered with a verdict: none with a refusal
-abbrev pub pagesFor : Verdict → List Page → List Page
-pagesFor Accepted ps = ps
+abbrev pub pagesFor : Reply → List Page → List Page
+pagesFor Done ps = ps
 pagesFor (Refused x) ps = []
 
-abbrev pub answered : Verdict → List Page → Reading
+abbrev pub answered : Reply → List Page → Reading
 answered v ps = record { readout = layPages (pagesFor v ps) noReadout; verdict = v }
 
 -- what a reader of sheets answers: "nothing of the sheet is used" where a line is at fault

@@ -7,14 +7,14 @@ ghost use lib.ListN.{drop};
 ghost use lib.Seq.{sets};
 ghost use lib.Dec.{eqb};
 ghost use Rattle.sheet.specs.Pages.{ended};
-ghost use Rattle.refusal.specs.declared.Verdict.{Verdict};
+ghost use Rattle.refusal.specs.declared.Reply.{Reply};
 ghost use Rattle.sheet.specs.Walk.{answered, readingOf};
 use frame::Frame;
 use frame::FrameLine;
 use frame::HeaderLine;
 use limits::Limits;
 use refusal::Refusal;
-use refusal::Verdict;
+use refusal::Reply;
 
 // A read-out: for each card its session, base and number of frames, and the frames of all cards. The frame of a
 // card's state stands at card * 48 + state % 48, with 16 entries for each.
@@ -30,12 +30,12 @@ pub struct Readout {
 // What was read, and the verdict.
 pub struct Reading {
     pub readout: Readout,
-    pub verdict: Verdict,
+    pub verdict: Reply,
 }
 
 // A refusal hands back the read-out of zeros.
 pub fn nothing_read(x: Refusal) -> Reading
-    ensures { λ r. ⌜ r ≡ answered (Verdict.Refused x) [] ⌝ }
+    ensures { λ r. ⌜ r ≡ answered (Reply.Refused x) [] ⌝ }
 {
     let zeros = [0u32; Limits::CARDS];
     let readout = Readout {
@@ -48,18 +48,18 @@ pub fn nothing_read(x: Refusal) -> Reading
     };
     Reading {
         readout,
-        verdict: Verdict::Refused(x),
+        verdict: Reply::Refused(x),
     }
 }
 
 // The verdict behind the last sheet: refused where the input goes on.
-fn end_at(s: &[u8], at: usize) -> Verdict
+fn end_at(s: &[u8], at: usize) -> Reply
     ensures { λ r. ⌜ r ≡ ended (drop at (now (s .entry))) .verdict ⌝ }
 {
     if at < s.len() {
-        Verdict::Refused(Refusal::EndOrMore)
+        Reply::Refused(Refusal::EndOrMore)
     } else {
-        Verdict::Accepted
+        Reply::Done
     }
 }
 
@@ -150,8 +150,8 @@ pub fn read_sheets(s: &[u8], card: u32, all: bool) -> Reading
         left -= 1;
     };
     match verdict {
-        Verdict::Accepted => {}
-        Verdict::Refused(x) => {
+        Reply::Done => {}
+        Reply::Refused(x) => {
             return nothing_read(x);
         }
     }

@@ -1,14 +1,14 @@
 // What bench/sheet measures, exported to Rust: the readers, and the writer of one sheet.
 ghost use Prim.Native.Nat.{_<_};
 use frame::Header;
-use refusal::Verdict;
+use refusal::Reply;
 use write::Written;
 
 // 0 where the bytes are accepted, else the number of the refusal.
-fn number_of(v: Verdict) -> u32 {
+fn number_of(v: Reply) -> u32 {
     match v {
-        Verdict::Accepted => 0,
-        Verdict::Refused(r) => refusal::number(r),
+        Reply::Done => 0,
+        Reply::Refused(r) => refusal::number(r),
     }
 }
 
@@ -45,7 +45,7 @@ pub extern "C" fn bench_read_sheet(s: &[u8], card: u32, place: usize) -> u32 {
     let read = sheet_reader::read_sheet(s, card);
     let v = read.verdict;
     match v {
-        Verdict::Accepted => {
+        Reply::Done => {
             let bases = read.readout.bases;
             let base = bases[(card % 16) as usize];
             sum_at(
@@ -56,7 +56,7 @@ pub extern "C" fn bench_read_sheet(s: &[u8], card: u32, place: usize) -> u32 {
                 place,
             )
         }
-        Verdict::Refused(x) => refusal::number(x),
+        Reply::Refused(x) => refusal::number(x),
     }
 }
 

@@ -9,7 +9,7 @@ ghost use Prim.Native.Nat.{_<_};
 use frame::Header;
 use libc::STDOUT_FILENO;
 use refusal::Refusal;
-use refusal::Verdict;
+use refusal::Reply;
 use sheet::Readout;
 use write::Written;
 
@@ -222,8 +222,8 @@ fn read_sheet(s: &[u8], card: u32) {
     let v = read.verdict;
     let r = read.readout;
     match v {
-        Verdict::Accepted => say_sheet(r, card),
-        Verdict::Refused(x) => {
+        Reply::Done => say_sheet(r, card),
+        Reply::Refused(x) => {
             say_refusal(x);
             say_none(r, card);
         }
@@ -234,8 +234,8 @@ fn read_readout(s: &[u8]) {
     let read = readout::read_readout(s);
     let v = read.verdict;
     match v {
-        Verdict::Accepted => say(b"accepted\n"),
-        Verdict::Refused(r) => say_refusal(r),
+        Reply::Done => say(b"accepted\n"),
+        Reply::Refused(r) => say_refusal(r),
     }
 }
 

@@ -4,7 +4,7 @@
 // `python3 bench/sheet/cases.py crates/sheet_check`.
 ghost use Prim.Native.Nat.{_<_};
 use libc::STDOUT_FILENO;
-use refusal::Verdict;
+use refusal::Reply;
 
 fn wide(b: u8) -> usize
     ensures { λ r. ⌜ r < 256 ⌝ }
@@ -24,8 +24,8 @@ fn verdict_of(record: &[u8]) -> u32 {
     let read = readout::read_readout(&record[2..n + 2]);
     let v = read.verdict;
     match v {
-        Verdict::Accepted => 0,
-        Verdict::Refused(r) => refusal::number(r),
+        Reply::Done => 0,
+        Reply::Refused(r) => refusal::number(r),
     }
 }
 

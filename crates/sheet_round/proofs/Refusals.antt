@@ -9,8 +9,8 @@ use lib.ListN.{length, set, length-set}
 use borrow.Author.Tests.{le-ltb}
 use Rattle.refusal.specs.declared.Refusal.{Refusal}
 use Rattle.refusal.specs.declared.Refusal.the-variants.{TooLong}
-use Rattle.refusal.specs.declared.Verdict.{Verdict}
-use Rattle.refusal.specs.declared.Verdict.the-variants.{Accepted, Refused}
+use Rattle.refusal.specs.declared.Reply.{Reply}
+use Rattle.refusal.specs.declared.Reply.the-variants.{Done, Refused}
 use Rattle.frame.specs.declared.Header.{Header}
 use Rattle.frame.specs.declared.Frame.{Frame}
 use Rattle.frame.specs.Format.{format, formats}
@@ -46,10 +46,10 @@ altered-sheet-refused card input p b h o e =
     (w .0, lines-refused card (set input p b) (w .0) (ap (ltb 65536) (length-set input p b) ∙ a .0) (w .1))
 
 -- an accepted read-out is not too long, and its lines are accepted
-lined-accepted : (long : Bool) (v : Verdict) (ps : List Page) → cond long (judged (Refused TooLong) []) (lined v ps) .verdict ≡ Accepted → (long ≡ false) × (v ≡ Accepted)
+lined-accepted : (long : Bool) (v : Reply) (ps : List Page) → cond long (judged (Refused TooLong) []) (lined v ps) .verdict ≡ Done → (long ≡ false) × (v ≡ Done)
 lined-accepted true v ps e = let z : _≡_ {A = ℕ} 0 1 = cc in absurd (omega arith)
 lined-accepted false (Refused x) ps e = let z : _≡_ {A = ℕ} 0 1 = cc in absurd (omega arith)
-lined-accepted false Accepted ps e = (refl, refl)
+lined-accepted false Done ps e = (refl, refl)
 
 pub altered-readout-refused : AlteredReadoutRefused
 unfolding pagesRead

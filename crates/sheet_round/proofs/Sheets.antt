@@ -11,8 +11,8 @@ use borrow.Author.Tests.{le-ltb, le-leb, leb-true}
 use Rattle.laws.proofs.Seq.{sets-part}
 use Rattle.laws.proofs.Fill.{length-tabulate}
 use Rattle.refusal.specs.declared.Refusal.the-variants.{TooShort, BadHeader, BadFrame, TooLong}
-use Rattle.refusal.specs.declared.Verdict.{Verdict}
-use Rattle.refusal.specs.declared.Verdict.the-variants.{Accepted, Refused}
+use Rattle.refusal.specs.declared.Reply.{Reply}
+use Rattle.refusal.specs.declared.Reply.the-variants.{Done, Refused}
 use Rattle.frame.specs.declared.Header.{Header}
 use Rattle.frame.specs.Format.{format, formats}
 use Rattle.frame.specs.Lines.{headerAllowed, noFrame}
@@ -41,20 +41,20 @@ record Judged (p : Page) : Type 0 where
   header : headerAllowed format (p .header .card) 0 (p .header) ≡ true
   frames : framesAllowed format (p .header .card) (p .header .cards) (p .header .base + 1) noFrame (p .frames) ≡ true
 
-judged : (p : Page) → pageVerdict p ≡ Accepted → Judged p
+judged : (p : Page) → pageVerdict p ≡ Done → Judged p
 unfolding pageVerdict
 judged p e = by (headerAllowed format (p .header .card) 0 (p .header)) (framesAllowed format (p .header .card) (p .header .cards) (p .header .base + 1) noFrame (p .frames)) refl refl e
   where
-    by : (h f : Bool) → headerAllowed format (p .header .card) 0 (p .header) ≡ h → framesAllowed format (p .header .card) (p .header .cards) (p .header .base + 1) noFrame (p .frames) ≡ f → cond h (cond f Accepted (Refused BadFrame)) (Refused BadHeader) ≡ Accepted → Judged p
+    by : (h f : Bool) → headerAllowed format (p .header .card) 0 (p .header) ≡ h → framesAllowed format (p .header .card) (p .header .cards) (p .header .base + 1) noFrame (p .frames) ≡ f → cond h (cond f Done (Refused BadFrame)) (Refused BadHeader) ≡ Done → Judged p
     by true true x y v = record { header = x; frames = y }
     by true false x y v = let z : _≡_ {A = ℕ} 0 1 = cc in absurd (omega arith)
     by false f x y v = let z : _≡_ {A = ℕ} 0 1 = cc in absurd (omega arith)
 
-judged-accepted : (p : Page) → Judged p → pageVerdict p ≡ Accepted
+judged-accepted : (p : Page) → Judged p → pageVerdict p ≡ Done
 unfolding pageVerdict
 judged-accepted p j = rw (j .header, j .frames)
 
-module _ (r : Readout) (held : Held r) (c : ℕ) (e : pageVerdict (pageOf r c) ≡ Accepted) where
+module _ (r : Readout) (held : Held r) (c : ℕ) (e : pageVerdict (pageOf r c) ≡ Done) where
   abbrev h : Header
   h = headerOf r c
 
@@ -71,7 +71,7 @@ module _ (r : Readout) (held : Held r) (c : ℕ) (e : pageVerdict (pageOf r c) �
         frames = judged (pageOf r c) e .frames;
       }
 
-  read-is : readSheets formats false c (pageBytes formats (pageOf r c)) ≡ record { pages = pageOf r c ∷ []; verdict = Accepted; rest = [] }
+  read-is : readSheets formats false c (pageBytes formats (pageOf r c)) ≡ record { pages = pageOf r c ∷ []; verdict = Done; rest = [] }
   read-is =
       ap (readSheets formats false c) (sym (append-nil (pageBytes formats (pageOf r c)))) ∙ written-reads-back formats formats-sound false c (pageOf r c) [] page-allowed tt refl
 
@@ -79,7 +79,7 @@ module _ (r : Readout) (held : Held r) (c : ℕ) (e : pageVerdict (pageOf r c) �
   bytes-few =
       omega (arith, ap length (rows-bytes (r .changes) (r .entries) h (limits .cards)), sheet-length format (r .changes) (r .entries) h refl (limits .cards), lines-bound (h .count) (4 + 8 + h .cards * 4 + 5) (limits .count) (line-bound 4 (h .cards) (omega arith) (limits .cards)))
 
-  bytes-back : sheetReadOf c (pageBytes formats (pageOf r c)) ≡ record { readout = alone r c; verdict = Accepted }
+  bytes-back : sheetReadOf c (pageBytes formats (pageOf r c)) ≡ record { readout = alone r c; verdict = Done }
   unfolding sheetReadOf
   bytes-back = rw (le-ltb 65536 (length (pageBytes formats (pageOf r c))) bytes-few, read-is)
 
@@ -87,11 +87,11 @@ module _ (r : Readout) (held : Held r) (c : ℕ) (e : pageVerdict (pageOf r c) �
 abbrev front : Bool → List ℕ → List ℕ → Wrote
 front b bytes buffer = cond b (record { answer = Length (length bytes); buffer = sets buffer 0 bytes }) (record { answer = written-refused TooShort; buffer = buffer })
 
-length-written : (v : Verdict) (bytes buffer : List ℕ) (n : ℕ) → wroteBytes v bytes buffer .answer ≡ Length n → (v ≡ Accepted) × (take n (wroteBytes v bytes buffer .buffer) ≡ bytes)
+length-written : (v : Reply) (bytes buffer : List ℕ) (n : ℕ) → wroteBytes v bytes buffer .answer ≡ Length n → (v ≡ Done) × (take n (wroteBytes v bytes buffer .buffer) ≡ bytes)
 length-written (Refused r) bytes buffer n e = let z : _≡_ {A = ℕ} 0 1 = cc in absurd (omega arith)
-length-written Accepted bytes buffer n e = by (leb (length bytes) (length buffer)) refl e
+length-written Done bytes buffer n e = by (leb (length bytes) (length buffer)) refl e
   where
-    by : (b : Bool) → leb (length bytes) (length buffer) ≡ b → front b bytes buffer .answer ≡ Length n → (Accepted ≡ Accepted) × (take n (front b bytes buffer .buffer) ≡ bytes)
+    by : (b : Bool) → leb (length bytes) (length buffer) ≡ b → front b bytes buffer .answer ≡ Length n → (Done ≡ Done) × (take n (front b bytes buffer .buffer) ≡ bytes)
     by true q w =
         let l : length bytes ≡ n = cc in
         let fits : 0 + length bytes ≤ length buffer = omega (arith, leb-true (length bytes) (length buffer) q) in
@@ -104,7 +104,7 @@ written-reads-back-by-value r held c buffer n e =
     let w = length-written (pageVerdict (pageOf r c)) (pageBytes formats (pageOf r c)) buffer n e in
     rw (w .1) (bytes-back r held c (w .0))
 
-verdict-written : (p : Page) (buffer : List ℕ) (n : ℕ) → wrote p buffer .answer ≡ Length n → pageVerdict p ≡ Accepted
+verdict-written : (p : Page) (buffer : List ℕ) (n : ℕ) → wrote p buffer .answer ≡ Length n → pageVerdict p ≡ Done
 unfolding wrote
 verdict-written p buffer n e = length-written (pageVerdict p) (pageBytes formats p) buffer n e .0
 
@@ -113,12 +113,12 @@ page-reads-back r held c buffer n e =
     ap (λ (x : Reading). pageOf (x .readout) c) (written-reads-back-by-value r held c buffer n e) ∙ page-back c (pageOf r c) (page-allowed r held c (verdict-written (pageOf r c) buffer n e))
 
 pub same-reads-back : SameReadsBack
-same-reads-back r held c q buffer n e = written-reads-back-by-value r held c buffer n e ∙ ap (λ (x : Readout). record { readout = x; verdict = Accepted }) q
+same-reads-back r held c q buffer n e = written-reads-back-by-value r held c buffer n e ∙ ap (λ (x : Readout). record { readout = x; verdict = Done }) q
 
 -- ---- read, then written
 
 -- an accepted sheet is not too long, and its lines are accepted
-pub verdict-accepted : (long : Bool) (v : Verdict) → cond long (Refused TooLong) v ≡ Accepted → (long ≡ false) × (v ≡ Accepted)
+pub verdict-accepted : (long : Bool) (v : Reply) → cond long (Refused TooLong) v ≡ Done → (long ≡ false) × (v ≡ Done)
 verdict-accepted true v e = let z : _≡_ {A = ℕ} 0 1 = cc in absurd (omega arith)
 verdict-accepted false v e = (refl, e)
 
@@ -129,10 +129,10 @@ record Read (card : ℕ) (input : List ℕ) : Type 0 where
   bytes : pageBytes formats page ≡ input
   readout : sheetReadOf card input .readout ≡ layPage page noReadout
 
-readout-is : (long : Bool) (v : Verdict) (ps : List Page) (p : Page) → long ≡ false → v ≡ Accepted → ps ≡ p ∷ [] → answered (cond long (Refused TooLong) v) ps .readout ≡ layPage p noReadout
+readout-is : (long : Bool) (v : Reply) (ps : List Page) (p : Page) → long ≡ false → v ≡ Done → ps ≡ p ∷ [] → answered (cond long (Refused TooLong) v) ps .readout ≡ layPage p noReadout
 readout-is long v ps p x y z = rw (x, y, z)
 
-read : (card : ℕ) (input : List ℕ) → sheetReadOf card input .verdict ≡ Accepted → Read card input
+read : (card : ℕ) (input : List ℕ) → sheetReadOf card input .verdict ≡ Done → Read card input
 unfolding sheetReadOf
 read card input e =
     let v = readSheets formats false card input .verdict in
@@ -157,7 +157,7 @@ unfolding wrote
 read-writes-again-by-value card input e buffer l =
     let r = read card input e in
     ap (λ (p : Page). wroteBytes (pageVerdict p) (pageBytes formats p) buffer) (page-is card input r)
-    ∙ ap₂ (λ (v : Verdict) (bytes : List ℕ). wroteBytes v bytes buffer) (judged-accepted (r .page) (page-judged card (r .page) (r .allowed))) (r .bytes)
+    ∙ ap₂ (λ (v : Reply) (bytes : List ℕ). wroteBytes v bytes buffer) (judged-accepted (r .page) (page-judged card (r .page) (r .allowed))) (r .bytes)
     ∙ ap (λ (b : Bool). front b input buffer) (le-leb (length input) (length buffer) l)
 
 pub read-is-alone : ReadIsAlone

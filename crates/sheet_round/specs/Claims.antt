@@ -6,7 +6,7 @@ use lib.ListN.{length, take, getD, set}
 use lib.Seq.{sets}
 use Rattle.refusal.specs.declared.Refusal.{Refusal}
 use Rattle.refusal.specs.declared.Refusal.the-variants.{BadLine, EndOrMore}
-use Rattle.refusal.specs.declared.Verdict.the-variants.{Accepted, Refused}
+use Rattle.refusal.specs.declared.Reply.the-variants.{Done, Refused}
 use Rattle.frame.specs.declared.Header.{Header}
 use Rattle.frame.specs.declared.Frame.{Frame}
 use Rattle.frame.specs.Format.{format, formats}
@@ -33,7 +33,7 @@ alone r c = layPages (pageOf r c ∷ []) noReadout
 -- What the writer wrote of a card's sheet reads back, told that card, as a read-out that holds that sheet alone.
 abbrev pub WrittenReadsBack : Type 0
 WrittenReadsBack =
-    (r : Readout) → Held r → (c : ℕ) (buffer : List ℕ) (n : ℕ) → wrote (pageOf r c) buffer .answer ≡ Length n → sheetReadOf c (take n (wrote (pageOf r c) buffer .buffer)) ≡ record { readout = alone r c; verdict = Accepted }
+    (r : Readout) → Held r → (c : ℕ) (buffer : List ℕ) (n : ℕ) → wrote (pageOf r c) buffer .answer ≡ Length n → sheetReadOf c (take n (wrote (pageOf r c) buffer .buffer)) ≡ record { readout = alone r c; verdict = Done }
 
 -- Its sheet of that card is the very sheet that was written, header and frames.
 abbrev pub PageReadsBack : Type 0
@@ -43,28 +43,28 @@ PageReadsBack =
 -- The very same read-out, where it holds that sheet alone.
 abbrev pub SameReadsBack : Type 0
 SameReadsBack =
-    (r : Readout) → Held r → (c : ℕ) → alone r c ≡ r → (buffer : List ℕ) (n : ℕ) → wrote (pageOf r c) buffer .answer ≡ Length n → sheetReadOf c (take n (wrote (pageOf r c) buffer .buffer)) ≡ record { readout = r; verdict = Accepted }
+    (r : Readout) → Held r → (c : ℕ) → alone r c ≡ r → (buffer : List ℕ) (n : ℕ) → wrote (pageOf r c) buffer .answer ≡ Length n → sheetReadOf c (take n (wrote (pageOf r c) buffer .buffer)) ≡ record { readout = r; verdict = Done }
 
 -- Bytes that the reader accepts are the very bytes that the writer makes of the read-out answered.
 abbrev pub ReadWritesAgain : Type 0
 ReadWritesAgain =
-    (card : ℕ) (input : List ℕ) → sheetReadOf card input .verdict ≡ Accepted → (buffer : List ℕ) → length input ≤ length buffer → wrote (pageOf (sheetReadOf card input .readout) card) buffer ≡ record { answer = Length (length input); buffer = sets buffer 0 input }
+    (card : ℕ) (input : List ℕ) → sheetReadOf card input .verdict ≡ Done → (buffer : List ℕ) → length input ≤ length buffer → wrote (pageOf (sheetReadOf card input .readout) card) buffer ≡ record { answer = Length (length input); buffer = sets buffer 0 input }
 
 -- The read-out answered is as the code holds one, and holds that sheet alone.
 abbrev pub ReadIsAlone : Type 0
-ReadIsAlone = (card : ℕ) (input : List ℕ) → sheetReadOf card input .verdict ≡ Accepted → Held (sheetReadOf card input .readout) × (alone (sheetReadOf card input .readout) card ≡ sheetReadOf card input .readout)
+ReadIsAlone = (card : ℕ) (input : List ℕ) → sheetReadOf card input .verdict ≡ Done → Held (sheetReadOf card input .readout) × (alone (sheetReadOf card input .readout) card ≡ sheetReadOf card input .readout)
 
 -- ---- what is refused
 
 -- One altered byte in an accepted sheet is refused, whichever byte, whatever it becomes, and the read-out of zeros is handed back.
 abbrev pub AlteredSheetRefused : Type 0
 AlteredSheetRefused =
-    (card : ℕ) (input : List ℕ) (p b : ℕ) → p < length input → (b ≡ getD input p 0 → ⊥) → sheetReadOf card input .verdict ≡ Accepted → (r : Refusal) × (sheetReadOf card (set input p b) ≡ record { readout = noReadout; verdict = Refused r })
+    (card : ℕ) (input : List ℕ) (p b : ℕ) → p < length input → (b ≡ getD input p 0 → ⊥) → sheetReadOf card input .verdict ≡ Done → (r : Refusal) × (sheetReadOf card (set input p b) ≡ record { readout = noReadout; verdict = Refused r })
 
 -- So is one in an accepted read-out.
 abbrev pub AlteredReadoutRefused : Type 0
 AlteredReadoutRefused =
-    (input : List ℕ) (p b : ℕ) → p < length input → (b ≡ getD input p 0 → ⊥) → readoutOf input .verdict ≡ Accepted → (r : Refusal) × (readoutOf (set input p b) ≡ record { readout = noReadout; verdict = Refused r })
+    (input : List ℕ) (p b : ℕ) → p < length input → (b ≡ getD input p 0 → ⊥) → readoutOf input .verdict ≡ Done → (r : Refusal) × (readoutOf (set input p b) ≡ record { readout = noReadout; verdict = Refused r })
 
 -- A sheet that declares one frame more than it has is refused by what stands where that frame is due, and nothing of the sheet is answered.
 abbrev pub ShortSheetRefused : Type 0

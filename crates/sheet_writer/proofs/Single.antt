@@ -9,7 +9,7 @@ use lib.ListN.{getD}
 use Rattle.laws.specs.Below.{tabulate, allBelow}
 use Rattle.laws.proofs.Below.{all-same}
 use Rattle.refusal.specs.declared.Refusal.the-variants.{BadHeader, BadFrame}
-use Rattle.refusal.specs.declared.Verdict.the-variants.{Accepted}
+use Rattle.refusal.specs.declared.Reply.the-variants.{Done}
 use Rattle.frame.specs.declared.Header.{Header}
 use Rattle.frame.specs.declared.Frame.{Frame}
 use Rattle.frame.specs.Format.{Format, formats}
@@ -116,9 +116,9 @@ module _ (changes entries : List ℕ) (h : Header) (b : List ℕ) {f : Format} {
     unfolding wrote pageVerdict
     told-9 q = rw (header-is, t, frames-is, q) (refl, refl)
 
-    passes : frames ≡ true → wrote (ringPage changes entries h) b ≡ wroteBytes Accepted (pageBytes formats (ringPage changes entries h)) b
+    passes : frames ≡ true → wrote (ringPage changes entries h) b ≡ wroteBytes Done (pageBytes formats (ringPage changes entries h)) b
     unfolding wrote pageVerdict
     passes q = rw (header-is, t, frames-is, q)
 
-    pub told-passed : {answer : Written} {after : List ℕ} → frames ≡ true → Told (wroteBytes Accepted (pageBytes formats (ringPage changes entries h)) b) answer after → Told (wrote (ringPage changes entries h) b) answer after
-    told-passed q = told-by (wroteBytes Accepted (pageBytes formats (ringPage changes entries h)) b) (wrote (ringPage changes entries h) b) (passes q)
+    pub told-passed : {answer : Written} {after : List ℕ} → frames ≡ true → Told (wroteBytes Done (pageBytes formats (ringPage changes entries h)) b) answer after → Told (wrote (ringPage changes entries h) b) answer after
+    told-passed q = told-by (wroteBytes Done (pageBytes formats (ringPage changes entries h)) b) (wrote (ringPage changes entries h) b) (passes q)

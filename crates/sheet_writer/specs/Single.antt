@@ -3,8 +3,8 @@ use Prim.Native.Nat.{ℕ, _+_}
 use mathlib.Core.Bool.{cond}
 use mathlib.Core.List.{List}
 use Rattle.refusal.specs.declared.Refusal.the-variants.{BadHeader, BadFrame}
-use Rattle.refusal.specs.declared.Verdict.{Verdict}
-use Rattle.refusal.specs.declared.Verdict.the-variants.{Accepted, Refused}
+use Rattle.refusal.specs.declared.Reply.{Reply}
+use Rattle.refusal.specs.declared.Reply.the-variants.{Done, Refused}
 use Rattle.frame.specs.Format.{formats}
 use Rattle.frame.specs.Lines.{cardsOf, formatFor, headerAllowed, noFrame}
 use Rattle.sheet.specs.Pages.{Page, pageBytes}
@@ -12,10 +12,10 @@ use Rattle.sheet.specs.Allowed.{framesAllowed}
 use Rattle.write.specs.Write.{Wrote, wroteBytes}
 
 -- a sheet that is no sheet is refused with the number that the reader would give
-unfoldable pub pageVerdict : Page → Verdict
+unfoldable pub pageVerdict : Page → Reply
 pageVerdict p =
     cond (headerAllowed (formatFor formats (p .header)) (p .header .card) 0 (p .header))
-    (cond (framesAllowed (formatFor formats (p .header)) (p .header .card) (cardsOf (formatFor formats (p .header)) (p .header)) (p .header .base + 1) noFrame (p .frames)) Accepted (Refused BadFrame)) (Refused BadHeader)
+    (cond (framesAllowed (formatFor formats (p .header)) (p .header .card) (cardsOf (formatFor formats (p .header)) (p .header)) (p .header .base + 1) noFrame (p .frames)) Done (Refused BadFrame)) (Refused BadHeader)
 
 -- 7, then 9, then 4
 unfoldable pub wrote : Page → List ℕ → Wrote

@@ -9,7 +9,7 @@ use lib.ListN.{length, take}
 use borrow.Author.Tests.{le-ltb, ltb-true}
 use Rattle.laws.proofs.Logic.{and-left, and-right, cond-case}
 use Rattle.refusal.specs.declared.Refusal.the-variants.{NoSuchCard, TooShort, BadCabinet}
-use Rattle.refusal.specs.declared.Verdict.the-variants.{Accepted}
+use Rattle.refusal.specs.declared.Reply.the-variants.{Done}
 use Rattle.bits.specs.Member.{member}
 use Rattle.frame.specs.Format.{format, formats}
 use Rattle.sheet.specs.declared.Reading.{Reading}
@@ -41,10 +41,10 @@ module _ (n c : ℕ) (p : Page) (few : n ≤ 16) (here : c < n) (s : SheetOf for
   allowed : Allowed format c 0 p
   allowed = allowed-of n c 0 p s here few refl
 
-  lines-back : readSheets formats false c (pageBytes formats p) ≡ record { pages = p ∷ []; verdict = Accepted; rest = [] }
+  lines-back : readSheets formats false c (pageBytes formats p) ≡ record { pages = p ∷ []; verdict = Done; rest = [] }
   lines-back = ap (readSheets formats false c) (sym (append-nil (pageBytes formats p))) ∙ written-reads-back formats formats-sound false c p [] allowed tt refl
 
-  sheet-back : sheetReadOf c (pageBytes formats p) ≡ record { readout = layPages (p ∷ []) noReadout; verdict = Accepted }
+  sheet-back : sheetReadOf c (pageBytes formats p) ≡ record { readout = layPages (p ∷ []) noReadout; verdict = Done }
   unfolding sheetReadOf
   sheet-back = rw (le-ltb 65536 (length (pageBytes formats p)) (omega (arith, sheet-few n c p few s)), lines-back)
 

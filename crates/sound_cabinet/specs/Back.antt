@@ -4,7 +4,7 @@ use mathlib.Core.Path.{_≡_}
 use mathlib.Core.Bool.{true}
 use mathlib.Core.List.{List, [], _∷_}
 use lib.ListN.{take, getD}
-use Rattle.refusal.specs.declared.Verdict.the-variants.{Accepted}
+use Rattle.refusal.specs.declared.Reply.the-variants.{Done}
 use Rattle.frame.specs.Format.{formats}
 use Rattle.sheet.specs.Pages.{pageBytes}
 use Rattle.sheet.specs.Walk.{noReadout, layPages}
@@ -25,7 +25,7 @@ pub record Held (s : Cabinet) : Type 0 where
 
 -- told card c, the reader accepts the bytes and answers a read-out that holds card c's sheet alone; and that sheet is the cabinet's: its header, and its frames from base + 1 to stored
 pub record SheetReadsBack (s : Cabinet) (c : ℕ) (bytes : List ℕ) : Type 0 where
-  pub accepted : sheetReadOf c bytes ≡ record { readout = layPages (sheetOf limits16 (view s) c ∷ []) noReadout; verdict = Accepted }
+  pub accepted : sheetReadOf c bytes ≡ record { readout = layPages (sheetOf limits16 (view s) c ∷ []) noReadout; verdict = Done }
   pub sheet : pageOf (sheetReadOf c bytes .readout) c ≡ sheetOf limits16 (view s) c
 
 -- of every cabinet that 28 lets pass and each of its cards, in every phase

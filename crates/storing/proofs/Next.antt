@@ -7,7 +7,7 @@ use Rattle.protocol.specs.Model.{Model, isCard, freePlace}
 use Rattle.protocol.specs.Calls.{storeChecks}
 use Rattle.refusal.specs.declared.Refusal.the-variants.{BadCabinet, NoSuchCard}
 use Rattle.protocol.specs.Edit.{Edit, remembered}
-use Rattle.verdicts.specs.declared.Reply.the-variants.{Done}
+use Rattle.refusal.specs.declared.Reply.the-variants.{Done}
 use Rattle.verdicts.specs.Answers.{firstFailing, rest, after28}
 use Rattle.verdicts.specs.Shape.{inPhase, limits16, at, openAt, listOf, placeFor, withHead, withPlaces, withNumbers}
 use Rattle.history.specs.Change.{CardSet}

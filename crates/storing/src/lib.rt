@@ -3,10 +3,10 @@ ghost use Rattle.bits.specs.Member.{member};
 ghost use Rattle.verdicts.specs.Answers.{replyOf};
 ghost use Rattle.verdicts.specs.Applied.{CoreCarried};
 ghost use Rattle.carried.specs.Plans.{storeOn, loseOn};
+use refusal::Reply;
 use verdicts::Core;
 use verdicts::CoreAnswer;
 use verdicts::Phase;
-use verdicts::Reply;
 
 // 5. store
 pub fn store(sound: bool, mut core: Core, card: u32, state: u32) -> CoreAnswer

@@ -19,8 +19,8 @@ use Rattle.history.specs.Vector.{joined}
 use Rattle.verdicts.specs.declared.Place.{Place}
 use Rattle.verdicts.specs.declared.Vector.{Vector}
 use Rattle.verdicts.specs.declared.Core.{Core}
-use Rattle.verdicts.specs.declared.Reply.{Reply}
-use Rattle.verdicts.specs.declared.Reply.the-variants.{Done, Refused}
+use Rattle.refusal.specs.declared.Reply.{Reply}
+use Rattle.refusal.specs.declared.Reply.the-variants.{Done, Refused}
 use Rattle.verdicts.specs.Answers.{replyOf, firstFailing, after28}
 use Rattle.verdicts.specs.Shape.{limits16, at, listOf, vectorAt, vectorFor, ringPlace, openOf, openAt, placeFor, withVectors, withNumbers, withPlaces}
 use Rattle.verdicts.specs.Applied.{appliedAll, entriesAll, makersAll}

@@ -10,7 +10,7 @@ use Rattle.protocol.specs.Sound.{sound}
 use Rattle.protocol.specs.Calls.{takeChecks}
 use Rattle.refusal.specs.declared.Refusal.the-variants.{BadCabinet, NoSuchCard, WrongPhase, NotAwaited, NotDecided}
 use Rattle.protocol.specs.Plan.{Check}
-use Rattle.verdicts.specs.declared.Reply.the-variants.{Done}
+use Rattle.refusal.specs.declared.Reply.the-variants.{Done}
 use Rattle.verdicts.specs.Answers.{firstFailing, rest}
 use Rattle.verdicts.specs.Shape.{limits16}
 use Rattle.history.specs.Change.{touches}

@@ -4,8 +4,8 @@ ghost use mathlib.Core.Bool.{true};
 ghost use Rattle.verdicts.specs.Answers.{replyOf};
 ghost use Rattle.carried.specs.Plans.{Stands, TakeCarriedOn};
 use limits::Limits;
+use refusal::Reply;
 use verdicts::Core;
-use verdicts::Reply;
 use verdicts::Vector;
 
 // What take hands back: besides core and reply the frame that the card has made, with state 0 for none.

@@ -11,7 +11,7 @@ use lib.ListN.{length, getD}
 use borrow.Author.Tests.{lt-ltb, le-ltb, eq-eqb, eqb-true, ltb-true}
 use Rattle.laws.specs.Below.{anyBelow, tabulate}
 use Rattle.laws.proofs.Logic.{test, clash, fails, and-intro, and-left, and-right, not-true, not-intro, cond-true, cond-false}
-use Rattle.laws.proofs.Below.{Found, all-at, all-intro, all-same, any-intro, any-elim, first-below, first-passes}
+use Rattle.laws.proofs.Below.{Found, all-at, all-intro, all-same, any-intro, any-elim, first-below, first-at}
 use Rattle.laws.proofs.Fill.{length-tabulate, getD-tabulate}
 use Rattle.merge.specs.Merge.{at, maker, headNumbers, leastOf, allPast, Rises, cardAhead, ahead, NextOf, Passed}
 use Rattle.merge.proofs.Walk.{head-is, head-at, walk-start, walk-next, walk-past, walk-low}
@@ -98,7 +98,7 @@ module _ (entries heads passed : List ℕ) (n k : ℕ) where
           pair l q = ordered (q .0) (q .1) (eqb-true (at heads (q .0)) k (and-left (eqb (at heads (q .0)) k) (not (sameEntries entries n (place (q .0)) (place first))) (q .2))) (not-true (sameEntries entries n (place (q .0)) (place first)) (and-right (eqb (at heads (q .0)) k) (not (sameEntries entries n (place (q .0)) (place first))) (q .2)))
             where
               f-head : at heads (firstWith heads k) ≡ k
-              f-head = eqb-true (at heads (firstWith heads k)) k (first-passes 16 (λ c. eqb (at heads c) k) l)
+              f-head = eqb-true (at heads (firstWith heads k)) k (first-at 16 (λ c. eqb (at heads c) k) l)
 
               ordered : (c : ℕ) → c < 16 → at heads c ≡ k → sameEntries entries n (place c) (place first) ≡ false → Two
               ordered c h g d =

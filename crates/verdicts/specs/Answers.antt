@@ -3,19 +3,15 @@ use mathlib.Core.Bool.{Bool, cond}
 use mathlib.Core.List.{List, [], _∷_}
 use Rattle.refusal.specs.declared.Refusal.{Refusal}
 use Rattle.refusal.specs.declared.Refusal.the-variants.{BadCabinet}
-use Rattle.protocol.specs.Plan.{done, opened, safe, unsafe, Check, _⇒_, accepted, refused}
+use Rattle.protocol.specs.Plan.{opened, safe, unsafe, Check, _⇒_, accepted, refused}
+pub use Rattle.protocol.specs.Plan.{replyOf}
 use Rattle.protocol.specs.Plan as plan
-use Rattle.verdicts.specs.declared.Reply.{Reply}
-use Rattle.verdicts.specs.declared.Reply.the-variants.{Done, Refused}
+use Rattle.refusal.specs.declared.Reply.{Reply}
+use Rattle.refusal.specs.declared.Reply.the-variants.{Done, Refused}
 use Rattle.verdicts.specs.declared.OpenReply.{OpenReply}
 use Rattle.verdicts.specs.declared.OpenReply.the-variants as openReply
 use Rattle.verdicts.specs.declared.SafeReply.{SafeReply}
 use Rattle.verdicts.specs.declared.SafeReply.the-variants as safeReply
-
--- the answer of a call that answers nothing but that it was accepted
-abbrev pub replyOf : Reply → plan.Reply
-replyOf Done = accepted done
-replyOf (Refused r) = refused r
 
 -- open: the number of the change
 abbrev pub openReplyOf : OpenReply → plan.Reply

@@ -4,6 +4,7 @@ ghost use Rattle.protocol.specs.Model.{isUp, isDown, isRolling, freePlace};
 ghost use Rattle.verdicts.specs.Shape.{phaseOf, at, placeFor, headOf, inPhase, counted, blankCore};
 use limits::Limits;
 use refusal::Refusal;
+use refusal::Reply;
 
 pub enum Phase {
     Up,
@@ -69,12 +70,6 @@ pub struct Core {
 pub struct CoreAnswer {
     pub core: Core,
     pub reply: Reply,
-}
-
-// The answer of a call that answers nothing but that it was accepted.
-pub enum Reply {
-    Done,
-    Refused(Refusal),
 }
 
 // A head whose change numbers start at 1.

@@ -12,7 +12,7 @@ use Rattle.protocol.specs.Sound.{sound}
 use Rattle.protocol.specs.Calls.{voteChecks, withdrawChecks, openChecks, barred, someWritten, openedChange}
 use Rattle.refusal.specs.declared.Refusal.the-variants.{BadCabinet, NoSuchCard, BothSetsEmpty, WrongPhase, Barred, NoPlace, InHandFull, LimitReached, NotAwaited, AlreadyDecided}
 use Rattle.protocol.specs.Plan.{Check}
-use Rattle.verdicts.specs.declared.Reply.the-variants.{Done}
+use Rattle.refusal.specs.declared.Reply.the-variants.{Done}
 use Rattle.verdicts.specs.Answers.{firstFailing, rest, after28}
 use Rattle.verdicts.specs.Shape.{counted, limits16, placeFor, withHead, withPlaces}
 use Rattle.verdicts.proofs.Limits.{places8, greatestNumber32}

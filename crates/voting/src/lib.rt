@@ -4,10 +4,10 @@ ghost use mathlib.Core.Bool.{true};
 ghost use Rattle.verdicts.specs.Answers.{replyOf, openReplyOf};
 ghost use Rattle.verdicts.specs.Applied.{CoreCarried};
 ghost use Rattle.carried.specs.Plans.{Stands, OpenCarriedOn, voteOn, withdrawOn};
+use refusal::Reply;
 use verdicts::Core;
 use verdicts::CoreAnswer;
 use verdicts::OpenReply;
-use verdicts::Reply;
 
 // What open hands back.
 pub struct OpenedCore {
@@ -23,13 +23,13 @@ pub fn open(sound: bool, mut core: Core, reads: u16, writes: u16) -> OpenedCore
     let base = core.base;
     let reached = core.reached;
     let head = core.head;
-    let r = changes::open_verdict(sound, head, places, base, reached, reads, writes);
+    let r = opening::open_verdict(sound, head, places, base, reached, reads, writes);
     let answer = parts::open_answer(r, head.count);
     match r {
         Reply::Done => {
             let at = places::free_at(places);
             let k = head.count + 1;
-            let o = changes::opened(k, reads, writes);
+            let o = opening::opened(k, reads, writes);
             core.places[at] = o;
             let h = verdicts::counted(head, k);
             core.head = h;

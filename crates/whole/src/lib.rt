@@ -9,10 +9,10 @@ ghost use Rattle.answers.specs.Show.{showText};
 use limits::Limits;
 use recovery::FixReply;
 use refusal::Refusal;
+use refusal::Reply;
 use text::Progress;
 use verdicts::Head;
 use verdicts::OpenReply;
-use verdicts::Reply;
 use verdicts::SafeReply;
 use write::Written;
 

@@ -12,7 +12,7 @@ use Rattle.laws.specs.Below.{tabulate}
 use Rattle.laws.proofs.Seq.{sets-append}
 use Rattle.laws.proofs.Fill.{length-tabulate, getD-tabulate}
 use Rattle.refusal.specs.declared.Refusal.the-variants.{TooShort}
-use Rattle.refusal.specs.declared.Verdict.the-variants.{Accepted}
+use Rattle.refusal.specs.declared.Reply.the-variants.{Done}
 use Rattle.digits.specs.declared.Sums.{Sums}
 use Rattle.digits.specs.Digits.{digits, written}
 use Rattle.digits.specs.Line.{lineOf}
@@ -181,10 +181,10 @@ module _ (changes entries : List ℕ) (h : Header) (few : cardsOf (formatFor for
 
 -- ---- the writer's answer
 
-pub wrote-short : (bytes b : List ℕ) (n : ℕ) → length bytes ≡ n → length b < n → wroteBytes Accepted bytes b ≡ record { answer = written-refused TooShort; buffer = b }
+pub wrote-short : (bytes b : List ℕ) (n : ℕ) → length bytes ≡ n → length b < n → wroteBytes Done bytes b ≡ record { answer = written-refused TooShort; buffer = b }
 wrote-short bytes b n e h = rw (lt-leb (length bytes) (length b) (omega arith))
 
-pub wrote-whole : (bytes b : List ℕ) (n : ℕ) → length bytes ≡ n → n ≤ length b → wroteBytes Accepted bytes b ≡ record { answer = Length n; buffer = sets b 0 bytes }
+pub wrote-whole : (bytes b : List ℕ) (n : ℕ) → length bytes ≡ n → n ≤ length b → wroteBytes Done bytes b ≡ record { answer = Length n; buffer = sets b 0 bytes }
 wrote-whole bytes b n e h = rw (le-leb (length bytes) (length b) (omega arith), e)
 
 -- an answer and the buffer behind it, told by a record
@@ -194,16 +194,16 @@ Told w answer after = (answer ≡ w .answer) × (after ≡ w .buffer)
 pub told-by : (w v : Wrote) {answer : Written} {after : List ℕ} → v ≡ w → Told w answer after → Told v answer after
 told-by w v e t = (t .0 ∙ ap (λ (x : Wrote). x .answer) (sym e), t .1 ∙ ap (λ (x : Wrote). x .buffer) (sym e))
 
-pub told-short : (bytes b : List ℕ) (n : ℕ) → length bytes ≡ n → length b < n → Told (wroteBytes Accepted bytes b) (written-refused TooShort) b
-told-short bytes b n e h = told-by (record { answer = written-refused TooShort; buffer = b }) (wroteBytes Accepted bytes b) (wrote-short bytes b n e h) (refl, refl)
+pub told-short : (bytes b : List ℕ) (n : ℕ) → length bytes ≡ n → length b < n → Told (wroteBytes Done bytes b) (written-refused TooShort) b
+told-short bytes b n e h = told-by (record { answer = written-refused TooShort; buffer = b }) (wroteBytes Done bytes b) (wrote-short bytes b n e h) (refl, refl)
 
-pub told-whole : (bytes b : List ℕ) (n : ℕ) {after : List ℕ} → length bytes ≡ n → n ≤ length b → after ≡ sets b 0 bytes → Told (wroteBytes Accepted bytes b) (Length n) after
-told-whole bytes b n e h a = told-by (record { answer = Length n; buffer = sets b 0 bytes }) (wroteBytes Accepted bytes b) (wrote-whole bytes b n e h) (refl, a)
+pub told-whole : (bytes b : List ℕ) (n : ℕ) {after : List ℕ} → length bytes ≡ n → n ≤ length b → after ≡ sets b 0 bytes → Told (wroteBytes Done bytes b) (Length n) after
+told-whole bytes b n e h a = told-by (record { answer = Length n; buffer = sets b 0 bytes }) (wroteBytes Done bytes b) (wrote-whole bytes b n e h) (refl, a)
 
 -- the sheet with 16 entries in each frame, in the format that its header picks
 pub told-page : (changes entries : List ℕ) (h : Header) (b : List ℕ) (f : Format) {answer : Written} {after : List ℕ} → f ≡ formatFor formats h → headerAllowed (formatFor formats h) (h .card) 0 h ≡ true
-    → Told (wroteBytes Accepted (bytesIn f (ringRows changes entries h)) b) answer after → Told (wroteBytes Accepted (pageBytes formats (ringPage changes entries h)) b) answer after
+    → Told (wroteBytes Done (bytesIn f (ringRows changes entries h)) b) answer after → Told (wroteBytes Done (pageBytes formats (ringPage changes entries h)) b) answer after
 told-page changes entries h b f e p t =
     let l = header-limits (formatFor formats h) (h .card) 0 h p in
-    told-by (wroteBytes Accepted (bytesIn f (ringRows changes entries h)) b) (wroteBytes Accepted (pageBytes formats (ringPage changes entries h)) b)
-    (ap (λ (bytes : List ℕ). wroteBytes Accepted bytes b) (sym (ap (λ (g : Format). bytesIn g (ringRows changes entries h)) e ∙ rows-bytes changes entries h (l .cards)))) t
+    told-by (wroteBytes Done (bytesIn f (ringRows changes entries h)) b) (wroteBytes Done (pageBytes formats (ringPage changes entries h)) b)
+    (ap (λ (bytes : List ℕ). wroteBytes Done bytes b) (sym (ap (λ (g : Format). bytesIn g (ringRows changes entries h)) e ∙ rows-bytes changes entries h (l .cards)))) t

@@ -8,8 +8,8 @@ use lib.Seq.{sets}
 use Rattle.limits.specs.Document.{mostCards}
 use Rattle.laws.specs.Below.{tabulate}
 use Rattle.refusal.specs.declared.Refusal.the-variants.{TooShort}
-use Rattle.refusal.specs.declared.Verdict.{Verdict}
-use Rattle.refusal.specs.declared.Verdict.the-variants.{Accepted, Refused}
+use Rattle.refusal.specs.declared.Reply.{Reply}
+use Rattle.refusal.specs.declared.Reply.the-variants.{Done, Refused}
 use Rattle.frame.specs.declared.Header.{Header}
 use Rattle.sheet.specs.Pages.{Page}
 use Rattle.sheet.specs.Ring.{ringFrame}
@@ -22,9 +22,9 @@ pub record Wrote : Type 0 where
   pub buffer : List ℕ
 
 -- the bytes at the front of the buffer, where they are to be written and it is long enough for the whole; else the buffer as it was
-abbrev pub wroteBytes : Verdict → List ℕ → List ℕ → Wrote
+abbrev pub wroteBytes : Reply → List ℕ → List ℕ → Wrote
 wroteBytes (Refused r) bytes buffer = record { answer = written-refused r; buffer = buffer }
-wroteBytes Accepted bytes buffer =
+wroteBytes Done bytes buffer =
     cond (leb (length bytes) (length buffer)) (record { answer = Length (length bytes); buffer = sets buffer 0 bytes }) (record { answer = written-refused TooShort; buffer = buffer })
 
 -- the sheet that a ring holds for a header, each frame with all 16 entries of its place: as many are looked at as there are cards

@@ -9,7 +9,7 @@ ghost use Rattle.frame.specs.Format.{formats, formatOf, Fits};
 ghost use Rattle.frame.specs.Lines.{cardsOf, formatFor, headerDigits, frameDigits, headerAllowed};
 ghost use Rattle.sheet.specs.Pages.{bytesIn, pageBytes};
 ghost use Rattle.sheet.specs.Ring.{ringFrame, ringPage};
-ghost use Rattle.refusal.specs.declared.Verdict.the-variants.{Accepted};
+ghost use Rattle.refusal.specs.declared.Reply.the-variants.{Done};
 ghost use Rattle.write.specs.Write.{ringRows, wroteBytes};
 use frame::Frame;
 use frame::Header;
@@ -94,7 +94,7 @@ fn write_in<'a, 'b>(
     h: Header,
 ) -> Written
     requires { ⌜ Fits f × (headerAllowed (formatOf f) (h .card) 0 h ≡ true) ⌝ }
-    ensures { λ r. ⌜ (r ≡ wroteBytes Accepted (bytesIn (formatOf f) (ringRows (now (changes .entry)) (now (entries .entry)) h)) (now (b .entry)) .answer) × (now (b .exit) ≡ wroteBytes Accepted (bytesIn (formatOf f) (ringRows (now (changes .entry)) (now (entries .entry)) h)) (now (b .entry)) .buffer) ⌝ }
+    ensures { λ r. ⌜ (r ≡ wroteBytes Done (bytesIn (formatOf f) (ringRows (now (changes .entry)) (now (entries .entry)) h)) (now (b .entry)) .answer) × (now (b .exit) ≡ wroteBytes Done (bytesIn (formatOf f) (ringRows (now (changes .entry)) (now (entries .entry)) h)) (now (b .entry)) .buffer) ⌝ }
 {
     let width = f.width;
     let count = h.count;
@@ -115,7 +115,7 @@ pub fn write_page<'a, 'b>(
     h: Header,
 ) -> Written
     requires { ⌜ headerAllowed (formatFor formats h) (h .card) 0 h ≡ true ⌝ }
-    ensures { λ r. ⌜ (r ≡ wroteBytes Accepted (pageBytes formats (ringPage (now (changes .entry)) (now (entries .entry)) h)) (now (b .entry)) .answer) × (now (b .exit) ≡ wroteBytes Accepted (pageBytes formats (ringPage (now (changes .entry)) (now (entries .entry)) h)) (now (b .entry)) .buffer) ⌝ }
+    ensures { λ r. ⌜ (r ≡ wroteBytes Done (pageBytes formats (ringPage (now (changes .entry)) (now (entries .entry)) h)) (now (b .entry)) .answer) × (now (b .exit) ≡ wroteBytes Done (pageBytes formats (ringPage (now (changes .entry)) (now (entries .entry)) h)) (now (b .entry)) .buffer) ⌝ }
 {
     let f = frame::layout_of(h.cards);
     write_in(f, b, changes, entries, h)

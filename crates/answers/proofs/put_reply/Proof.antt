@@ -1,6 +1,6 @@
 -- `answers::put_reply` writes the answer of a call that answers nothing but acceptance. Assumes nothing.
 use mathlib.Core.Path.{sym, ap}
-use Rattle.verdicts.specs.declared.Reply.{Reply}
+use Rattle.refusal.specs.declared.Reply.{Reply}
 use Rattle.verdicts.specs.Answers.{replyOf}
 use Rattle.answers.specs.Texts.{replyText}
 use Rattle.text.proofs.Puts.{put-as}

@@ -3,7 +3,7 @@ use Rattle.protocol.specs.Model.{OpenChange, placeOf}
 use Rattle.protocol.specs.Calls.{voteChecks}
 use Rattle.protocol.specs.Plan.{Check}
 use Rattle.verdicts.specs.Shape.{placesModel}
-use Rattle.verdicts.specs.declared.Reply.the-variants.{Done}
+use Rattle.refusal.specs.declared.Reply.the-variants.{Done}
 use Rattle.verdicts.specs.Answers.{after28}
 use Rattle.verdicts.proofs.Checks.{folded, folded-first}
 use Rattle.protocol.specs.Model.{decided}

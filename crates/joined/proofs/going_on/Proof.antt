@@ -1,6 +1,6 @@
 -- `joined::going_on` hands back the cabinet to go on with. Assumes nothing.
 use mathlib.Core.Path.{refl, sym, ap}
-use Rattle.verdicts.specs.declared.Reply.{Reply}
+use Rattle.refusal.specs.declared.Reply.{Reply}
 use Rattle.verdicts.specs.Answers.{replyOf}
 use Rattle.joined.specs.Joined.{goingOn}
 use borrow.Author.Needs.{needs}

@@ -4,7 +4,7 @@ use Rattle.protocol.specs.Model.{strays}
 use Rattle.protocol.specs.Calls.{loseChecks}
 use Rattle.protocol.specs.Plan.{Check}
 use Rattle.verdicts.specs.Shape.{headModel}
-use Rattle.verdicts.specs.declared.Reply.the-variants.{Done}
+use Rattle.refusal.specs.declared.Reply.the-variants.{Done}
 use Rattle.verdicts.specs.Answers.{after28}
 use Rattle.verdicts.proofs.Checks.{folded, folded-first}
 use Rattle.bits.specs.Member.{member}

@@ -1,7 +1,7 @@
 use Rattle.protocol.specs.Calls.{storeChecks}
 use Rattle.protocol.specs.Plan.{Check}
 use Rattle.verdicts.specs.Shape.{numbersModel}
-use Rattle.verdicts.specs.declared.Reply.the-variants.{Done}
+use Rattle.refusal.specs.declared.Reply.the-variants.{Done}
 use Rattle.verdicts.specs.Answers.{after28}
 use Rattle.verdicts.proofs.Checks.{folded, folded-first}
 use Rattle.verdicts.specs.Shape.{limits16, at}

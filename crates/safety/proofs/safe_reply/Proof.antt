@@ -1,27 +1,22 @@
 use Rattle.safety.specs.Known.{gradedOf}
 use Rattle.safety.proofs.Window.{graded-first, window}
-use Rattle.protocol.specs.Model.{Model, OpenChange, placeOf, awaitsWrite}
-use Rattle.protocol.specs.Calls.{safeChecks, isSafe, someFrameAbove, hasFrame, writesLeft}
+use Rattle.protocol.specs.Model.{Model, placeOf, awaitsWrite}
+use Rattle.protocol.specs.Calls.{safeChecks, isSafe, someFrameAbove}
 use Rattle.verdicts.specs.Answers.{rest}
 use Rattle.protocol.specs.Plan.{Check, checked, safe, unsafe}
-use Rattle.verdicts.specs.declared.Reply.{Reply}
-use Rattle.verdicts.specs.declared.Reply.the-variants.{Done}
+use Rattle.refusal.specs.declared.Reply.{Reply}
+use Rattle.refusal.specs.declared.Reply.the-variants.{Done}
 use Rattle.verdicts.specs.Answers.{after28}
 use Rattle.verdicts.proofs.Checks.{folded, folded-first}
-use borrow.Author.Tests.{ltb-true, not-false}
-use Rattle.verdicts.specs.Shape.{limits16, at, ringMaker, openOf, openAt, bare, withPlaces, withNumbers, modelOf}
-use Rattle.verdicts.proofs.Limits.{width16, places8}
-use Rattle.laws.proofs.Fill.{AnySoFar, any-none, any-more, any-done}
-use Rattle.laws.specs.Below.{anyBelow}
-use Prim.Native.Nat.{ℕ, zero, suc, _+_, _*_, _-_, _/_, _%_, _^_, _≤_, _<_, max}
-use mathlib.Core.Path.{_≡_, refl, sym, _∙_, ap, ap₂}
-use mathlib.Core.Bool.{Bool, true, false, not, _&&_, _||_, cond}
-use mathlib.Core.List.{List, [], _∷_}
-use mathlib.Core.Logic.{⊎-elim, by-cases, inl, inr}
-use native.Mathlib.Numerals.{add-one}
+use borrow.Author.Tests.{not-false}
+use Rattle.verdicts.specs.Shape.{limits16, at, openOf, openAt, bare, withPlaces, withNumbers, modelOf}
+use Rattle.verdicts.proofs.Limits.{places8}
+use Prim.Native.Nat.{ℕ, _-_}
+use mathlib.Core.Path.{_≡_, sym, _∙_, ap, ap₂}
+use mathlib.Core.Bool.{Bool, true, not, _&&_, cond}
+use mathlib.Core.List.{List, []}
 use native.Mathlib.Omega.{arith}
-use lib.ListN.{length, getD, set, List·getD-eq-default}
-use lib.Dec.{leb, ltb, eqb}
+use lib.Dec.{ltb}
 use borrow.Author.Needs.{needs}
 use Rattle.safety.proofs.safe_reply.Statement.{statement}
 use Rattle.safety.proofs.safe_reply.Tie as tie

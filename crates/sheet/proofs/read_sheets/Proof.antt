@@ -9,8 +9,8 @@ use lib.ListN.{length, drop}
 use Rattle.digits.proofs.Lines.{whole-room}
 use mathlib.Core.List.{List}
 use mathlib.Core.Logic.{⊎-elim}
-use Rattle.refusal.specs.declared.Verdict.{Verdict}
-use Rattle.refusal.specs.declared.Verdict.the-variants.{Accepted, Refused}
+use Rattle.refusal.specs.declared.Reply.{Reply}
+use Rattle.refusal.specs.declared.Reply.the-variants.{Done, Refused}
 use Rattle.frame.specs.declared.Header.{Header}
 use Rattle.frame.specs.declared.Frame.{Frame}
 use Rattle.frame.specs.declared.FrameRead.{FrameRead}
@@ -66,7 +66,7 @@ picks : (c : At-header) → formatOf (layout c) ≡ formatIn formats (line-at c)
 picks c = c .before .before .before .before .layout-of .ensures .0 ∙ ap formats (c .before .before .before .before .before .told-at .ensures)
 
 -- the header that was read is accepted
-header-is : (c : At-header) → (headerVerdict (formatOf (layout c)) (c .before .before .before .before .before .before .before .sheets .due) (c .before .before .before .before .before .before .before .sheets .first) (line-at c) ≡ Accepted) × (headerIn (formatOf (layout c)) (line-at c) ≡ c .before .line .given .0 .0)
+header-is : (c : At-header) → (headerVerdict (formatOf (layout c)) (c .before .before .before .before .before .before .before .sheets .due) (c .before .before .before .before .before .before .before .sheets .first) (line-at c) ≡ Done) × (headerIn (formatOf (layout c)) (line-at c) ≡ c .before .line .given .0 .0)
 header-is c = header-read-is _ _ _ (sym (c .before .before .before .header-at .ensures) ∙ c .before .line .given .1)
 
 header-limits : (c : At-header) → Header-in-limits (formatOf (layout c)) (c .before .before .before .before .before .before .before .sheets .due) (c .before .before .before .before .before .before .before .sheets .first) (headerIn (formatOf (layout c)) (line-at c))
@@ -107,7 +107,7 @@ frame-of c = frameIn (format-of c) (cards-of c) (input c)
 abbrev due-of : At-frame → ℕ
 due-of c = of-header c .before .before .before .before .before .before .before .sheets .due
 
-abbrev verdict-of : At-frame → Verdict
+abbrev verdict-of : At-frame → Reply
 verdict-of c =
     frameVerdict (format-of c) (format-of c .start (due-of c) (head c .session)) (due-of c) (cards-of c) (head c .base + 1 + c .before .before .before .loop .k) (c .before .before .before .loop .last) (input c)
 
@@ -115,14 +115,14 @@ frame-told-is : (c : At-frame) → c .frame-at .result ≡ frameReadOf (verdict-
 frame-told-is c = rw (c .before .start-of .ensures) at (c .frame-at .ensures)
 
 -- the frame that was read is accepted
-frame-is : (c : At-frame) (change : ℕ) → c .frame-at .result .line ≡ frame-read change → (verdict-of c ≡ Accepted) × (frame-of c .change ≡ change)
+frame-is : (c : At-frame) (change : ℕ) → c .frame-at .result .line ≡ frame-read change → (verdict-of c ≡ Done) × (frame-of c .change ≡ change)
 frame-is c change e = frame-read-is (verdict-of c) (frame-of c) change (sym (ap (λ (x : FrameRead). x .line) (frame-told-is c)) ∙ e)
 
-entries-is : (c : At-frame) → verdict-of c ≡ Accepted → c .frame-at .result .entries ≡ padded (frame-of c .entries)
-entries-is c e = ap (λ (x : FrameRead). x .entries) (frame-told-is c) ∙ ap (λ (v : Verdict). frameReadOf v (frame-of c) .entries) e
+entries-is : (c : At-frame) → verdict-of c ≡ Done → c .frame-at .result .entries ≡ padded (frame-of c .entries)
+entries-is c e = ap (λ (x : FrameRead). x .entries) (frame-told-is c) ∙ ap (λ (v : Reply). frameReadOf v (frame-of c) .entries) e
 
 -- the line is within the input
-room : (c : At-frame) → verdict-of c ≡ Accepted → c .before .before .before .loop .at + frameDigits (format-of c) (cards-of c) + 5 ≤ length (bytes c)
+room : (c : At-frame) → verdict-of c ≡ Done → c .before .before .before .loop .at + frameDigits (format-of c) (cards-of c) + 5 ≤ length (bytes c)
 room c e = whole-room (frameDigits (format-of c) (cards-of c)) (c .before .before .before .loop .at) (bytes c) (frame-passed (format-of c) _ _ _ _ _ _ e .whole)
 
 -- the layout's numbers are those of its width

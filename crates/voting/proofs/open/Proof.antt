@@ -7,8 +7,8 @@ use Rattle.protocol.specs.Model.{freeAt}
 use Rattle.protocol.specs.Edit.{place, count}
 use Rattle.protocol.specs.Plan.{opened, accepted, Check}
 use Rattle.protocol.specs.Calls.{openChecks, openedChange}
-use Rattle.verdicts.specs.declared.Reply.{Reply}
-use Rattle.verdicts.specs.declared.Reply.the-variants.{Done}
+use Rattle.refusal.specs.declared.Reply.{Reply}
+use Rattle.refusal.specs.declared.Reply.the-variants.{Done}
 use Rattle.verdicts.specs.Answers.{openReplyOf, firstFailing, after28}
 use Rattle.parts.specs.Opening.{openAnswer}
 use Rattle.carried.proofs.Call.{core-as, core-not}

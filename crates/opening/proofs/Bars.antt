@@ -1,19 +1,13 @@
 -- The cards that an opening finds barred, as a set and by their lowest. Assumes nothing.
-use Prim.Native.Nat.{ℕ, _+_, _<_}
+use Prim.Native.Nat.{ℕ, _+_}
 use mathlib.Core.Path.{_≡_, sym, _∙_, ap, ap₂}
 use mathlib.Core.Bool.{Bool, true, false, not, _&&_, _||_}
-use mathlib.Core.Logic.{by-cases}
-use native.Mathlib.Decide.{decLt}
 use native.Mathlib.Numerals.{add-one}
-use native.Mathlib.Omega.{arith}
 use lib.Dec.{eqb}
 use borrow.Author.Tests.{eq-eqb, ne-eqb}
 use Rattle.laws.specs.Below.{anyBelow}
-use Rattle.laws.proofs.Logic.{clash}
-use Rattle.laws.proofs.Below.{any-elim, Found}
 use Rattle.bits.specs.Member.{member}
-use Rattle.bits.specs.Sets.{either, both, except, firstBelow}
-use Rattle.bits.proofs.Sets.{first-at, first-before}
+use Rattle.bits.specs.Sets.{either, both, except}
 use Rattle.history.specs.Change.{CardSet}
 use Rattle.protocol.specs.Calls.{bars}
 use Rattle.verdicts.specs.declared.Place.{Place}
@@ -45,13 +39,3 @@ bars-none o reads writes n =
 pub bars-more : (f : ℕ → CardSet) (p out more sum : ℕ) → member out ≡ (λ c. anyBelow p (λ q. f q c)) → member more ≡ f p → member sum ≡ either (member out) (member more) → member sum ≡ (λ c. anyBelow (p + 1) (λ q. f q c))
 bars-more f p out more sum eo em es =
     es ∙ ap₂ either eo em ∙ ap {B = CardSet} (λ (n : ℕ) (c : ℕ). anyBelow n (λ q. f q c)) (sym (add-one p))
-
--- the lowest card of a set is in the set, where it has one
-pub lowest-in : (w : ℕ) (s : CardSet) → anyBelow w s ≡ true → s (firstBelow w s) ≡ true
-lowest-in w s e = found (any-elim w s e)
-  where
-    found : Found w s → s (firstBelow w s) ≡ true
-    found r =
-        by-cases (decLt (r .0) (firstBelow w s))
-        (λ (l : r .0 < firstBelow w s). clash (r .2) (first-before w s (r .0) l))
-        (λ l. first-at w s (let h : r .0 < w = r .1 in omega (arith, l)))

@@ -1,8 +1,8 @@
-use Rattle.changes.proofs.Bars.{bars-set, bars-none}
+use Rattle.opening.proofs.Bars.{bars-set, bars-none}
 use Prim.Native.Nat.{_-_}
 use borrow.Author.Needs.{needs}
-use Rattle.changes.proofs.bar_set.Statement.{statement}
-use Rattle.changes.proofs.bar_set.Tie as tie
+use Rattle.opening.proofs.bar_set.Statement.{statement}
+use Rattle.opening.proofs.bar_set.Tie as tie
 
 union-requires : tie.Need-union-requires
 union-requires c κs = search needs

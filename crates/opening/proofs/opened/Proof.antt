@@ -3,8 +3,8 @@ use Rattle.verdicts.proofs.Held.{set-known, place-by}
 use Prim.Native.Nat.{_-_}
 use mathlib.Core.Path.{refl, ap}
 use borrow.Author.Needs.{needs}
-use Rattle.changes.proofs.opened.Statement.{statement}
-use Rattle.changes.proofs.opened.Tie as tie
+use Rattle.opening.proofs.opened.Statement.{statement}
+use Rattle.opening.proofs.opened.Tie as tie
 
 free-place-requires : tie.Need-free-place-requires
 free-place-requires c κs = search needs

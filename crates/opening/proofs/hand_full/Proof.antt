@@ -8,8 +8,8 @@ use mathlib.Core.Path.{sym, _∙_, ap}
 use mathlib.Core.Bool.{_&&_}
 use lib.Dec.{leb}
 use borrow.Author.Needs.{needs}
-use Rattle.changes.proofs.hand_full.Statement.{statement}
-use Rattle.changes.proofs.hand_full.Tie as tie
+use Rattle.opening.proofs.hand_full.Statement.{statement}
+use Rattle.opening.proofs.hand_full.Tie as tie
 
 abbrev Inv-loop : tie.InvT-loop
 Inv-loop writes base reached found₀ c₀ found c = AnySoFar 16 (λ k. member writes k && leb (at base k + 48) (at reached k)) found c

@@ -1,4 +1,4 @@
-use Rattle.changes.proofs.Bars.{bars-more}
+use Rattle.opening.proofs.Bars.{bars-more}
 use Rattle.protocol.specs.Calls.{bars}
 use Rattle.bits.specs.Member.{member}
 use Rattle.verdicts.specs.Shape.{limits16, openAt}
@@ -10,8 +10,8 @@ use mathlib.Core.Path.{_≡_, _∙_, ap}
 use mathlib.Core.Bool.{Bool}
 use native.Mathlib.Omega.{arith}
 use borrow.Author.Needs.{needs}
-use Rattle.changes.proofs.barred_set.Statement.{statement}
-use Rattle.changes.proofs.barred_set.Tie as tie
+use Rattle.opening.proofs.barred_set.Statement.{statement}
+use Rattle.opening.proofs.barred_set.Tie as tie
 
 abbrev Inv-loop : tie.InvT-loop
 Inv-loop reads writes all out₀ p₀ out p = (p ≤ 8) × (member out ≡ (λ c. anyBelow p (λ q. bars (openAt all q) (member reads) (member writes) c)))
