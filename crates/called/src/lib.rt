@@ -6,7 +6,8 @@ ghost use Rattle.verdicts.specs.Answers.{replyOf, openReplyOf, safeReplyOf};
 ghost use Rattle.recovery.specs.Fix.{fixReplyOf};
 ghost use Rattle.card_sheet.specs.Card.{sheetReplyOf};
 ghost use Rattle.cabinet.specs.Fresh.{Freshly};
-ghost use Rattle.demands.specs.Lists.{opening, vote, take, withdraw, store, trim, safe, lose, fix, roll, sheet, restart, nothingLent, Answered};
+ghost use Rattle.protocol.specs.Run.{voteCall, takeCall, withdrawCall, storeCall, trimCall, safeCall, rollCall};
+ghost use Rattle.demands.specs.Lists.{opening, plain, lose, fix, sheet, restart, nothingLent, Answered};
 use cabinet::Answer;
 use cabinet::Cabinet;
 use cabinet::OpenAnswer;
@@ -32,42 +33,42 @@ pub fn open(c: Cabinet, reads: u16, writes: u16) -> OpenAnswer
 
 // 2. vote
 pub fn vote(c: Cabinet, change: u32, card: u32, agrees: bool) -> Answer
-    ensures { λ r. ⌜ Answered c (vote change card agrees) (replyOf (r .reply)) (r .cabinet) nothingLent ⌝ }
+    ensures { λ r. ⌜ Answered c (plain (voteCall change card agrees)) (replyOf (r .reply)) (r .cabinet) nothingLent ⌝ }
 {
     c.vote(change, card, agrees)
 }
 
 // 3. take
 pub fn take(c: Cabinet, change: u32, card: u32) -> Answer
-    ensures { λ r. ⌜ Answered c (take change card) (replyOf (r .reply)) (r .cabinet) nothingLent ⌝ }
+    ensures { λ r. ⌜ Answered c (plain (takeCall change card)) (replyOf (r .reply)) (r .cabinet) nothingLent ⌝ }
 {
     c.take(change, card)
 }
 
 // 4. withdraw
 pub fn withdraw(c: Cabinet, change: u32) -> Answer
-    ensures { λ r. ⌜ Answered c (withdraw change) (replyOf (r .reply)) (r .cabinet) nothingLent ⌝ }
+    ensures { λ r. ⌜ Answered c (plain (withdrawCall change)) (replyOf (r .reply)) (r .cabinet) nothingLent ⌝ }
 {
     c.withdraw(change)
 }
 
 // 5. store
 pub fn store(c: Cabinet, card: u32, state: u32) -> Answer
-    ensures { λ r. ⌜ Answered c (store card state) (replyOf (r .reply)) (r .cabinet) nothingLent ⌝ }
+    ensures { λ r. ⌜ Answered c (plain (storeCall card state)) (replyOf (r .reply)) (r .cabinet) nothingLent ⌝ }
 {
     c.store(card, state)
 }
 
 // 6. trim
 pub fn trim(c: Cabinet) -> Answer
-    ensures { λ r. ⌜ Answered c trim (replyOf (r .reply)) (r .cabinet) nothingLent ⌝ }
+    ensures { λ r. ⌜ Answered c (plain trimCall) (replyOf (r .reply)) (r .cabinet) nothingLent ⌝ }
 {
     c.trim()
 }
 
 // 7. safe
 pub fn safe(c: Cabinet, change: u32) -> SafeAnswer
-    ensures { λ r. ⌜ Answered c (safe change) (safeReplyOf (r .reply)) (r .cabinet) nothingLent ⌝ }
+    ensures { λ r. ⌜ Answered c (plain (safeCall change)) (safeReplyOf (r .reply)) (r .cabinet) nothingLent ⌝ }
 {
     c.safe(change)
 }
@@ -93,7 +94,7 @@ pub fn fix<'a>(
 
 // 10. roll
 pub fn roll(c: Cabinet, card: u32) -> Answer
-    ensures { λ r. ⌜ Answered c (roll card) (replyOf (r .reply)) (r .cabinet) nothingLent ⌝ }
+    ensures { λ r. ⌜ Answered c (plain (rollCall card)) (replyOf (r .reply)) (r .cabinet) nothingLent ⌝ }
 {
     c.roll(card)
 }

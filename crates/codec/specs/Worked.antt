@@ -10,7 +10,7 @@ use Rattle.history.specs.Samples.{among}
 use Rattle.protocol.specs.Model.{Model}
 use Rattle.protocol.specs.Plan.{CardRow, fixed, Reply, accepted}
 use Rattle.protocol.specs.Calls.{freshModel}
-use Rattle.protocol.specs.Run.{Call, openCall, voteCall, takeCall, storeCall, loseCall, fixCall, planOf, afterCall}
+use Rattle.protocol.specs.Run.{Call, plain, openCall, voteCall, takeCall, storeCall, loseCall, fixCall, planOf, afterCall}
 use Rattle.codec.specs.Sheets.{codec}
 use Rattle.protocol.specs.Choices.{chosen}
 
@@ -26,10 +26,10 @@ lastReply m c (d ∷ cs) = lastReply (afterCall codec limits16 m c (chosen limit
 
 -- change k: opened, voted yes by every card that it touches, and taken by every one
 abbrev pub decidedBy : ℕ → (reads writes : List ℕ) → List Call
-decidedBy k reads writes = openCall (among reads) (among writes) ∷ map (λ c. voteCall k c true) (reads ++ writes)
+decidedBy k reads writes = openCall (among reads) (among writes) ∷ map (λ c. plain (voteCall k c true)) (reads ++ writes)
 
 abbrev pub wholly : ℕ → (reads writes : List ℕ) → List Call
-wholly k reads writes = decidedBy k reads writes ++ map (takeCall k) (reads ++ writes)
+wholly k reads writes = decidedBy k reads writes ++ map (λ c. plain (takeCall k c)) (reads ++ writes)
 
 -- "Changes 1 (writes 0), 2 (reads 0, writes 1), 3 (writes 0)"
 abbrev pub threeChanges : List Call
@@ -53,17 +53,17 @@ fixReply r = lastReply (followed (freshModel (λ c. ltb c (r .cards))) (r .calls
 abbrev pub recoveries : List Recovery
 recoveries =
     -- B: A, stored 2, 0
-    record { cards = 2; calls = threeChanges ++ storeCall 0 2 ∷ []; lostCards = 1 ∷ []; rows = row 0 2 1 ∷ row 1 0 0 ∷ []; lost = 2 ∷ 3 ∷ [] }
+    record { cards = 2; calls = threeChanges ++ plain (storeCall 0 2) ∷ []; lostCards = 1 ∷ []; rows = row 0 2 1 ∷ row 1 0 0 ∷ []; lost = 2 ∷ 3 ∷ [] }
     -- C: A, stored 1, 1
-    ∷ record { cards = 2; calls = threeChanges ++ storeCall 0 1 ∷ storeCall 1 1 ∷ []; lostCards = 0 ∷ []; rows = row 0 1 1 ∷ row 1 1 1 ∷ []; lost = 3 ∷ [] }
+    ∷ record { cards = 2; calls = threeChanges ++ plain (storeCall 0 1) ∷ plain (storeCall 1 1) ∷ []; lostCards = 0 ∷ []; rows = row 0 1 1 ∷ row 1 1 1 ∷ []; lost = 3 ∷ [] }
     -- D: A, stored 0, 1
-    ∷ record { cards = 2; calls = threeChanges ++ storeCall 1 1 ∷ []; lostCards = 0 ∷ []; rows = row 0 0 0 ∷ row 1 1 0 ∷ []; lost = 1 ∷ 2 ∷ 3 ∷ [] }
+    ∷ record { cards = 2; calls = threeChanges ++ plain (storeCall 1 1) ∷ []; lostCards = 0 ∷ []; rows = row 0 0 0 ∷ row 1 1 0 ∷ []; lost = 1 ∷ 2 ∷ 3 ∷ [] }
     -- E: one change writes 0 and 1; only 0 took and stored
-    ∷ record { cards = 2; calls = decidedBy 1 [] (0 ∷ 1 ∷ []) ++ takeCall 1 0 ∷ storeCall 0 1 ∷ []; lostCards = 1 ∷ []; rows = row 0 1 0 ∷ row 1 0 0 ∷ []; lost = 1 ∷ [] }
+    ∷ record { cards = 2; calls = decidedBy 1 [] (0 ∷ 1 ∷ []) ++ plain (takeCall 1 0) ∷ plain (storeCall 0 1) ∷ []; lostCards = 1 ∷ []; rows = row 0 1 0 ∷ row 1 0 0 ∷ []; lost = 1 ∷ [] }
     -- F: three cards; 1 reads 1, writes 0; 2 reads 1, writes 2; stored 0, 0, 1
     ∷ record {
       cards = 3;
-      calls = wholly 1 (1 ∷ []) (0 ∷ []) ++ wholly 2 (1 ∷ []) (2 ∷ []) ++ storeCall 2 1 ∷ [];
+      calls = wholly 1 (1 ∷ []) (0 ∷ []) ++ wholly 2 (1 ∷ []) (2 ∷ []) ++ plain (storeCall 2 1) ∷ [];
       lostCards = 0 ∷ [];
       rows = row 0 0 0 ∷ row 1 0 0 ∷ row 2 1 1 ∷ [];
       lost = 1 ∷ [];
@@ -71,7 +71,7 @@ recoveries =
     -- G: two cards; 1 writes 0; 2 reads 0 and 1; 3 writes 1; stored 0, 1
     ∷ record {
       cards = 2;
-      calls = wholly 1 [] (0 ∷ []) ++ wholly 2 (0 ∷ 1 ∷ []) [] ++ wholly 3 [] (1 ∷ []) ++ storeCall 1 1 ∷ [];
+      calls = wholly 1 [] (0 ∷ []) ++ wholly 2 (0 ∷ 1 ∷ []) [] ++ wholly 3 [] (1 ∷ []) ++ plain (storeCall 1 1) ∷ [];
       lostCards = 0 ∷ [];
       rows = row 0 0 0 ∷ row 1 1 0 ∷ [];
       lost = 1 ∷ 3 ∷ [];
@@ -86,7 +86,7 @@ saidReply r = accepted (fixed (r .rows) (r .lost))
 
 -- ---- the worked read-out: "Changes 1 (writes 0), 2 (reads 0, writes 1), 3 (writes 0) of two cards, stored 2 and 0."
 abbrev pub workedCalls : List Call
-workedCalls = threeChanges ++ storeCall 0 2 ∷ []
+workedCalls = threeChanges ++ plain (storeCall 0 2) ∷ []
 
 -- a line, by the values of its digits
 abbrev pub lineOf : List ℕ → List ℕ

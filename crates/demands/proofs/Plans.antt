@@ -21,6 +21,7 @@ use Rattle.protocol.specs.Sound.{sound, numbersSound, roomToWrite}
 use Rattle.protocol.specs.Edit.{Edit}
 use Rattle.protocol.specs.Edit as edit
 use Rattle.protocol.specs.Plan.{Plan, Check, Passed}
+use Rattle.protocol.specs.Run.{Plain, voteCall, takeCall, withdrawCall, storeCall, trimCall, safeCall, rollCall, plainPlan}
 use Rattle.protocol.specs.Calls.{openedChange, openChecks, openPlan, votedYes, voted, voteChecks, votePlan, tookShare, shareEdit, takeChecks, takePlan, withdrawChecks, withdrawPlan, storeChecks, storePlan, lineOf, lines, safeChecks, safePlan, trimChecks, trimPlan, loseChecks, losePlan, fixChecks, fixPlan, rollChecks, rollPlan, allRolled}
 use Rattle.protocol.proofs.Steps.{checked-case, not-not, card-below, known-place}
 use Rattle.verdicts.specs.Shape.{limits16, at}
@@ -107,7 +108,7 @@ module _ (s : Cabinet) (z : Sized s) (w : Narrow (view s)) where
       let free : freeAt limits16 m < limits16 .places = ltb-true (freeAt limits16 m) (limits16 .places) (not-not (ltb (freeAt limits16 m) (limits16 .places)) (ps .1 .1 .1 .1 .1 .0)) in
       ((omega (arith, free, places8), record { reads = λ k h. member-above 16 reads k hr h; writes = λ k h. member-above 16 writes k hw h; yes = λ k h. refl; taken = λ k h. refl; vector = λ k h. refl }), (tt, tt)))
 
-  pub vote-fits : (k c : ℕ) (agrees : Bool) → PlanFits (votePlan limits16 m k c agrees)
+  vote-fits : (k c : ℕ) (agrees : Bool) → PlanFits (votePlan limits16 m k c agrees)
   vote-fits k c agrees =
       checked-case PlanFits (voteChecks limits16 m k c) _ _ (λ r. tt)
       (λ ps. ((place8 m k (ps .1 .1 .1 .0), voted-fits m (m .place (placeOf limits16 m k)) c agrees w (w .places (placeOf limits16 m k)) (card16 m c (ps .1 .0))), tt))
@@ -142,21 +143,21 @@ module _ (s : Cabinet) (z : Sized s) (w : Narrow (view s)) where
           let r : at (s .core .reached) c < at (s .core .base) c + limits16 .inHand = ltb-true (at (s .core .reached) c) (at (s .core .base) c + limits16 .inHand) (and-left (ltb (at (s .core .reached) c) (at (s .core .base) c + limits16 .inHand)) (ltb (at (s .core .reached) c) (limits16 .greatestState)) room) in
           (card, low-reached m fine c card (and-right (ltb c (limits16 .width)) (m .present c) (not-not (isCard limits16 m c) (ps .1 .0))), omega (arith, r, inHand48), w .places (placeOf limits16 m k) .vector)
 
-  pub take-fits : (k c : ℕ) → PlanFits (takePlan limits16 m k c)
+  take-fits : (k c : ℕ) → PlanFits (takePlan limits16 m k c)
   take-fits k c =
       checked-case PlanFits (takeChecks limits16 m k c) _ _ (λ r. tt)
       (λ ps. (share-fits k c ps, ((place8 m k (ps .1 .1 .1 .0), took-fits (m .place (placeOf limits16 m k)) c (w .places (placeOf limits16 m k)) (card16 m c (ps .1 .0))), tt)))
 
-  pub withdraw-fits : (k : ℕ) → PlanFits (withdrawPlan limits16 m k)
+  withdraw-fits : (k : ℕ) → PlanFits (withdrawPlan limits16 m k)
   withdraw-fits k = checked-case PlanFits (withdrawChecks limits16 m k) _ _ (λ r. tt) (λ ps. ((place8 m k (ps .1 .1 .0), free-fits), tt))
 
-  pub store-fits : (c x : ℕ) → PlanFits (storePlan limits16 m c x)
+  store-fits : (c x : ℕ) → PlanFits (storePlan limits16 m c x)
   store-fits c x = checked-case PlanFits (storeChecks limits16 m c x) _ _ (λ r. tt) (λ ps. (card16 m c (ps .1 .0), tt))
 
-  pub trim-fits : PlanFits (trimPlan limits16 m)
+  trim-fits : PlanFits (trimPlan limits16 m)
   trim-fits = checked-case PlanFits (trimChecks limits16 m) _ _ (λ r. tt) (λ ps. ((lines-beyond s z, lines-above m), tt))
 
-  pub safe-fits : (k : ℕ) → PlanFits (safePlan limits16 m k)
+  safe-fits : (k : ℕ) → PlanFits (safePlan limits16 m k)
   safe-fits k = checked-case PlanFits (safeChecks limits16 m k) _ _ (λ r. tt) (λ ps. tt)
 
   pub lose-fits : (cards : CardSet) → PlanFits (losePlan limits16 m cards)
@@ -167,7 +168,16 @@ module _ (s : Cabinet) (z : Sized s) (w : Narrow (view s)) where
   pub fix-fits : (a b : ℕ) (lost : List ℕ) → PlanFits (fixPlan limits16 m a b lost)
   fix-fits a b lost = checked-case PlanFits (fixChecks limits16 m a b lost) _ _ (λ r. tt) (λ ps. (lines-beyond s z, tt))
 
-  pub roll-fits : (c : ℕ) → PlanFits (rollPlan limits16 m c)
+  roll-fits : (c : ℕ) → PlanFits (rollPlan limits16 m c)
   roll-fits c =
       checked-case PlanFits (rollChecks limits16 m c) _ _ (λ r. tt)
       (λ ps. (card16 m c (ps .1 .0), cond-case (EditsFit (apply (edit.lower c) s)) (allRolled limits16 m (withCard (m .rolled) c)) (λ e. (tt, tt)) (λ e. tt)))
+
+  pub plain-fits : (q : Plain) → PlanFits (plainPlan limits16 m q)
+  plain-fits (voteCall k c agrees) = vote-fits k c agrees
+  plain-fits (takeCall k c) = take-fits k c
+  plain-fits (withdrawCall k) = withdraw-fits k
+  plain-fits (storeCall c x) = store-fits c x
+  plain-fits trimCall = trim-fits
+  plain-fits (safeCall k) = safe-fits k
+  plain-fits (rollCall c) = roll-fits c

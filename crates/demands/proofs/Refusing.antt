@@ -14,18 +14,15 @@ use Rattle.history.specs.Change.{touches}
 use Rattle.protocol.specs.Model.{OpenChange, Model, isOpen}
 use Rattle.verdicts.proofs.Limits.{width16}
 use Rattle.refusal.specs.declared.Refusal.{Refusal}
-use Rattle.refusal.specs.Number.{numberOf}
 use Rattle.bits.specs.Member.{member}
-use Rattle.frame.specs.Format.{formats}
 use Rattle.codec.specs.Sheets.{codec}
 use Rattle.protocol.specs.Edit.{Edit}
 use Rattle.protocol.specs.Plan.{Answer, Reply, accepted, refused, Check, Plan, checked}
-use Rattle.protocol.specs.Calls.{bars, barred, openChecks, voteChecks, takeChecks, withdrawChecks, storeChecks, trimChecks, safeChecks, loseChecks, fixChecks, rollChecks}
-use Rattle.protocol.specs.Codec.{sheetChecks, sheetPlan}
-use Rattle.protocol.specs.Run.{Call, Choice, Proper, checksOf, planOf}
+use Rattle.protocol.specs.Calls.{bars, barred}
+use Rattle.protocol.specs.Run.{Call, Choice, checksOf, planOf}
 use Rattle.protocol.specs.Run as run
 use Rattle.protocol.proofs.Steps.{checked-case}
-use Rattle.protocol.proofs.Claims.{not-both, demand-1}
+use Rattle.protocol.proofs.Claims.{ByTable, by-table, not-both, demand-1}
 use Rattle.verdicts.specs.Shape.{limits16}
 use Rattle.recovery.specs.Fix.{listAfter}
 use Rattle.card_sheet.specs.Card.{bufferAfter}
@@ -38,11 +35,12 @@ use Rattle.codec.specs.Sheets.{restartReply}
 use Rattle.readout.specs.Joint.{readoutOf}
 use Rattle.restart.specs.Restart.{cabinetFor}
 use Rattle.joined.specs.Joined.{ownSheets, goingOn}
-use Rattle.demands.specs.Lists.{Asked, opening, vote, take, withdraw, store, trim, safe, lose, fix, roll, sheet, restart, Typed, Lent, nothingLent, Answered}
+use Rattle.demands.specs.Lists.{Asked, opening, plain, lose, fix, sheet, restart, Typed, Lent, nothingLent, Answered}
 use Rattle.demands.specs.Claims.{Said, answers, refuses, Outcome, Gets, CallsAnswer}
 use Rattle.demands.proofs.Some.{some}
 
-no-choice : Choice
+-- where nothing is left to the program
+abbrev pub no-choice : Choice
 no-choice = record { named = 0; lost = [] }
 
 -- a plan that refuses changes nothing
@@ -78,11 +76,16 @@ outcome-of : (s : Cabinet) (call : Call) (x : Choice) (t : Cabinet) (before afte
     → ((r : Refusal) → reply ≡ refused r → (t ≡ s) × (after ≡ before)) → Outcome (checksOf codec limits16 (view s) call x) s t before after reply
 outcome-of s call x t before after reply e keeps = record { said = said-of s call x reply e; unchanged = keeps }
 
--- a call that lends nothing
-by-plan : (s : Cabinet) (call : Call) → Proper limits16 (view s) call no-choice → (cs : List Check) (a : Answer) (es : List Edit) → planOf codec limits16 (view s) call no-choice ≡ checked cs a es
-    → (reply : Reply) (t : Cabinet) (before after : Lent) → Carried s (checked cs a es) reply t → after ≡ before → Outcome (checksOf codec limits16 (view s) call no-choice) s t before after reply
-by-plan s call p cs a es same reply t before after d e =
-    outcome-of s call no-choice t before after reply (d .answer ∙ sym (ap (λ (y : Plan). y .reply) same)) (λ r z. (d .cabinet ∙ refused-keeps s cs a es r (sym z ∙ d .answer), e))
+-- of a call that is carried out by its plan; what is lent stays where it is refused
+by-plan : (s : Cabinet) (call : Call) (x : Choice) (t : Cabinet) (before after : Lent) (reply : Reply) → Carried s (planOf codec limits16 (view s) call x) reply t
+    → ((r : Refusal) → refused r ≡ planOf codec limits16 (view s) call x .reply → after ≡ before) → Outcome (checksOf codec limits16 (view s) call x) s t before after reply
+by-plan s call x t before after reply d stays =
+    let b : ByTable (planOf codec limits16 (view s) call x) (checksOf codec limits16 (view s) call x) = by-table codec limits16 (view s) call x in
+    outcome-of s call x t before after reply (d .answer)
+    (λ r z. let q : refused r ≡ planOf codec limits16 (view s) call x .reply = sym z ∙ d .answer in (
+      d .cabinet ∙ ap (λ (y : Plan). applyAll (y .edits) s) (b .2) ∙ refused-keeps s (checksOf codec limits16 (view s) call x) (b .0) (b .1) r (q ∙ ap (λ (y : Plan). y .reply) (b .2)),
+      stays r q,
+    ))
 
 pub every : (s : Cabinet) (asked : Asked) → Typed asked → (reply : Reply) (t : Cabinet) (after : Lent) → Answered s asked reply t after → Gets s asked reply t after
 every s (opening reads writes) y reply t after d =
@@ -90,40 +93,27 @@ every s (opening reads writes) y reply t after d =
     record {
       choice = x;
       proper = λ e. (barred-below (view s) reads writes (d .0 .named) (y .0) (y .1) (d .0 .isBarred e), d .0 .isBarred e);
-      outcome = outcome-of s (run.openCall (member reads) (member writes)) x t nothingLent after reply (d .0 .carried .answer)
-          (λ r z. (d .0 .carried .cabinet ∙ refused-keeps s (openChecks limits16 (view s) (member reads) (member writes) (d .0 .named)) _ _ r (sym z ∙ d .0 .carried .answer), d .1));
+      outcome = by-plan s (run.openCall (member reads) (member writes)) x t nothingLent after reply (d .0 .carried) (λ r q. d .1);
     }
-every s (vote k c agrees) y reply t after d = record { choice = no-choice; proper = tt; outcome = by-plan s (run.voteCall k c agrees) tt (voteChecks limits16 (view s) k c) _ _ refl reply t nothingLent after (d .0) (d .1) }
-every s (take k c) y reply t after d = record { choice = no-choice; proper = tt; outcome = by-plan s (run.takeCall k c) tt (takeChecks limits16 (view s) k c) _ _ refl reply t nothingLent after (d .0) (d .1) }
-every s (withdraw k) y reply t after d = record { choice = no-choice; proper = tt; outcome = by-plan s (run.withdrawCall k) tt (withdrawChecks limits16 (view s) k) _ _ refl reply t nothingLent after (d .0) (d .1) }
-every s (store c x) y reply t after d = record { choice = no-choice; proper = tt; outcome = by-plan s (run.storeCall c x) tt (storeChecks limits16 (view s) c x) _ _ refl reply t nothingLent after (d .0) (d .1) }
-every s trim y reply t after d = record { choice = no-choice; proper = tt; outcome = by-plan s run.trimCall tt (trimChecks limits16 (view s)) _ _ refl reply t nothingLent after (d .0) (d .1) }
-every s (safe k) y reply t after d = record { choice = no-choice; proper = tt; outcome = by-plan s (run.safeCall k) tt (safeChecks limits16 (view s) k) _ _ refl reply t nothingLent after (d .0) (d .1) }
-every s (lose cards) y reply t after d = record { choice = no-choice; proper = tt; outcome = by-plan s (run.loseCall (member cards)) tt (loseChecks limits16 (view s) (member cards)) _ _ refl reply t nothingLent after (d .0) (d .1) }
+every s (plain q) y reply t after d = record { choice = no-choice; proper = tt; outcome = by-plan s (run.plain q) no-choice t nothingLent after reply (d .0) (λ r e. d .1) }
+every s (lose cards) y reply t after d = record { choice = no-choice; proper = tt; outcome = by-plan s (run.loseCall (member cards)) no-choice t nothingLent after reply (d .0) (λ r e. d .1) }
 every s (fix records list) y reply t after d =
     let c : FixCarried s (length records) list (after .numbers) (d .told) t = d .both .carried in
     let x : Choice = record { named = 0; lost = c .told .lost } in
-    let e : reply ≡ planOf codec limits16 (view s) (run.fixCall (length records) (length list)) x .reply = d .answer ∙ c .told .answer in
+    let before : Lent = record { records = records; numbers = list } in
     record {
       choice = x;
       proper = c .told .once;
-      outcome = outcome-of s (run.fixCall (length records) (length list)) x t (record { records = records; numbers = list }) after reply e
-          (λ r z. let q : refused r ≡ planOf codec limits16 (view s) (run.fixCall (length records) (length list)) x .reply = sym z ∙ e in (
-            c .cabinet ∙ refused-keeps s (fixChecks limits16 (view s) (length records) (length list) (c .told .lost)) _ _ r q,
-            both-lists after (record { records = records; numbers = list }) (d .both .filled ∙ ap (λ (u : Reply). recordsAfter u records) (sym q)) (c .told .list ∙ ap (λ (u : Reply). listAfter u list) (sym q)),
-          ));
+      outcome = by-plan s (run.fixCall (length records) (length list)) x t before after reply (record { answer = d .answer ∙ c .told .answer; cabinet = c .cabinet })
+          (λ r q. both-lists after before (d .both .filled ∙ ap (λ (u : Reply). recordsAfter u records) (sym q)) (c .told .list ∙ ap (λ (u : Reply). listAfter u list) (sym q)));
     }
-every s (roll c) y reply t after d = record { choice = no-choice; proper = tt; outcome = by-plan s (run.rollCall c) tt (rollChecks limits16 (view s) c) _ _ refl reply t nothingLent after (d .0) (d .1) }
 every s (sheet c buffer) y reply t after d =
-    let e : reply ≡ sheetPlan codec limits16 (view s) c (length buffer) .reply = d .answer ∙ d .carried .told .answer in
+    let before : Lent = record { records = []; numbers = buffer } in
     record {
       choice = no-choice;
       proper = tt;
-      outcome = outcome-of s (run.sheetCall c (length buffer)) no-choice t (record { records = []; numbers = buffer }) after reply e
-          (λ r z. let q : refused r ≡ sheetPlan codec limits16 (view s) c (length buffer) .reply = sym z ∙ e in (
-            d .carried .cabinet ∙ refused-keeps s (sheetChecks codec limits16 (view s) c (length buffer)) _ _ r q,
-            both-lists after (record { records = []; numbers = buffer }) (d .noRecords) (d .carried .told .buffer ∙ ap (λ (u : Reply). bufferAfter u buffer) (sym q)),
-          ));
+      outcome = by-plan s (run.sheetCall c (length buffer)) no-choice t before after reply (record { answer = d .answer ∙ d .carried .told .answer; cabinet = d .carried .cabinet })
+          (λ r q. both-lists after before (d .noRecords) (d .carried .told .buffer ∙ ap (λ (u : Reply). bufferAfter u buffer) (sym q)));
     }
 every s restart y reply t after d =
     record {

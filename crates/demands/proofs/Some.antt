@@ -1,9 +1,8 @@
 -- Every call gets an answer, whatever the cabinet and the arguments. Assumes nothing.
 use Prim.Native.Nat.{ℕ, _+_, _≤_, zero-le}
 use mathlib.Core.Path.{_≡_, refl, sym, _∙_, ap, ap₂}
-use mathlib.Core.Bool.{Bool, true, false, _||_, cond}
+use mathlib.Core.Bool.{true}
 use mathlib.Core.List.{List, [], _∷_}
-use native.Mathlib.Nat.{le-refl}
 use native.Mathlib.Omega.{arith}
 use lib.Dec.{ltb}
 use lib.ListN.{length, take, drop}
@@ -12,16 +11,14 @@ use borrow.Author.Tests.{lt-ltb, ltb-false}
 use Rattle.refusal.specs.declared.Refusal.{Refusal}
 use Rattle.laws.specs.Below.{anyBelow, firstBelow, occurs, one-if}
 use Rattle.laws.proofs.Below.{first-some}
-use Rattle.history.specs.Change.{CardSet}
 use Rattle.laws.proofs.Logic.{clash, fails, or-right}
 use Rattle.bits.specs.Member.{member}
 use Rattle.frame.specs.Format.{formats}
 use Rattle.sheet.specs.Pages.{pageBytes}
 use Rattle.codec.specs.Sheets.{sheetOf, codec}
-use Rattle.protocol.specs.Model.{Model}
 use Rattle.protocol.specs.Edit.{Edit}
 use Rattle.protocol.specs.Edit as edit
-use Rattle.protocol.specs.Plan.{CardRow, fixed, written, Reply, accepted, refused, Check, Plan, checked, Passed}
+use Rattle.protocol.specs.Plan.{CardRow, fixed, written, accepted, refused, Plan, Passed}
 use Rattle.protocol.specs.Calls.{barred, lines, isLost, cardRows, openPlan, fixChecks, fixPlan}
 use Rattle.protocol.specs.Codec.{sheetChecks, sheetPlan}
 use Rattle.protocol.specs.Run as run
@@ -32,7 +29,7 @@ use Rattle.verdicts.specs.Shape.{limits16, at, listOf, presentOf}
 use Rattle.verdicts.proofs.Held.{at-list}
 use Rattle.verdicts.proofs.Limits.{width16}
 use Rattle.recovery.specs.declared.FixReply.the-variants.{Fixed, NotFixed}
-use Rattle.recovery.specs.Fix.{rowsOf, fixReplyOf, listAfter}
+use Rattle.recovery.specs.Fix.{rowsOf, listAfter}
 use Rattle.recovery.proofs.Rows.{selected-same}
 use Rattle.write.specs.declared.Written.the-variants.{Length, Refused}
 use Rattle.card_sheet.specs.Card.{bufferAfter}
@@ -41,7 +38,7 @@ use Rattle.cabinet.specs.declared.Cabinet.{Cabinet}
 use Rattle.cabinet.specs.View.{view}
 use Rattle.cabinet.specs.Apply.{applyAll}
 use Rattle.cabinet.specs.Lent.{recordsAfter}
-use Rattle.demands.specs.Lists.{Asked, opening, vote, take as takes, withdraw, store, trim, safe, lose, fix, roll, sheet, restart, Lent, nothingLent}
+use Rattle.demands.specs.Lists.{Asked, opening, plain, lose, fix, sheet, restart, nothingLent}
 use Rattle.demands.specs.Claims.{Reached}
 
 -- a text at the front of a list that has room for it
@@ -228,14 +225,8 @@ some s (opening reads writes) =
       after = nothingLent;
       answered = (record { named = lowest-barred s reads writes; isBarred = lowest-is-barred s reads writes; lowest = refl; carried = record { answer = refl; cabinet = refl } }, refl);
     }
-some s (vote k c agrees) = record { reply = _; next = _; after = nothingLent; answered = (record { answer = refl; cabinet = refl }, refl) }
-some s (takes k c) = record { reply = _; next = _; after = nothingLent; answered = (record { answer = refl; cabinet = refl }, refl) }
-some s (withdraw k) = record { reply = _; next = _; after = nothingLent; answered = (record { answer = refl; cabinet = refl }, refl) }
-some s (store c x) = record { reply = _; next = _; after = nothingLent; answered = (record { answer = refl; cabinet = refl }, refl) }
-some s trim = record { reply = _; next = _; after = nothingLent; answered = (record { answer = refl; cabinet = refl }, refl) }
-some s (safe k) = record { reply = _; next = _; after = nothingLent; answered = (record { answer = refl; cabinet = refl }, refl) }
+some s (plain q) = record { reply = _; next = _; after = nothingLent; answered = (record { answer = refl; cabinet = refl }, refl) }
 some s (lose cards) = record { reply = _; next = _; after = nothingLent; answered = (record { answer = refl; cabinet = refl }, refl) }
 some s (fix records list) = fix-by s records list (chosen limits16 (view s) (run.fixCall 0 0) .lost) (choosable limits16 (view s) (run.fixCall 0 0)) .reached
-some s (roll c) = record { reply = _; next = _; after = nothingLent; answered = (record { answer = refl; cabinet = refl }, refl) }
 some s (sheet c buffer) = sheet-by s c buffer .reached
 some s restart = record { reply = _; next = _; after = nothingLent; answered = (record { answer = refl; cabinet = refl }, refl) }

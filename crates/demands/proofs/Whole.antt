@@ -1,26 +1,22 @@
 -- Demands 1, 2 and 3 of the 16-card cabinet: what it shows runs as the model runs. Assumes nothing.
-use Prim.Native.Nat.{ℕ, _+_, _*_, _≤_, _<_}
+use Prim.Native.Nat.{ℕ, _+_, _*_, _≤_}
 use mathlib.Core.Path.{_≡_, refl, sym, _∙_, ap, subst, subst₂}
-use mathlib.Core.Bool.{Bool, true, false, not, _&&_, _||_, cond}
+use mathlib.Core.Bool.{Bool, true, false, not, _&&_, cond}
 use mathlib.Core.List.{List, [], _∷_}
-use mathlib.Core.Logic.{_⊎_, inl, inr, by-cases}
-use native.Mathlib.Decide.{decLt}
 use native.Mathlib.Omega.{arith}
 use lib.Dec.{leb, ltb}
 use lib.ListN.{length, getD}
 use borrow.Author.Tests.{leb-true, lt-ltb, le-ltb}
-use Rattle.laws.proofs.Logic.{test, clash, and-left, and-right, or-elim}
-use Rattle.laws.proofs.Below.{Found, any-elim}
+use Rattle.laws.proofs.Logic.{test, and-left, and-right}
 use Rattle.bits.specs.Member.{member}
-use Rattle.bits.proofs.Members.{member-above}
 use Rattle.refusal.specs.declared.Reply as refusal
 use Rattle.refusal.specs.declared.Reply.the-variants.{Done, Refused}
 use Rattle.frame.specs.Format.{formats}
-use Rattle.history.specs.Change.{Numbers, touches}
+use Rattle.history.specs.Change.{Numbers}
 use Rattle.codec.specs.Sheets.{codec}
-use Rattle.protocol.specs.Model.{OpenChange, Model, isOpen}
+use Rattle.protocol.specs.Model.{Model}
 use Rattle.protocol.specs.Plan.{Answer, done, Reply, accepted, refused, replyOf, _⇒_, Plan, checked, afterPlan}
-use Rattle.protocol.specs.Calls.{freshRefused, freshModel, bars, barred, openPlan, fixPlan}
+use Rattle.protocol.specs.Calls.{freshRefused, freshModel, openPlan, fixPlan}
 use Rattle.protocol.proofs.Steps.{checked-case, not-not}
 use Rattle.protocol.proofs.Claims.{not-both}
 use Rattle.refusal.specs.declared.Refusal.the-variants.{CardCount, BadCabinet}
@@ -45,7 +41,7 @@ use Rattle.cabinet.specs.Apply.{Carried, applyAll}
 use Rattle.cabinet.specs.Fixing.{FixCarried}
 use Rattle.cabinet.specs.Fresh.{Freshly, zeroCabinet, freshHead, voidHead}
 use Rattle.joined.specs.Joined.{ownSheets, goingOn}
-use Rattle.demands.specs.Lists.{Asked, opening, vote, take, withdraw, store, trim, safe, lose, fix, roll, sheet, restart, callOf, Typed, Lent, Sized, Answered, List16, start, next}
+use Rattle.demands.specs.Lists.{Asked, opening, plain, lose, fix, sheet, restart, callOf, Typed, Lent, Sized, Answered, List16, start, next}
 use Rattle.demands.specs.Claims.{RestartGives, CabinetRight16, Throughout, Demands23}
 use Rattle.verdicts.proofs.Held.{free-fits}
 use Rattle.sheet.proofs.Lay as lay
@@ -54,9 +50,9 @@ use Rattle.restart.proofs.Shows as restarts
 use Rattle.demands.proofs.Narrow.{Narrow}
 use Rattle.demands.proofs.Lengths.{by-card, by-place, set-small}
 use Rattle.demands.proofs.Laws.{EditsFit, Shows, edits-show}
-use Rattle.demands.proofs.Plans.{open-fits, vote-fits, take-fits, withdraw-fits, store-fits, trim-fits, safe-fits, lose-fits, fix-fits, roll-fits}
+use Rattle.demands.proofs.Plans.{open-fits, plain-fits, lose-fits, fix-fits}
 use Rattle.demands.proofs.Fresh.{fresh-shows}
-use Rattle.demands.proofs.Refusing.{barred-below}
+use Rattle.demands.proofs.Refusing.{no-choice, barred-below}
 
 limits-fit : SheetLimits limits16
 limits-fit = record { width = width16; inHand = inHand48; greatestState = greatest60000; greatestNumber = greatestNumber32 }
@@ -75,9 +71,6 @@ shown s z w = record { same = refl; sized = z; narrow = w }
 -- the cabinet after a plan whose edits fit
 planned : (s : Cabinet) → Sized s → Narrow (view s) → (p : Plan) (t : Cabinet) → EditsFit s (p .edits) → t ≡ applyAll (p .edits) s → Shows (afterPlan limits16 p (view s)) t
 planned s z w p t f e = subst (Shows (afterPlan limits16 p (view s))) (sym e) (edits-show (p .edits) (view s) s (shown s z w) f)
-
-no-choice : Choice
-no-choice = record { named = 0; lost = [] }
 
 -- a call that is carried out by its plan
 carried-step : (s : Cabinet) → Sized s → Narrow (view s) → (call : Call) (reply : Reply) (t : Cabinet) → Proper limits16 (view s) call no-choice
@@ -145,12 +138,7 @@ step s z w (opening reads writes) y reply t after d =
       replied = d .0 .carried .answer;
       after = planned s z w (openPlan limits16 (view s) (member reads) (member writes) (d .0 .named)) t (open-fits s z w reads writes (d .0 .named) (y .0) (y .1)) (d .0 .carried .cabinet);
     }
-step s z w (vote k c agrees) y reply t after d = carried-step s z w (run.voteCall k c agrees) reply t tt refl (vote-fits s z w k c agrees) (d .0)
-step s z w (take k c) y reply t after d = carried-step s z w (run.takeCall k c) reply t tt refl (take-fits s z w k c) (d .0)
-step s z w (withdraw k) y reply t after d = carried-step s z w (run.withdrawCall k) reply t tt refl (withdraw-fits s z w k) (d .0)
-step s z w (store c x) y reply t after d = carried-step s z w (run.storeCall c x) reply t tt refl (store-fits s z w c x) (d .0)
-step s z w trim y reply t after d = carried-step s z w run.trimCall reply t tt refl (trim-fits s z w) (d .0)
-step s z w (safe k) y reply t after d = carried-step s z w (run.safeCall k) reply t tt refl (safe-fits s z w k) (d .0)
+step s z w (plain q) y reply t after d = carried-step s z w (run.plain q) reply t tt refl (plain-fits s z w q) (d .0)
 step s z w (lose cards) y reply t after d = carried-step s z w (run.loseCall (member cards)) reply t tt refl (lose-fits s z w (member cards)) (d .0)
 step s z w (fix records list) y reply t after d =
     let c : FixCarried s (length records) list (after .numbers) (d .told) t = d .both .carried in
@@ -160,7 +148,6 @@ step s z w (fix records list) y reply t after d =
       replied = d .answer ∙ c .told .answer;
       after = planned s z w (fixPlan limits16 (view s) (length records) (length list) (c .told .lost)) t (fix-fits s z w (length records) (length list) (c .told .lost)) (c .cabinet);
     }
-step s z w (roll c) y reply t after d = carried-step s z w (run.rollCall c) reply t tt refl (roll-fits s z w c) (d .0)
 step s z w (sheet c buffer) y reply t after d =
     record {
       choice = no-choice;

@@ -1,15 +1,14 @@
 -- Lists of calls of the 16-card cabinet: "Each call gets the cabinet that the last one returned", and answers what its contract says.
 use Prim.Native.Nat.{ℕ, _<_}
 use mathlib.Core.Path.{_≡_}
-use mathlib.Core.Bool.{Bool}
 use mathlib.Core.List.{List, []}
 use lib.ListN.{length}
 use Rattle.limits.specs.Document.{mostCards, mostFrames, mostEntries}
 use Rattle.bits.specs.Member.{member}
 use Rattle.protocol.specs.Plan.{Reply, accepted, done}
-use Rattle.protocol.specs.Calls.{votePlan, takePlan, withdrawPlan, storePlan, trimPlan, safePlan, losePlan, rollPlan}
+use Rattle.protocol.specs.Calls.{losePlan}
 use Rattle.protocol.specs.Run as run
-use Rattle.protocol.specs.Run.{Call, Calls, none, further}
+use Rattle.protocol.specs.Run.{Plain, Call, plainPlan, Calls, none, further}
 use Rattle.verdicts.specs.Shape.{limits16}
 use Rattle.recovery.specs.declared.FixReply.{FixReply}
 use Rattle.recovery.specs.Fix.{fixReplyOf}
@@ -28,15 +27,9 @@ use Rattle.cabinet.specs.Fresh.{Freshly}
 -- a call with its arguments as the code takes them: a set is a number of 16 bits, and a lent list comes with what stands in it
 pub data Asked : Type 0 where
   opening : (reads writes : ℕ) → Asked
-  vote : (change card : ℕ) (agrees : Bool) → Asked
-  take : (change card : ℕ) → Asked
-  withdraw : (change : ℕ) → Asked
-  store : (card state : ℕ) → Asked
-  trim : Asked
-  safe : (change : ℕ) → Asked
+  plain : Plain → Asked
   lose : (cards : ℕ) → Asked
   fix : (records : List CardRecord) (list : List ℕ) → Asked
-  roll : (card : ℕ) → Asked
   sheet : (card : ℕ) (buffer : List ℕ) → Asked
   -- restart from the sheets of all cards as this cabinet writes them, joined
   restart : Asked
@@ -44,30 +37,18 @@ pub data Asked : Type 0 where
 -- the call of the model
 abbrev pub callOf : Asked → Call
 callOf (opening reads writes) = run.openCall (member reads) (member writes)
-callOf (vote k c agrees) = run.voteCall k c agrees
-callOf (take k c) = run.takeCall k c
-callOf (withdraw k) = run.withdrawCall k
-callOf (store c s) = run.storeCall c s
-callOf trim = run.trimCall
-callOf (safe k) = run.safeCall k
+callOf (plain q) = run.plain q
 callOf (lose cards) = run.loseCall (member cards)
 callOf (fix records list) = run.fixCall (length records) (length list)
-callOf (roll c) = run.rollCall c
 callOf (sheet c buffer) = run.sheetCall c (length buffer)
 callOf restart = run.restartCall
 
 -- what the types of the arguments say: a set has 16 bits
 abbrev pub Typed : Asked → Type 0
 Typed (opening reads writes) = (reads < 65536) × (writes < 65536)
-Typed (vote k c agrees) = Unit {0}
-Typed (take k c) = Unit {0}
-Typed (withdraw k) = Unit {0}
-Typed (store c s) = Unit {0}
-Typed trim = Unit {0}
-Typed (safe k) = Unit {0}
+Typed (plain q) = Unit {0}
 Typed (lose cards) = cards < 65536
 Typed (fix records list) = Unit {0}
-Typed (roll c) = Unit {0}
 Typed (sheet c buffer) = Unit {0}
 Typed restart = Unit {0}
 
@@ -82,15 +63,9 @@ nothingLent = record { records = []; numbers = [] }
 -- before the call
 abbrev pub lent : Asked → Lent
 lent (opening reads writes) = nothingLent
-lent (vote k c agrees) = nothingLent
-lent (take k c) = nothingLent
-lent (withdraw k) = nothingLent
-lent (store c s) = nothingLent
-lent trim = nothingLent
-lent (safe k) = nothingLent
+lent (plain q) = nothingLent
 lent (lose cards) = nothingLent
 lent (fix records list) = record { records = records; numbers = list }
-lent (roll c) = nothingLent
 lent (sheet c buffer) = record { records = []; numbers = buffer }
 lent restart = nothingLent
 
@@ -128,15 +103,9 @@ pub record SheetAnswered (s : Cabinet) (card : ℕ) (before : List ℕ) (reply :
 -- what a call answers, the cabinet that it hands back, and what stands in the lists lent after it: the contract of each method
 abbrev pub Answered : Cabinet → Asked → Reply → Cabinet → Lent → Type 0
 Answered s (opening reads writes) reply next after = OpenCarried s reads writes reply next × (after ≡ nothingLent)
-Answered s (vote k c agrees) reply next after = Carried s (votePlan limits16 (view s) k c agrees) reply next × (after ≡ nothingLent)
-Answered s (take k c) reply next after = Carried s (takePlan limits16 (view s) k c) reply next × (after ≡ nothingLent)
-Answered s (withdraw k) reply next after = Carried s (withdrawPlan limits16 (view s) k) reply next × (after ≡ nothingLent)
-Answered s (store c x) reply next after = Carried s (storePlan limits16 (view s) c x) reply next × (after ≡ nothingLent)
-Answered s trim reply next after = Carried s (trimPlan limits16 (view s)) reply next × (after ≡ nothingLent)
-Answered s (safe k) reply next after = Carried s (safePlan limits16 (view s) k) reply next × (after ≡ nothingLent)
+Answered s (plain q) reply next after = Carried s (plainPlan limits16 (view s) q) reply next × (after ≡ nothingLent)
 Answered s (lose cards) reply next after = Carried s (losePlan limits16 (view s) (member cards)) reply next × (after ≡ nothingLent)
 Answered s (fix records list) reply next after = FixAnswered s records list reply next after
-Answered s (roll c) reply next after = Carried s (rollPlan limits16 (view s) c) reply next × (after ≡ nothingLent)
 Answered s (sheet c buffer) reply next after = SheetAnswered s c buffer reply next after
 Answered s restart reply next after = FromOwnSheets s reply next × (after ≡ nothingLent)
 

@@ -17,7 +17,8 @@ use Rattle.words.specs.declared.Request.{Request}
 use Rattle.words.specs.declared.Request.the-variants.{Open, Vote, Take, Withdraw, Store, Trim, Safe, Lose, Fix, Roll, Sheet, Restart, Show}
 use Rattle.answers.specs.Texts.{replyText}
 use Rattle.asking.specs.Told.{Planned, OpenTold, readsBeyond, writesBeyond, openWithin, LoseTold, setBeyond, lostWithin, Told}
-use Rattle.demands.specs.Lists.{Asked, opening, vote, take, withdraw, store, trim, safe, lose, fix, roll, sheet, restart, Typed, Lent, nothingLent, Answered}
+use Rattle.protocol.specs.Run.{voteCall, takeCall, withdrawCall, storeCall, trimCall, safeCall, rollCall}
+use Rattle.demands.specs.Lists.{Asked, opening, plain, lose, fix, sheet, restart, Typed, Lent, nothingLent, Answered}
 use Rattle.demands.proofs.Some.{ReachedBy, fix-by, sheet-by}
 use Rattle.promises.specs.Texts.{Makes, opens, votes, takes, withdraws, stores, trims, asks-safe, loses, fixes, rolls, writes-sheet, restarts, NoCall, beyond-reads, beyond-writes, beyond-lost, looks}
 
@@ -48,12 +49,12 @@ module _ (c : Cabinet) (new : Cabinet) (u : List ℕ) where
       opened (readsBeyond b k) = stayed (beyond-reads reads writes b) (k .cabinet)
       opened (writesBeyond b k) = stayed (beyond-writes reads writes b) (k .cabinet)
       opened (openWithin a b q d e) = called (opening reads writes) (opens reads writes a b) (omega arith, omega arith) q nothingLent (d, refl) e
-  meant (Vote change card agrees) o = planned (Vote change card agrees) (vote change card agrees) (votes change card agrees) tt _ o (record { answer = refl; cabinet = o .cabinet }, refl)
-  meant (Take change card) o = planned (Take change card) (take change card) (takes change card) tt _ o (record { answer = refl; cabinet = o .cabinet }, refl)
-  meant (Withdraw change) o = planned (Withdraw change) (withdraw change) (withdraws change) tt _ o (record { answer = refl; cabinet = o .cabinet }, refl)
-  meant (Store card state) o = planned (Store card state) (store card state) (stores card state) tt _ o (record { answer = refl; cabinet = o .cabinet }, refl)
-  meant Trim o = planned Trim trim trims tt _ o (record { answer = refl; cabinet = o .cabinet }, refl)
-  meant (Safe change) o = planned (Safe change) (safe change) (asks-safe change) tt _ o (record { answer = refl; cabinet = o .cabinet }, refl)
+  meant (Vote change card agrees) o = planned (Vote change card agrees) (plain (voteCall change card agrees)) (votes change card agrees) tt _ o (record { answer = refl; cabinet = o .cabinet }, refl)
+  meant (Take change card) o = planned (Take change card) (plain (takeCall change card)) (takes change card) tt _ o (record { answer = refl; cabinet = o .cabinet }, refl)
+  meant (Withdraw change) o = planned (Withdraw change) (plain (withdrawCall change)) (withdraws change) tt _ o (record { answer = refl; cabinet = o .cabinet }, refl)
+  meant (Store card state) o = planned (Store card state) (plain (storeCall card state)) (stores card state) tt _ o (record { answer = refl; cabinet = o .cabinet }, refl)
+  meant Trim o = planned Trim (plain trimCall) trims tt _ o (record { answer = refl; cabinet = o .cabinet }, refl)
+  meant (Safe change) o = planned (Safe change) (plain (safeCall change)) (asks-safe change) tt _ o (record { answer = refl; cabinet = o .cabinet }, refl)
   meant (Lose cards) o = losing o
     where
       losing : LoseTold c cards new u → Meant c (Lose cards) new u
@@ -74,7 +75,7 @@ module _ (c : Cabinet) (new : Cabinet) (u : List ℕ) where
 
       list-long : length list ≡ min numbers 776
       list-long = length-replicate (min numbers 776) 0
-  meant (Roll card) o = planned (Roll card) (roll card) (rolls card) tt _ o (record { answer = refl; cabinet = o .cabinet }, refl)
+  meant (Roll card) o = planned (Roll card) (plain (rollCall card)) (rolls card) tt _ o (record { answer = refl; cabinet = o .cabinet }, refl)
   meant (Sheet card bytes) o =
       reached (Sheet card bytes) (sheet card buffer) (writes-sheet card bytes buffer long) tt (sheetPlan codec limits16 (view c) card (length buffer))
       (subst (λ (a : ℕ). Planned c (sheetPlan codec limits16 (view c) card a) new u) (sym long) o) (sheet-by c card buffer)

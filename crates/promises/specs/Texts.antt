@@ -5,7 +5,7 @@ use mathlib.Core.Bool.{Bool, true}
 use mathlib.Core.List.{List, _++_}
 use lib.ListN.{length}
 use Rattle.protocol.specs.Plan.{Reply, accepted, done}
-use Rattle.protocol.specs.Run.{Calls, none, further}
+use Rattle.protocol.specs.Run.{voteCall, takeCall, withdrawCall, storeCall, trimCall, safeCall, rollCall, Calls, none, further}
 use Rattle.protocol.specs.Calls.{freshRefused}
 use Rattle.verdicts.specs.Shape.{limits16}
 use Rattle.records.specs.declared.CardRecord.{CardRecord}
@@ -19,21 +19,21 @@ use Rattle.answers.specs.Texts.{replyText}
 use Rattle.asking.specs.declared.Replay.{Replay}
 use Rattle.asking.specs.Step.{Steps}
 use Rattle.trace.specs.Steps.{nothingYet, Ran}
-use Rattle.demands.specs.Lists.{Asked, opening, vote, take, withdraw, store, trim, safe, lose, fix, roll, sheet, restart, callOf, Typed, Lent, Answered, List16, start, next}
+use Rattle.demands.specs.Lists.{Asked, opening, plain, lose, fix, sheet, restart, callOf, Typed, Lent, Answered, List16, start, next}
 use Rattle.demands.specs.Claims.{Throughout}
 
 -- the call that a line makes, and the lists that it lends
 pub data Makes : Spoken → Asked → Type 0 where
   opens : (reads writes : ℕ) → reads ≤ 65535 → writes ≤ 65535 → Makes (Asks (Open reads writes)) (opening reads writes)
-  votes : (change card : ℕ) (agrees : Bool) → Makes (Asks (Vote change card agrees)) (vote change card agrees)
-  takes : (change card : ℕ) → Makes (Asks (Take change card)) (take change card)
-  withdraws : (change : ℕ) → Makes (Asks (Withdraw change)) (withdraw change)
-  stores : (card state : ℕ) → Makes (Asks (Store card state)) (store card state)
-  trims : Makes (Asks Trim) trim
-  asks-safe : (change : ℕ) → Makes (Asks (Safe change)) (safe change)
+  votes : (change card : ℕ) (agrees : Bool) → Makes (Asks (Vote change card agrees)) (plain (voteCall change card agrees))
+  takes : (change card : ℕ) → Makes (Asks (Take change card)) (plain (takeCall change card))
+  withdraws : (change : ℕ) → Makes (Asks (Withdraw change)) (plain (withdrawCall change))
+  stores : (card state : ℕ) → Makes (Asks (Store card state)) (plain (storeCall card state))
+  trims : Makes (Asks Trim) (plain trimCall)
+  asks-safe : (change : ℕ) → Makes (Asks (Safe change)) (plain (safeCall change))
   loses : (cards : ℕ) → cards ≤ 65535 → Makes (Asks (Lose cards)) (lose cards)
   fixes : (records numbers : ℕ) (rows : List CardRecord) (list : List ℕ) → length rows ≡ min records 16 → length list ≡ min numbers 776 → Makes (Asks (Fix records numbers)) (fix rows list)
-  rolls : (card : ℕ) → Makes (Asks (Roll card)) (roll card)
+  rolls : (card : ℕ) → Makes (Asks (Roll card)) (plain (rollCall card))
   writes-sheet : (card bytes : ℕ) (buffer : List ℕ) → length buffer ≡ min bytes 65536 → Makes (Asks (Sheet card bytes)) (sheet card buffer)
   restarts : Makes (Asks Restart) restart
 

@@ -29,7 +29,7 @@ use Rattle.protocol.specs.Edit.{Edit, place, grow, raise, fall, halt, lo
 use Rattle.protocol.specs.Plan.{CardRow, Answer, safe, unsafe, fixed, accepted, Check, Plan, checked, afterPlan, Passed}
 use Rattle.protocol.specs.Calls.{lineOf, cardRows, someFrameAbove, hasFrame, writesLeft, isSafe, isLost, tookShare, takeChecks, safeChecks, loseChecks, fixChecks, rollChecks, allRolled}
 use Rattle.protocol.specs.Journal.{Journal, Fixing, fixing, greatestLine, noteRestartOf}
-use Rattle.protocol.specs.Run.{Call, openCall, voteCall, takeCall, withdrawCall, storeCall, trimCall, safeCall, loseCall, fixCall, rollCall, sheetCall, restartCall, Choice, Proper, planOf, afterCall, Calls, Run, start, next, journal, lastKept}
+use Rattle.protocol.specs.Run.{Call, plain, openCall, voteCall, takeCall, withdrawCall, storeCall, trimCall, safeCall, loseCall, fixCall, rollCall, sheetCall, restartCall, Choice, Proper, planOf, afterCall, Calls, Run, start, next, journal, lastKept}
 use Rattle.protocol.specs.Demands.{H, decisions, GreatestChoice, FixRight, RollRight, RestartRight, TakeRight, SafeRight, CallRight, RestartsTo, CabinetRight, Throughout, Demands}
 use Rattle.protocol.proofs.Taking.{put-same, reached-next}
 use Rattle.protocol.proofs.Intact.{lineAt, line-same}
@@ -322,8 +322,8 @@ module _ (L : Limits) (n : CardSet) (m : Model) (j : Journal) (v : Invariant L n
 call-right : (C : Codec) (L : Limits) (n : CardSet) → Carded L n → CodecLaw C L n → {cs : Calls} {m : Model} (r : Run C L n cs m) (call : Call) (x : Choice) → Proper L m call x
     → (a : Answer) → planOf C L m call x .reply ≡ accepted a → CallRight L n cs call a m (afterCall C L m call x)
 call-right C L n carded law r (openCall reads writes) x p a e = tt
-call-right C L n carded law r (voteCall k c agrees) x p a e = tt
-call-right C L n carded law {cs} {m} r (takeCall k c) x p a e =
+call-right C L n carded law r (plain (voteCall k c agrees)) x p a e = tt
+call-right C L n carded law {cs} {m} r (plain (takeCall k c)) x p a e =
     answered (λ (b : Answer) (q : Plan). TakeRight (journal L n cs) k c m (afterPlan L q m)) (takeChecks L m k c) _ _
     (λ ps.
     let kp : (placeOf L m k < L .places) × (isOpen (m .place (placeOf L m k)) ≡ true) × (m .place (placeOf L m k) .change .number ≡ k) = known-place L m k (not-not (isKnown L m k) (ps .1 .1 .1 .0)) in
@@ -333,10 +333,10 @@ call-right C L n carded law {cs} {m} r (takeCall k c) x p a e =
   where
     v : Invariant L n m (journal L n cs)
     v = run-invariant carded law r
-call-right C L n carded law r (withdrawCall k) x p a e = tt
-call-right C L n carded law r (storeCall c s) x p a e = tt
-call-right C L n carded law r trimCall x p a e = tt
-call-right C L n carded law {cs} {m} r (safeCall k) x p a e =
+call-right C L n carded law r (plain (withdrawCall k)) x p a e = tt
+call-right C L n carded law r (plain (storeCall c s)) x p a e = tt
+call-right C L n carded law r (plain trimCall) x p a e = tt
+call-right C L n carded law {cs} {m} r (plain (safeCall k)) x p a e =
     answered (λ (b : Answer) (q : Plan). SafeRight L (journal L n cs) k b) (safeChecks L m k) _ _
     (λ ps. safe-right L n m (journal L n cs) v (runs L n m (journal L n cs) v (up-runs (not-not (isUp (m .phase)) (ps .1 .0)))) (not-not (isUp (m .phase)) (ps .1 .0)) k (not-not (hasFrame L m k) (ps .1 .1 .0))) a e
   where
@@ -363,7 +363,7 @@ call-right C L n carded law {cs} {m} r (fixCall u z) x p a e =
     down-runs up z = refl
     down-runs down z = refl
     down-runs rolling z = clash z refl
-call-right C L n carded law {cs} {m} r (rollCall c) x p a e =
+call-right C L n carded law {cs} {m} r (plain (rollCall c)) x p a e =
     answered (λ (b : Answer) (q : Plan). RollRight (journal L n cs) c (afterPlan L q m)) (rollChecks L m c) _ _
     (λ ps. roll-right L n m (journal L n cs) (run-invariant carded law r) c (card-below L m c (not-not (isCard L m c) (ps .1 .0))) (not-not (isRolling (m .phase)) (ps .1 .1 .0))) a e
 call-right C L n carded law r (sheetCall c places) x p a e = tt

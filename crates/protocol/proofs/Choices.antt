@@ -13,7 +13,7 @@ use Rattle.laws.proofs.Logic.{fails, and-right, or-elim}
 use Rattle.laws.proofs.Below.{Found, any-elim, first-below, first-at, greatest-above, count-rest, count-once, occurs-selected}
 use Rattle.protocol.specs.Model.{Limits, Model}
 use Rattle.protocol.specs.Calls.{barred, frameAbove, someFrameAbove, lineOf, isLost}
-use Rattle.protocol.specs.Run.{openCall, voteCall, takeCall, withdrawCall, storeCall, trimCall, safeCall, loseCall, fixCall, rollCall, sheetCall, restartCall}
+use Rattle.protocol.specs.Run.{plain, openCall, loseCall, fixCall, sheetCall, restartCall}
 use Rattle.protocol.specs.Choices.{greatestLost, Choosable}
 
 -- ---- each number below a bound that passes a test, once
@@ -63,14 +63,8 @@ module _ (L : Limits) (m : Model) where
 
 pub choosable : Choosable
 choosable L m (openCall reads writes) = λ e. (first-below (L .width) (barred L m reads writes) e, first-at (L .width) (barred L m reads writes) (first-below (L .width) (barred L m reads writes) e))
-choosable L m (voteCall k c agrees) = tt
-choosable L m (takeCall k c) = tt
-choosable L m (withdrawCall k) = tt
-choosable L m (storeCall c s) = tt
-choosable L m trimCall = tt
-choosable L m (safeCall k) = tt
+choosable L m (plain q) = tt
 choosable L m (loseCall cards) = tt
 choosable L m (fixCall a b) = λ k. occurs-selected (suc (greatestLost L m)) (isLost L m) (λ i. i) k ∙ once-below (suc (greatestLost L m)) (isLost L m) k (lost-below L m k)
-choosable L m (rollCall c) = tt
 choosable L m (sheetCall c places) = tt
 choosable L m restartCall = tt

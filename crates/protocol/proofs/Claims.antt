@@ -7,12 +7,11 @@ use mathlib.Core.List.{List, [], _∷_}
 use native.Mathlib.Omega.{arith}
 use Rattle.refusal.specs.declared.Refusal.{Refusal}
 use Rattle.refusal.specs.Number.{rowOf}
-use Rattle.protocol.specs.Codec.{Codec, sheetChecks}
+use Rattle.protocol.specs.Codec.{Codec}
 use Rattle.protocol.specs.Model.{Limits, Model}
 use Rattle.protocol.specs.Edit.{Edit}
 use Rattle.protocol.specs.Plan.{Answer, Reply, accepted, refused, Check, _⇒_, Plan, checked, Passed, Due, afterPlan}
-use Rattle.protocol.specs.Calls.{openChecks, voteChecks, takeChecks, withdrawChecks, storeChecks, trimChecks, safeChecks, loseChecks, fixChecks, rollChecks}
-use Rattle.protocol.specs.Run.{Call, openCall, voteCall, takeCall, withdrawCall, storeCall, trimCall, safeCall, loseCall, fixCall, rollCall, sheetCall, restartCall, Choice, checksOf, planOf, afterCall, afterRestart}
+use Rattle.protocol.specs.Run.{Plain, Call, plain, openCall, voteCall, takeCall, withdrawCall, storeCall, trimCall, safeCall, loseCall, fixCall, rollCall, sheetCall, restartCall, Choice, plainChecks, plainPlan, checksOf, planOf, afterCall, afterRestart}
 use Rattle.protocol.specs.Demands.{Demand1}
 use Rattle.protocol.proofs.Steps.{checked-case}
 
@@ -34,17 +33,23 @@ acceptance-passed : (cs : List Check) (a : Answer) (es : List Edit) (b : Answer)
 acceptance-passed cs a es = checked-case (λ (p : Plan). (b : Answer) → p .reply ≡ accepted b → Passed cs) cs a es (λ r b e. not-both b r (sym e)) (λ ps b e. ps)
 
 -- the reply of a call is that of its table
-by-table : (C : Codec) (L : Limits) (m : Model) (call : Call) (x : Choice) → (a : Answer) × (es : List Edit) × (planOf C L m call x ≡ checked (checksOf C L m call x) a es)
+abbrev pub ByTable : Plan → List Check → Type 0
+ByTable p cs = (a : Answer) × (es : List Edit) × (p ≡ checked cs a es)
+
+by-plain : (L : Limits) (m : Model) (q : Plain) → ByTable (plainPlan L m q) (plainChecks L m q)
+by-plain L m (voteCall k c agrees) = (_, _, refl)
+by-plain L m (takeCall k c) = (_, _, refl)
+by-plain L m (withdrawCall k) = (_, _, refl)
+by-plain L m (storeCall c s) = (_, _, refl)
+by-plain L m trimCall = (_, _, refl)
+by-plain L m (safeCall k) = (_, _, refl)
+by-plain L m (rollCall c) = (_, _, refl)
+
+pub by-table : (C : Codec) (L : Limits) (m : Model) (call : Call) (x : Choice) → ByTable (planOf C L m call x) (checksOf C L m call x)
 by-table C L m (openCall reads writes) x = (_, _, refl)
-by-table C L m (voteCall k c agrees) x = (_, _, refl)
-by-table C L m (takeCall k c) x = (_, _, refl)
-by-table C L m (withdrawCall k) x = (_, _, refl)
-by-table C L m (storeCall c s) x = (_, _, refl)
-by-table C L m trimCall x = (_, _, refl)
-by-table C L m (safeCall k) x = (_, _, refl)
+by-table C L m (plain q) x = by-plain L m q
 by-table C L m (loseCall cards) x = (_, _, refl)
 by-table C L m (fixCall a b) x = (_, _, refl)
-by-table C L m (rollCall c) x = (_, _, refl)
 by-table C L m (sheetCall c places) x = (_, _, refl)
 by-table C L m restartCall x = (_, _, refl)
 
@@ -57,19 +62,18 @@ demand-1 C L m call x =
       unchanged = unchanged call;
     }
   where
-    t : (a : Answer) × (es : List Edit) × (planOf C L m call x ≡ checked (checksOf C L m call x) a es)
+    t : ByTable (planOf C L m call x) (checksOf C L m call x)
     t = by-table C L m call x
 
+    keeps : (call : Call) (r : Refusal) → planOf C L m call x .reply ≡ refused r → afterPlan L (planOf C L m call x) m ≡ m
+    keeps call r e =
+        let b : ByTable (planOf C L m call x) (checksOf C L m call x) = by-table C L m call x in
+        ap (λ (q : Plan). afterPlan L q m) (b .2) ∙ refusal-keeps L m (checksOf C L m call x) (b .0) (b .1) r (sym (ap (λ (q : Plan). q .reply) (b .2)) ∙ e)
+
     unchanged : (call : Call) (r : Refusal) → planOf C L m call x .reply ≡ refused r → afterCall C L m call x ≡ m
-    unchanged (openCall reads writes) = refusal-keeps L m (openChecks L m reads writes (x .named)) _ _
-    unchanged (voteCall k c agrees) = refusal-keeps L m (voteChecks L m k c) _ _
-    unchanged (takeCall k c) = refusal-keeps L m (takeChecks L m k c) _ _
-    unchanged (withdrawCall k) = refusal-keeps L m (withdrawChecks L m k) _ _
-    unchanged (storeCall c s) = refusal-keeps L m (storeChecks L m c s) _ _
-    unchanged trimCall = refusal-keeps L m (trimChecks L m) _ _
-    unchanged (safeCall k) = refusal-keeps L m (safeChecks L m k) _ _
-    unchanged (loseCall cards) = refusal-keeps L m (loseChecks L m cards) _ _
-    unchanged (fixCall a b) = refusal-keeps L m (fixChecks L m a b (x .lost)) _ _
-    unchanged (rollCall c) = refusal-keeps L m (rollChecks L m c) _ _
-    unchanged (sheetCall c places) = refusal-keeps L m (sheetChecks C L m c places) _ _
+    unchanged (openCall reads writes) = keeps (openCall reads writes)
+    unchanged (plain q) = keeps (plain q)
+    unchanged (loseCall cards) = keeps (loseCall cards)
+    unchanged (fixCall a b) = keeps (fixCall a b)
+    unchanged (sheetCall c places) = keeps (sheetCall c places)
     unchanged restartCall = λ r e. ap (λ (y : Reply). afterRestart y (C .restarted L (C .joined L m)) m) e

@@ -27,7 +27,7 @@ use Rattle.protocol.specs.Edit.{Edit}
 use Rattle.protocol.specs.Plan.{Answer, done, accepted, replyOf, Check, Plan, checked, afterPlan}
 use Rattle.protocol.specs.Calls.{cardRows, openChecks, voteChecks, takeChecks, withdrawChecks, storeChecks, trimChecks, safeChecks, loseChecks, fixChecks, rollChecks}
 use Rattle.protocol.specs.Journal.{Journal, Fixing, unfixed, fixing, noteOpen, noteVote, noteStruck, noteStore, noteLose, noteFix, noteRoll}
-use Rattle.protocol.specs.Run.{Call, openCall, voteCall, takeCall, withdrawCall, storeCall, trimCall, safeCall, loseCall, fixCall, rollCall, sheetCall, restartCall, Choice, planOf, afterCall, afterRestart, Calls, Run, start, next, note, journal}
+use Rattle.protocol.specs.Run.{Call, plain, openCall, voteCall, takeCall, withdrawCall, storeCall, trimCall, safeCall, loseCall, fixCall, rollCall, sheetCall, restartCall, Choice, planOf, afterCall, afterRestart, Calls, Run, start, next, note, journal}
 use Rattle.protocol.specs.Demands.{VectorsRight}
 use Rattle.protocol.proofs.Restart.{recallable, restart-again, Remade, CodecLaw}
 use Rattle.protocol.proofs.Taking.{Framed, ByTakenWriters}
@@ -66,15 +66,15 @@ step : (C : Codec) (L : Limits) (n : CardSet) → CodecLaw C L n → (m : Model)
     → Invariant L n (afterCall C L m call x) (note L n j call (planOf C L m call x .reply))
 step C L n law m j v (openCall reads writes) x =
     subst (Invariant L n _) (same-note L n j (noteOpen j (suc (m .count)) reads writes) (openCall reads writes) (openChecks L m reads writes (x .named)) _ _ refl) (next-open L n m j v reads writes (x .named))
-step C L n law m j v (voteCall k c agrees) x = subst (Invariant L n _) (same-note L n j (noteVote L j k c agrees) (voteCall k c agrees) (voteChecks L m k c) _ _ refl) (next-vote L n m j v k c agrees)
-step C L n law m j v (takeCall k c) x = subst (Invariant L n _) (same-note L n j j (takeCall k c) (takeChecks L m k c) _ _ refl) (next-take L n m j v k c)
-step C L n law m j v (withdrawCall k) x = subst (Invariant L n _) (same-note L n j (noteStruck j k) (withdrawCall k) (withdrawChecks L m k) _ _ refl) (next-withdraw L n m j v k)
-step C L n law m j v (storeCall c s) x = subst (Invariant L n _) (same-note L n j (noteStore j c s) (storeCall c s) (storeChecks L m c s) _ _ refl) (next-store L n m j v c s)
-step C L n law m j v trimCall x = subst (Invariant L n _) (same-note L n j j trimCall (trimChecks L m) _ _ refl) (next-trim L n m j v)
-step C L n law m j v (safeCall k) x = subst (Invariant L n _) (same-note L n j j (safeCall k) (safeChecks L m k) _ _ refl) (next-safe L n m j v k)
+step C L n law m j v (plain (voteCall k c agrees)) x = subst (Invariant L n _) (same-note L n j (noteVote L j k c agrees) (plain (voteCall k c agrees)) (voteChecks L m k c) _ _ refl) (next-vote L n m j v k c agrees)
+step C L n law m j v (plain (takeCall k c)) x = subst (Invariant L n _) (same-note L n j j (plain (takeCall k c)) (takeChecks L m k c) _ _ refl) (next-take L n m j v k c)
+step C L n law m j v (plain (withdrawCall k)) x = subst (Invariant L n _) (same-note L n j (noteStruck j k) (plain (withdrawCall k)) (withdrawChecks L m k) _ _ refl) (next-withdraw L n m j v k)
+step C L n law m j v (plain (storeCall c s)) x = subst (Invariant L n _) (same-note L n j (noteStore j c s) (plain (storeCall c s)) (storeChecks L m c s) _ _ refl) (next-store L n m j v c s)
+step C L n law m j v (plain trimCall) x = subst (Invariant L n _) (same-note L n j j (plain trimCall) (trimChecks L m) _ _ refl) (next-trim L n m j v)
+step C L n law m j v (plain (safeCall k)) x = subst (Invariant L n _) (same-note L n j j (plain (safeCall k)) (safeChecks L m k) _ _ refl) (next-safe L n m j v k)
 step C L n law m j v (loseCall cards) x = subst (Invariant L n _) (same-note L n j (noteLose j) (loseCall cards) (loseChecks L m cards) _ _ refl) (next-lose L n m j v cards)
 step C L n law m j v (fixCall a b) x = subst (Invariant L n _) (same-note L n j (noteFix j (cardRows L m)) (fixCall a b) (fixChecks L m a b (x .lost)) _ _ refl) (next-fix L n m j v a b (x .lost))
-step C L n law m j v (rollCall c) x = subst (Invariant L n _) (same-note L n j (noteRoll L n j c) (rollCall c) (rollChecks L m c) _ _ refl) (next-roll L n m j v c)
+step C L n law m j v (plain (rollCall c)) x = subst (Invariant L n _) (same-note L n j (noteRoll L n j c) (plain (rollCall c)) (rollChecks L m c) _ _ refl) (next-roll L n m j v c)
 step C L n law m j v (sheetCall c places) x =
     subst (Invariant L n _) (same-note L n j j (sheetCall c places) (sheetChecks C L m c places) _ _ refl)
     (checked-case (λ (p : Plan). Invariant L n (afterPlan L p m) (noted j j (p .reply))) (sheetChecks C L m c places) _ _ (λ r. v) (λ ps. v))

@@ -3,21 +3,15 @@ use Prim.Native.Nat.{ℕ, suc, _+_, _-_, max}
 use Rattle.laws.specs.Below.{greatest, firstBelow, selected}
 use Rattle.protocol.specs.Model.{Limits, Model}
 use Rattle.protocol.specs.Calls.{barred, lineOf, isLost}
-use Rattle.protocol.specs.Run.{Call, openCall, voteCall, takeCall, withdrawCall, storeCall, trimCall, safeCall, loseCall, fixCall, rollCall, sheetCall, restartCall, Choice, Proper}
+use Rattle.protocol.specs.Run.{Call, plain, openCall, loseCall, fixCall, sheetCall, restartCall, Choice, Proper}
 
 -- ---- one choice for every call of what document 01 leaves to the program
 -- the lowest barred card
 abbrev pub lowestBarred : Limits → Model → Call → ℕ
 lowestBarred L m (openCall reads writes) = firstBelow (L .width) (barred L m reads writes)
-lowestBarred L m (voteCall k c agrees) = 0
-lowestBarred L m (takeCall k c) = 0
-lowestBarred L m (withdrawCall k) = 0
-lowestBarred L m (storeCall c s) = 0
-lowestBarred L m trimCall = 0
-lowestBarred L m (safeCall k) = 0
+lowestBarred L m (plain q) = 0
 lowestBarred L m (loseCall cards) = 0
 lowestBarred L m (fixCall a b) = 0
-lowestBarred L m (rollCall c) = 0
 lowestBarred L m (sheetCall c places) = 0
 lowestBarred L m restartCall = 0
 

@@ -20,7 +20,7 @@ use Rattle.protocol.specs.Plan.{Answer, safe, fixed, accepted, refused, 
 use Rattle.protocol.specs.Calls.{freshModel}
 use Rattle.protocol.specs.Codec.{Codec}
 use Rattle.protocol.specs.Journal.{Journal, fixing, noteRestart}
-use Rattle.protocol.specs.Run.{Call, voteCall, takeCall, withdrawCall, openCall, storeCall, trimCall, safeCall, loseCall, fixCall, rollCall, sheetCall, restartCall, Choice, checksOf, planOf, afterCall, Calls, none, further, Run, start, next, journal, lastKept}
+use Rattle.protocol.specs.Run.{Call, plain, voteCall, takeCall, withdrawCall, openCall, storeCall, trimCall, safeCall, loseCall, fixCall, rollCall, sheetCall, restartCall, Choice, checksOf, planOf, afterCall, Calls, none, further, Run, start, next, journal, lastKept}
 
 -- ---- Demand 1, for any cabinet, a forged one too, and any arguments: "gets an answer or a refusal from document 01. A refusal changes neither the cabinet nor any lent list or buffer."
 -- (The lent lists and buffers are in the contracts of the calls.)
@@ -113,16 +113,16 @@ pub record SafeRight (L : Limits) (j : Journal) (k : ℕ) (answer : Answer) : Ty
 -- what holds of an accepted call, made at the cabinet m after the calls cs, that leaves the cabinet m'
 abbrev pub CallRight : Limits → (n : CardSet) → Calls → Call → Answer → (m m' : Model) → Type 0
 CallRight L n cs (openCall reads writes) a m m' = Unit {0}
-CallRight L n cs (voteCall k c agrees) a m m' = Unit {0}
-CallRight L n cs (takeCall k c) a m m' = TakeRight (journal L n cs) k c m m'
-CallRight L n cs (withdrawCall k) a m m' = Unit {0}
-CallRight L n cs (storeCall c s) a m m' = Unit {0}
-CallRight L n cs trimCall a m m' = Unit {0}
-CallRight L n cs (safeCall k) a m m' = SafeRight L (journal L n cs) k a
+CallRight L n cs (plain (voteCall k c agrees)) a m m' = Unit {0}
+CallRight L n cs (plain (takeCall k c)) a m m' = TakeRight (journal L n cs) k c m m'
+CallRight L n cs (plain (withdrawCall k)) a m m' = Unit {0}
+CallRight L n cs (plain (storeCall c s)) a m m' = Unit {0}
+CallRight L n cs (plain trimCall) a m m' = Unit {0}
+CallRight L n cs (plain (safeCall k)) a m m' = SafeRight L (journal L n cs) k a
 -- "on a lost card its last accepted store or roll stands .. and nothing above"
 CallRight L n cs (loseCall cards) a m m' = (c : ℕ) → c < L .width → n c ≡ true → cards c ≡ true → m' .numbers .held c ≡ lastKept L n cs c
 CallRight L n cs (fixCall x y) a m m' = FixRight L n (journal L n cs) a
-CallRight L n cs (rollCall c) a m m' = RollRight (journal L n cs) c m'
+CallRight L n cs (plain (rollCall c)) a m m' = RollRight (journal L n cs) c m'
 CallRight L n cs (sheetCall c places) a m m' = Unit {0}
 CallRight L n cs restartCall a m m' = RestartRight L n (journal L n cs) m'
 

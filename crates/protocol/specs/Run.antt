@@ -12,18 +12,22 @@ use Rattle.protocol.specs.Calls.{freshModel, barred, isLost, openChecks,
 use Rattle.protocol.specs.Codec.{Codec, sheetChecks, sheetPlan, restartChecks, restartPlan}
 use Rattle.protocol.specs.Journal.{Journal, Fixing, unfixed, fixing, emptyJournal, noteOpen, noteVote, noteStruck, noteStore, noteLose, noteFix, noteRoll, noteRestart}
 
+-- calls 2 to 7 and 10: numbers go in, nothing is lent, and nothing is left to the program
+pub data Plain : Type 0 where
+  voteCall : (change card : ℕ) (agrees : Bool) → Plain
+  takeCall : (change card : ℕ) → Plain
+  withdrawCall : (change : ℕ) → Plain
+  storeCall : (card state : ℕ) → Plain
+  trimCall : Plain
+  safeCall : (change : ℕ) → Plain
+  rollCall : (card : ℕ) → Plain
+
 -- calls 1 to 10 with the lengths of the lists lent, sheet writing with the buffer's, and restart
 pub data Call : Type 0 where
   openCall : (reads writes : CardSet) → Call
-  voteCall : (change card : ℕ) (agrees : Bool) → Call
-  takeCall : (change card : ℕ) → Call
-  withdrawCall : (change : ℕ) → Call
-  storeCall : (card state : ℕ) → Call
-  trimCall : Call
-  safeCall : (change : ℕ) → Call
+  plain : Plain → Call
   loseCall : (cards : CardSet) → Call
   fixCall : (cardPlaces lostPlaces : ℕ) → Call
-  rollCall : (card : ℕ) → Call
   sheetCall : (card places : ℕ) → Call
   -- restart from the sheets of all cards as this cabinet writes them, joined
   restartCall : Call
@@ -37,15 +41,9 @@ pub record Choice : Type 0 where
 abbrev pub Proper : Limits → Model → Call → Choice → Type 0
 Proper L m (openCall reads writes) x =
     anyBelow (L .width) (barred L m reads writes) ≡ true → (x .named < L .width) × (barred L m reads writes (x .named) ≡ true)
-Proper L m (voteCall k c agrees) x = Unit {0}
-Proper L m (takeCall k c) x = Unit {0}
-Proper L m (withdrawCall k) x = Unit {0}
-Proper L m (storeCall c s) x = Unit {0}
-Proper L m trimCall x = Unit {0}
-Proper L m (safeCall k) x = Unit {0}
+Proper L m (plain q) x = Unit {0}
 Proper L m (loseCall cards) x = Unit {0}
 Proper L m (fixCall a b) x = (k : ℕ) → occurs k (x .lost) ≡ one-if (isLost L m k)
-Proper L m (rollCall c) x = Unit {0}
 Proper L m (sheetCall c places) x = Unit {0}
 Proper L m restartCall x = Unit {0}
 
@@ -55,47 +53,47 @@ afterRestart (accepted a) new old = new
 afterRestart (refused r) new old = old
 
 -- the table of a call
+abbrev pub plainChecks : Limits → Model → Plain → List Check
+plainChecks L m (voteCall k c agrees) = voteChecks L m k c
+plainChecks L m (takeCall k c) = takeChecks L m k c
+plainChecks L m (withdrawCall k) = withdrawChecks L m k
+plainChecks L m (storeCall c s) = storeChecks L m c s
+plainChecks L m trimCall = trimChecks L m
+plainChecks L m (safeCall k) = safeChecks L m k
+plainChecks L m (rollCall c) = rollChecks L m c
+
 abbrev pub checksOf : Codec → Limits → Model → Call → Choice → List Check
 checksOf C L m (openCall reads writes) x = openChecks L m reads writes (x .named)
-checksOf C L m (voteCall k c agrees) x = voteChecks L m k c
-checksOf C L m (takeCall k c) x = takeChecks L m k c
-checksOf C L m (withdrawCall k) x = withdrawChecks L m k
-checksOf C L m (storeCall c s) x = storeChecks L m c s
-checksOf C L m trimCall x = trimChecks L m
-checksOf C L m (safeCall k) x = safeChecks L m k
+checksOf C L m (plain q) x = plainChecks L m q
 checksOf C L m (loseCall cards) x = loseChecks L m cards
 checksOf C L m (fixCall a b) x = fixChecks L m a b (x .lost)
-checksOf C L m (rollCall c) x = rollChecks L m c
 checksOf C L m (sheetCall c places) x = sheetChecks C L m c places
 checksOf C L m restartCall x = restartChecks C L m
 
 -- the plan of a call
+abbrev pub plainPlan : Limits → Model → Plain → Plan
+plainPlan L m (voteCall k c agrees) = votePlan L m k c agrees
+plainPlan L m (takeCall k c) = takePlan L m k c
+plainPlan L m (withdrawCall k) = withdrawPlan L m k
+plainPlan L m (storeCall c s) = storePlan L m c s
+plainPlan L m trimCall = trimPlan L m
+plainPlan L m (safeCall k) = safePlan L m k
+plainPlan L m (rollCall c) = rollPlan L m c
+
 abbrev pub planOf : Codec → Limits → Model → Call → Choice → Plan
 planOf C L m (openCall reads writes) x = openPlan L m reads writes (x .named)
-planOf C L m (voteCall k c agrees) x = votePlan L m k c agrees
-planOf C L m (takeCall k c) x = takePlan L m k c
-planOf C L m (withdrawCall k) x = withdrawPlan L m k
-planOf C L m (storeCall c s) x = storePlan L m c s
-planOf C L m trimCall x = trimPlan L m
-planOf C L m (safeCall k) x = safePlan L m k
+planOf C L m (plain q) x = plainPlan L m q
 planOf C L m (loseCall cards) x = losePlan L m cards
 planOf C L m (fixCall a b) x = fixPlan L m a b (x .lost)
-planOf C L m (rollCall c) x = rollPlan L m c
 planOf C L m (sheetCall c places) x = sheetPlan C L m c places
 planOf C L m restartCall x = restartPlan C L m
 
 -- the cabinet after a call
 abbrev pub afterCall : Codec → Limits → Model → Call → Choice → Model
 afterCall C L m (openCall reads writes) x = afterPlan L (planOf C L m (openCall reads writes) x) m
-afterCall C L m (voteCall k c agrees) x = afterPlan L (planOf C L m (voteCall k c agrees) x) m
-afterCall C L m (takeCall k c) x = afterPlan L (planOf C L m (takeCall k c) x) m
-afterCall C L m (withdrawCall k) x = afterPlan L (planOf C L m (withdrawCall k) x) m
-afterCall C L m (storeCall c s) x = afterPlan L (planOf C L m (storeCall c s) x) m
-afterCall C L m trimCall x = afterPlan L (planOf C L m trimCall x) m
-afterCall C L m (safeCall k) x = afterPlan L (planOf C L m (safeCall k) x) m
+afterCall C L m (plain q) x = afterPlan L (plainPlan L m q) m
 afterCall C L m (loseCall cards) x = afterPlan L (planOf C L m (loseCall cards) x) m
 afterCall C L m (fixCall a b) x = afterPlan L (planOf C L m (fixCall a b) x) m
-afterCall C L m (rollCall c) x = afterPlan L (planOf C L m (rollCall c) x) m
 afterCall C L m (sheetCall c places) x = afterPlan L (planOf C L m (sheetCall c places) x) m
 afterCall C L m restartCall x = afterRestart (restartPlan C L m .reply) (C .restarted L (C .joined L m)) m
 
@@ -132,15 +130,15 @@ rowsIn (written bytes) = []
 -- what the journal notes of an accepted call
 abbrev pub noteAccepted : Limits → CardSet → Journal → Call → Answer → Journal
 noteAccepted L n j (openCall reads writes) a = noteOpen j (numberIn a) reads writes
-noteAccepted L n j (voteCall k c agrees) a = noteVote L j k c agrees
-noteAccepted L n j (takeCall k c) a = j
-noteAccepted L n j (withdrawCall k) a = noteStruck j k
-noteAccepted L n j (storeCall c s) a = noteStore j c s
-noteAccepted L n j trimCall a = j
-noteAccepted L n j (safeCall k) a = j
+noteAccepted L n j (plain (voteCall k c agrees)) a = noteVote L j k c agrees
+noteAccepted L n j (plain (takeCall k c)) a = j
+noteAccepted L n j (plain (withdrawCall k)) a = noteStruck j k
+noteAccepted L n j (plain (storeCall c s)) a = noteStore j c s
+noteAccepted L n j (plain trimCall) a = j
+noteAccepted L n j (plain (safeCall k)) a = j
 noteAccepted L n j (loseCall cards) a = noteLose j
 noteAccepted L n j (fixCall x y) a = noteFix j (rowsIn a)
-noteAccepted L n j (rollCall c) a = noteRoll L n j c
+noteAccepted L n j (plain (rollCall c)) a = noteRoll L n j c
 noteAccepted L n j (sheetCall c places) a = j
 noteAccepted L n j restartCall a = noteRestart L j
 
@@ -161,15 +159,15 @@ lineNoted (fixing line marked) c = line c
 
 abbrev pub keptAfter : Journal → Call → Numbers → Numbers
 keptAfter j (openCall reads writes) x = x
-keptAfter j (voteCall k c agrees) x = x
-keptAfter j (takeCall k c) x = x
-keptAfter j (withdrawCall k) x = x
-keptAfter j (storeCall c s) x = put x c s
-keptAfter j trimCall x = x
-keptAfter j (safeCall k) x = x
+keptAfter j (plain (voteCall k c agrees)) x = x
+keptAfter j (plain (takeCall k c)) x = x
+keptAfter j (plain (withdrawCall k)) x = x
+keptAfter j (plain (storeCall c s)) x = put x c s
+keptAfter j (plain trimCall) x = x
+keptAfter j (plain (safeCall k)) x = x
 keptAfter j (loseCall cards) x = x
 keptAfter j (fixCall a b) x = x
-keptAfter j (rollCall c) x = put x c (lineNoted (j .fix) c)
+keptAfter j (plain (rollCall c)) x = put x c (lineNoted (j .fix) c)
 keptAfter j (sheetCall c places) x = x
 keptAfter j restartCall x = x
 
