@@ -1,6 +1,5 @@
 // Sets of cards as numbers: card i is in the set where the digit of the number at i is 1, card 0 the lowest.
 // Every function is total: a card or a number of cards outside the set's 16 digits is answered too.
-ghost use Prim.Native.Nat.{ℕ};
 ghost use mathlib.Core.Path.{_≡_};
 ghost use mathlib.Core.Bool.{not};
 ghost use Rattle.laws.specs.Below.{anyBelow, countBelow, firstBelow};

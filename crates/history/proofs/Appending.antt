@@ -1,15 +1,15 @@
 -- Appending a change to the history alters no earlier vector, and a cut stays one. Assumes nothing.
 use Prim.Native.Nat.{ℕ, zero, suc, _+_, _≤_, _<_}
 use mathlib.Core.Path.{_≡_, refl, sym, _∙_, ap, ap₂}
-use mathlib.Core.Bool.{Bool, true, false, _&&_, cond}
-use native.Mathlib.Nat.{lt-trans, le-step, lt-suc-self, lt-irrefl}
+use mathlib.Core.Bool.{Bool, true, _&&_}
+use native.Mathlib.Nat.{lt-trans, le-step, lt-suc-self}
 use native.Mathlib.Omega.{arith}
 use lib.Dec.{ltb}
 use borrow.Author.Tests.{ltb-true, lt-ltb, le-ltb, ne-eqb}
-use Rattle.laws.specs.Below.{one-if, countBelow}
+use Rattle.laws.specs.Below.{one-if}
 use Rattle.laws.proofs.Logic.{and-left, and-right, and-intro}
 use Rattle.laws.proofs.Below.{count-same}
-use Rattle.history.specs.Change.{Change, History, Numbers, meets, writers, Precedes, direct, chain, Closed, left, writersIn, ConsistentCut, Cut, appended, noChange, historyOf, made}
+use Rattle.history.specs.Change.{Change, History, Numbers, meets, writers, Precedes, direct, chain, Closed, writersIn, Cut, appended, noChange, historyOf, made}
 use mathlib.Core.List.{List, [], _∷_, _++_}
 use native.Mathlib.Numerals.{add-one}
 use lib.ListN.{length, length-append, List·getD-append}

@@ -1,18 +1,16 @@
 -- "its greatest state, from base to reached, with no hit from base + 1 up to it": what the climb answers is that state. Assumes nothing.
 use Prim.Native.Nat.{ℕ, zero, suc, _+_, _-_, _≤_, _<_}
-use mathlib.Core.Path.{_≡_, refl, sym, _∙_, ap}
-use mathlib.Core.Bool.{Bool, true, false, cond}
-use mathlib.Core.Logic.{_⊎_, inl, inr, by-cases, ⊎-elim}
-use native.Mathlib.Nat.{not-suc-le-zero, eq-or-lt-of-le, le-antisymm}
+use mathlib.Core.Path.{_≡_, refl, sym, _∙_}
+use mathlib.Core.Bool.{Bool, true, false}
+use mathlib.Core.Logic.{_⊎_, by-cases, ⊎-elim}
+use native.Mathlib.Nat.{eq-or-lt-of-le, le-antisymm}
 use native.Mathlib.Decide.{decLe}
 use native.Mathlib.Omega.{arith}
-use lib.Dec.{leb, leb·suc-suc}
-use borrow.Author.Tests.{leb-true, leb-false, le-leb, lt-leb}
-use Rattle.laws.specs.Below.{anyBelow}
+use borrow.Author.Tests.{leb-false, lt-leb}
 use Rattle.laws.proofs.Logic.{test, clash, fails}
 use Rattle.laws.proofs.Below.{any-intro, any-elim, Found}
 use Rattle.history.specs.Change.{Numbers}
-use Rattle.history.specs.Vector.{Vector, Entry, none, state, entryOf}
+use Rattle.history.specs.Vector.{Vector, entryOf}
 use Rattle.history.specs.Line.{atOrAbove, orphan, climb, Climbed, lineFrom}
 
 pub climbed : (f : ℕ → Bool) (base k : ℕ) → Climbed f base (base + k) (climb f base k)

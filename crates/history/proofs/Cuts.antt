@@ -1,14 +1,13 @@
 -- In a set closed under precedence the writers of a card are the first ones of that card. Assumes nothing.
-use Prim.Native.Nat.{ℕ, zero, suc, _+_, _≤_, _<_}
-use mathlib.Core.Path.{_≡_, refl, sym, _∙_, ap}
+use Prim.Native.Nat.{ℕ, _+_, _≤_, _<_}
+use mathlib.Core.Path.{_≡_}
 use mathlib.Core.Bool.{Bool, true, false, _&&_}
-use mathlib.Core.Logic.{_⊎_, inl, inr, by-cases, ⊎-elim}
-use native.Mathlib.Nat.{le-refl, le-antisymm}
-use native.Mathlib.Decide.{decLe, decLt, ℕ-discrete}
+use mathlib.Core.Logic.{inl, by-cases}
+use native.Mathlib.Decide.{decLt, ℕ-discrete}
 use native.Mathlib.Omega.{arith}
 use Rattle.laws.proofs.Logic.{test, clash, and-left, and-right, and-intro, fails, same-test}
-use Rattle.laws.proofs.Below.{count-mono, count-same, count-imp, count-rest, count-past}
-use Rattle.history.specs.Change.{Change, History, Numbers, writers, found, made, Precedes, direct, UpTo, Closed, writersIn, left}
+use Rattle.laws.proofs.Below.{count-same, count-imp, count-rest, count-past}
+use Rattle.history.specs.Change.{History, Numbers, writers, made, Precedes, direct, Closed, writersIn, left}
 use Rattle.history.proofs.Writers.{Maker, maker}
 use Rattle.history.proofs.Precedence.{writes-touches, meets-intro}
 

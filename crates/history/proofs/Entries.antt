@@ -1,14 +1,13 @@
 -- The last state that precedes by Definition 2 is the greatest state made up to the maker. Assumes nothing.
-use Prim.Native.Nat.{ℕ, zero, suc, _+_, _≤_, _<_}
+use Prim.Native.Nat.{ℕ, zero, suc, _<_}
 use mathlib.Core.Path.{_≡_, refl, sym, _∙_, ap}
-use mathlib.Core.Bool.{Bool, true, false}
-use mathlib.Core.Logic.{_⊎_, inl, inr, by-cases, ⊎-elim}
-use native.Mathlib.Nat.{le-refl, not-suc-le-zero, suc-inj}
-use native.Mathlib.Decide.{decLe, decLt}
+use mathlib.Core.Bool.{true}
+use mathlib.Core.Logic.{_⊎_, inl, inr, ⊎-elim}
+use native.Mathlib.Nat.{not-suc-le-zero, suc-inj}
 use native.Mathlib.Omega.{arith}
-use Rattle.history.specs.Change.{Change, History, Numbers, writers, found, made, Precedes, UpTo}
-use Rattle.history.specs.Report.{W, Before, StateBefore}
-use Rattle.history.specs.Vector.{Vector, Entry, none, state, entryOf, vector, stateVector, LastPreceding, IsVector}
+use Rattle.history.specs.Change.{History, Numbers, found, made, Precedes, UpTo}
+use Rattle.history.specs.Report.{Before, StateBefore}
+use Rattle.history.specs.Vector.{Vector, entryOf, vector, stateVector, LastPreceding, IsVector}
 use Rattle.history.proofs.Writers.{Maker, maker, one-maker, made-found}
 use Rattle.history.proofs.Precedence.{by-document, by-report, up-to-le}
 use Rattle.history.proofs.Greatest.{Greatest, Makes, greatest-unique}

@@ -1,18 +1,18 @@
 -- A state consistent by Definition 3 is a cut without the bound of stored, and the other way round. Assumes nothing.
-use Prim.Native.Nat.{ℕ, zero, suc, _+_, _≤_, _<_, zero-le}
+use Prim.Native.Nat.{ℕ, zero, suc, _+_, _<_}
 use mathlib.Core.Path.{_≡_, refl, sym, _∙_, ap}
 use mathlib.Core.Bool.{Bool, true, false, _&&_, _||_}
-use mathlib.Core.Logic.{_⊎_, inl, inr, by-cases, dite, ⊎-elim}
-use native.Mathlib.Nat.{le-refl, le-antisymm, le-step, lt-suc-self, lt-trans}
-use native.Mathlib.Decide.{decLe, decLt, ℕ-discrete}
+use mathlib.Core.Logic.{by-cases}
+use native.Mathlib.Nat.{le-step, lt-suc-self, lt-trans}
+use native.Mathlib.Decide.{decLt}
 use native.Mathlib.Omega.{arith}
 use lib.Dec.{eqb}
 use borrow.Author.Tests.{eqb-true, eq-eqb, ne-eqb}
 use Rattle.laws.specs.Below.{one-if, countBelow, anyBelow}
-use Rattle.laws.proofs.Logic.{test, clash, and-left, and-right, and-intro, or-left, or-right, fails, same-test}
-use Rattle.laws.proofs.Below.{Found, any-intro, any-elim, count-same, count-once, count-mono, count-past, count-imp, Nth, nth}
-use Rattle.history.specs.Change.{Change, History, Numbers, writers, found, made, Precedes, writersIn, left, Closed, ConsistentCut}
-use Rattle.history.specs.Report.{Before, Consistent}
+use Rattle.laws.proofs.Logic.{fails, same-test}
+use Rattle.laws.proofs.Below.{Found, any-intro, any-elim, count-same, count-once, count-past, Nth, nth}
+use Rattle.history.specs.Change.{History, Numbers, writers, Precedes, writersIn, Closed, ConsistentCut}
+use Rattle.history.specs.Report.{Consistent}
 use Rattle.history.proofs.Precedence.{by-document, by-report, forward}
 
 -- the members of T's first l

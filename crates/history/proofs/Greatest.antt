@@ -1,14 +1,12 @@
 -- The greatest state made on a card by the changes of a set: the algebra by which vectors are shown to be right. Assumes nothing.
-use Prim.Native.Nat.{ℕ, zero, suc, _+_, _≤_, _<_, max, zero-le}
-use mathlib.Core.Path.{_≡_, refl, sym, _∙_, ap}
-use mathlib.Core.Bool.{Bool, true, false}
+use Prim.Native.Nat.{ℕ, _≤_, _<_, max}
+use mathlib.Core.Path.{_≡_, sym, _∙_}
+use mathlib.Core.Bool.{true}
 use mathlib.Core.Logic.{_⊎_, inl, inr, by-cases, ⊎-elim}
 use native.Mathlib.Nat.{not-suc-le-zero, le-trans, le-max-left, le-max-right, max-eq-left, max-eq-right, le-of-lt, lt-of-not-le}
 use native.Mathlib.Decide.{decLe, decLt}
 use native.Mathlib.Omega.{arith}
-use Rattle.laws.specs.Below.{greatest}
-use Rattle.laws.proofs.Below.{greatest-above, greatest-met}
-use Rattle.history.specs.Change.{Change, History, Numbers, made}
+use Rattle.history.specs.Change.{History, Numbers, made}
 
 -- a change of the set Q that makes state v of card j
 abbrev pub Makes : History → Numbers → (ℕ → Type 0) → ℕ → ℕ → Type 0

@@ -1,19 +1,19 @@
 -- The recovery line: it is a cut, no cut is above it, and it lets a change through exactly where all that the change depends on is stored.
 -- Over any vectors that are the vectors, apart from how they are worked out. Assumes nothing.
-use Prim.Native.Nat.{ℕ, zero, suc, _+_, _-_, _≤_, _<_}
-use mathlib.Core.Path.{_≡_, refl, sym, _∙_, ap}
-use mathlib.Core.Bool.{Bool, true, false, not, _&&_, _||_}
+use Prim.Native.Nat.{ℕ, _+_, _-_, _≤_, _<_}
+use mathlib.Core.Path.{_≡_, refl}
+use mathlib.Core.Bool.{Bool, true, false, not}
 use mathlib.Core.Logic.{_⊎_, inl, inr, by-cases, ⊎-elim}
-use native.Mathlib.Nat.{le-refl, le-trans, le-antisymm}
-use native.Mathlib.Decide.{decLe, decLt, ℕ-discrete}
+use native.Mathlib.Nat.{le-trans, le-antisymm}
+use native.Mathlib.Decide.{decLt, ℕ-discrete}
 use native.Mathlib.Omega.{arith}
-use Rattle.laws.proofs.Logic.{test, clash, not-true, not-intro}
-use Rattle.history.specs.Change.{Change, History, Numbers, writers, found, made, Precedes, UpTo, Closed, left, ConsistentCut, Cut}
+use Rattle.laws.proofs.Logic.{not-true, not-intro}
+use Rattle.history.specs.Change.{History, Numbers, writers, made, Precedes, UpTo, Closed, left, Cut}
 use Rattle.history.specs.Vector.{Vector, vector, IsVector}
 use Rattle.history.specs.Line.{orphan, Climbed, lineFrom, line}
 use Rattle.history.proofs.Writers.{Maker, maker, made-found, makers-order, found-mono}
 use Rattle.history.proofs.Precedence.{up-to-trans, up-to-le}
-use Rattle.history.proofs.Greatest.{Greatest, Makes, greatest-mono}
+use Rattle.history.proofs.Greatest.{Makes, greatest-mono}
 use Rattle.history.proofs.Vectors.{vector-greatest}
 use Rattle.history.proofs.Climb.{line-climbed, climbed-from, climbed-unique, kept, no-orphan}
 use Rattle.history.proofs.Cuts.{told-by-makers, in-left, left-in, left-top, writers-precede}

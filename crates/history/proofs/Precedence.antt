@@ -1,13 +1,13 @@
 -- Precedence: it goes forward, its last link, and precedence by Definition 1 is precedence by document 01. Assumes nothing.
-use Prim.Native.Nat.{ℕ, zero, suc, _+_, _≤_, _<_}
-use mathlib.Core.Path.{_≡_, refl, sym, _∙_, ap}
-use mathlib.Core.Bool.{Bool, true, false, _&&_, _||_, not}
-use mathlib.Core.Logic.{_⊎_, inl, inr, by-cases, ⊎-elim, _↔_}
+use Prim.Native.Nat.{ℕ, zero, suc, _≤_, _<_}
+use mathlib.Core.Path.{_≡_, refl}
+use mathlib.Core.Bool.{true, false, _&&_, _||_}
+use mathlib.Core.Logic.{_⊎_, inl, inr, by-cases, ⊎-elim}
 use native.Mathlib.Nat.{lt-trans, le-refl}
-use native.Mathlib.Decide.{decLe, decLt, ℕ-discrete}
+use native.Mathlib.Decide.{decLt, ℕ-discrete}
 use native.Mathlib.Omega.{arith}
-use Rattle.laws.proofs.Logic.{test, clash, and-left, and-right, and-intro, or-left, or-right, or-elim, fails}
-use Rattle.history.specs.Change.{Change, History, Numbers, touches, meets, writers, found, made, Precedes, direct, chain, UpTo}
+use Rattle.laws.proofs.Logic.{test, clash, and-left, and-right, and-intro, or-left, or-right, or-elim}
+use Rattle.history.specs.Change.{Change, History, Numbers, touches, meets, found, made, Precedes, direct, chain, UpTo}
 use Rattle.history.specs.Report.{RW, W, R, Before}
 use Rattle.history.proofs.Writers.{Maker, made-found, found-mono, last-writer, next-writer}
 

@@ -1,22 +1,22 @@
 -- Theorems 1 and 2 of the report, as printed. Assumes nothing.
-use Prim.Native.Nat.{ℕ, zero, suc, _+_, _≤_, _<_}
-use mathlib.Core.Path.{_≡_, refl, sym, _∙_, ap}
-use mathlib.Core.Bool.{Bool, true, false}
+use Prim.Native.Nat.{ℕ, suc, _+_, _≤_, _<_}
+use mathlib.Core.Path.{_≡_, _∙_}
+use mathlib.Core.Bool.{true}
 use mathlib.Core.Logic.{_⊎_, inl, inr, by-cases, ⊎-elim, _↔_}
-use native.Mathlib.Nat.{le-refl, le-trans, le-antisymm}
+use native.Mathlib.Nat.{le-refl, le-antisymm}
 use native.Mathlib.Decide.{decLe, decLt, ℕ-discrete}
 use native.Mathlib.Omega.{arith}
-use Rattle.history.specs.Change.{Change, History, Numbers, writers, found, made, Precedes, UpTo, left, ConsistentCut, Cut}
+use Rattle.history.specs.Change.{History, Numbers, writers, made, Precedes, UpTo, ConsistentCut, Cut}
 use Rattle.history.specs.Report.{StateBefore, Consistent, Global, RecoveryLine}
-use Rattle.history.specs.Vector.{Vector, vector, stateVector, IsVector}
+use Rattle.history.specs.Vector.{vector, stateVector}
 use Rattle.history.specs.Line.{line}
-use Rattle.history.proofs.Writers.{Maker, maker, made-found, makers-order}
-use Rattle.history.proofs.Precedence.{up-to-trans, up-to-le}
-use Rattle.history.proofs.Greatest.{Greatest, Makes}
+use Rattle.history.proofs.Writers.{Maker, maker, made-found}
+use Rattle.history.proofs.Precedence.{up-to-trans}
+use Rattle.history.proofs.Greatest.{Makes}
 use Rattle.history.proofs.Vectors.{vector-greatest}
 use Rattle.history.proofs.Cuts.{in-left, left-in, writers-precede}
 use Rattle.history.proofs.Entries.{overwritten, precedes-state, state-vector-is}
-use Rattle.history.proofs.Lines.{Fits, line-is, on-fits, fits-on, line-cut, cut-below}
+use Rattle.history.proofs.Lines.{Fits, line-is, on-fits, fits-on, line-cut}
 use Rattle.history.proofs.Executions.{consistent-cut, cut-consistent}
 
 -- cuts go by the cards' numbers alone

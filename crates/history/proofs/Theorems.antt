@@ -1,13 +1,13 @@
 -- The theorems of histories, for any number of cards, any history and any stored numbers. Assumes nothing.
-use Prim.Native.Nat.{ℕ, zero, suc, _+_, _≤_, _<_}
-use mathlib.Core.Path.{_≡_, refl, sym, _∙_, ap}
-use mathlib.Core.Bool.{Bool, true, false, not, _&&_, _||_}
+use Prim.Native.Nat.{ℕ, suc, _+_, _≤_, _<_}
+use mathlib.Core.Path.{_≡_, sym}
+use mathlib.Core.Bool.{Bool, true, not, _&&_, _||_}
 use mathlib.Core.Logic.{_↔_, ⊎-elim}
 use lib.Dec.{leb, eqb}
 use borrow.Author.Tests.{leb-true, le-leb}
-use Rattle.laws.specs.Below.{allBelow, anyBelow, countBelow, occurs}
+use Rattle.laws.specs.Below.{countBelow, occurs}
 use Rattle.laws.proofs.Logic.{test, clash, and-left, and-right, and-intro, or-left, or-right, or-elim, not-true, not-intro, fails}
-use Rattle.laws.proofs.Below.{Found, any-elim, any-intro, all-at, all-intro, occurs-selected}
+use Rattle.laws.proofs.Below.{Found, any-elim, all-at, all-intro, occurs-selected}
 use Rattle.history.specs.Change.{Change, History, Numbers, writers, made, Precedes, ConsistentCut, Cut, On, appended}
 use Rattle.history.specs.Report.{Before, StateBefore, Consistent, Global, RecoveryLine}
 use Rattle.history.specs.Vector.{Vector, vector, stateVector, IsVector}

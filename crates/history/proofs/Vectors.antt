@@ -1,20 +1,19 @@
 -- The vector that document 01's call 3 works out is the greatest state of each card made by the change or by one that precedes it. Assumes nothing.
-use Prim.Native.Nat.{ℕ, zero, suc, _+_, _≤_, _<_, max, zero-le}
+use Prim.Native.Nat.{ℕ, zero, suc, _+_, _≤_, _<_}
 use mathlib.Core.Path.{_≡_, refl, sym, _∙_, ap}
-use mathlib.Core.Bool.{Bool, true, false, _||_, cond}
+use mathlib.Core.Bool.{Bool, true, false, cond}
 use mathlib.Core.Logic.{_⊎_, inl, inr, by-cases, ⊎-elim}
-use native.Mathlib.Nat.{not-suc-le-zero, le-trans, le-refl, le-step, lt-suc-self, le-of-eq}
-use native.Mathlib.Decide.{decLe, decLt, ℕ-discrete}
+use native.Mathlib.Nat.{not-suc-le-zero, le-trans, le-refl, le-step, lt-suc-self}
+use native.Mathlib.Decide.{ℕ-discrete}
 use native.Mathlib.Omega.{arith}
-use lib.Dec.{eqb}
-use borrow.Author.Tests.{eq-eqb, ne-eqb, eqb-true}
+use borrow.Author.Tests.{eq-eqb, ne-eqb}
 use Rattle.laws.specs.Below.{one-if, greatest}
-use Rattle.laws.proofs.Logic.{test, clash, or-left, or-right, or-elim, cond-true, cond-false}
+use Rattle.laws.proofs.Logic.{test, clash, or-left, or-elim}
 use Rattle.laws.proofs.Below.{below-suc, greatest-above, greatest-met, Met}
-use Rattle.history.specs.Change.{Change, History, Numbers, touches, meets, writers, found, made, Precedes, direct, chain, UpTo}
-use Rattle.history.specs.Vector.{Vector, Tracked, share, vectorOf, withOwn, noEntries, joined, taken, after, vector}
+use Rattle.history.specs.Change.{Change, History, Numbers, touches, writers, found, made, direct, UpTo}
+use Rattle.history.specs.Vector.{Vector, Tracked, share, vectorOf, withOwn, after, vector}
 use Rattle.history.proofs.Writers.{made-found}
-use Rattle.history.proofs.Precedence.{Link, linked, last-link, up-to-trans, up-to-le, writes-touches, meets-intro, meets-writes, meets-first, meets-second}
+use Rattle.history.proofs.Precedence.{Link, last-link, up-to-trans, up-to-le, writes-touches, meets-intro, meets-writes, meets-first, meets-second}
 use Rattle.history.proofs.Greatest.{Greatest, Makes, greatest-none, greatest-of, greatest-either}
 
 -- up to a change before i that wrote card c

@@ -1,15 +1,15 @@
 -- The writers of one card: each makes the next state, each state has one maker, and makers come in the order of the states. Assumes nothing.
 use Prim.Native.Nat.{ℕ, zero, suc, _+_, _≤_, _<_}
-use mathlib.Core.Path.{_≡_, refl, sym, _∙_, ap}
-use mathlib.Core.Bool.{Bool, true, false}
-use mathlib.Core.Logic.{_⊎_, inl, inr, by-cases}
-use native.Mathlib.Nat.{not-suc-le-zero, lt-suc-self, le-step}
+use mathlib.Core.Path.{_≡_, ap}
+use mathlib.Core.Bool.{true, false}
+use mathlib.Core.Logic.{by-cases}
+use native.Mathlib.Nat.{lt-suc-self, le-step}
 use native.Mathlib.Decide.{decLe, decLt, ℕ-discrete}
 use native.Mathlib.Omega.{arith}
 use Rattle.laws.specs.Below.{one-if}
 use Rattle.laws.proofs.Logic.{test, clash}
 use Rattle.laws.proofs.Below.{count-mono}
-use Rattle.history.specs.Change.{Change, History, Numbers, writers, found, made}
+use Rattle.history.specs.Change.{History, Numbers, writers, found, made}
 
 -- a change below n that makes state x of card c
 pub record Maker (H : History) (start : Numbers) (n c x : ℕ) : Type 0 where

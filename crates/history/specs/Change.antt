@@ -1,6 +1,6 @@
 -- Changes and their history, as document 01 has them ("Cards, states, changes" and "The setter's book").
 -- The number of cards is a parameter, the width: a card is a number below it. A card that is not there is one that no change touches.
-use Prim.Native.Nat.{ℕ, zero, suc, _+_, _≤_, _<_}
+use Prim.Native.Nat.{ℕ, suc, _+_, _≤_, _<_}
 use mathlib.Core.Path.{_≡_}
 use mathlib.Core.Bool.{Bool, true, false, _&&_, _||_, cond}
 use mathlib.Core.List.{List}

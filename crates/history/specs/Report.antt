@@ -1,10 +1,10 @@
 -- Definitions 1 to 3 of EPFL IC/2005/017, as the report has them. A transaction is a change, by its position in the history; a server is a card.
 -- A state is written with its card and its number: the report's σ with index c and exponent γ is `c γ` here.
-use Prim.Native.Nat.{ℕ, zero, suc, _+_, _≤_, _<_}
+use Prim.Native.Nat.{ℕ, suc, _+_, _≤_, _<_}
 use mathlib.Core.Path.{_≡_}
-use mathlib.Core.Bool.{Bool, true}
+use mathlib.Core.Bool.{true}
 use mathlib.Core.Logic.{_⊎_}
-use Rattle.history.specs.Change.{Change, History, Numbers, touches, writers, found}
+use Rattle.history.specs.Change.{History, Numbers, touches, writers, found}
 
 -- RW(t): "the set of server states accessed by transaction t"
 abbrev pub RW : History → Numbers → ℕ → ℕ → ℕ → Type 0

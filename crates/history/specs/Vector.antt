@@ -1,6 +1,6 @@
 -- Dependency vectors, as document 01's call 3 works them out, left to right over the history.
 use Prim.Native.Nat.{ℕ, zero, suc, _+_, _≤_, _<_, max}
-use mathlib.Core.Bool.{Bool, cond}
+use mathlib.Core.Bool.{cond}
 use lib.Dec.{eqb}
 use Rattle.laws.specs.Below.{greatest}
 use Rattle.history.specs.Change.{Change, History, Numbers, writers}

@@ -1,16 +1,15 @@
 // Open changes in their eight places.
 ghost use mathlib.Core.Path.{_≡_};
-ghost use mathlib.Core.Bool.{not, _&&_, _||_, cond, true};
-ghost use Prim.Native.Nat.{ℕ, _<_};
+ghost use mathlib.Core.Bool.{not, _&&_, _||_};
+ghost use Prim.Native.Nat.{_<_};
 ghost use lib.Dec.{eqb};
-ghost use Rattle.laws.specs.Below.{allBelow, anyBelow, countBelow, firstBelow};
+ghost use Rattle.laws.specs.Below.{countBelow, firstBelow};
 ghost use Rattle.bits.specs.Member.{member};
-ghost use Rattle.bits.specs.Sets.{subset, either};
 ghost use Rattle.history.specs.Change.{touches};
-ghost use Rattle.protocol.specs.Model.{isOpen, decided, closed, toWrite, awaitsWrite, withCard, freePlace};
+ghost use Rattle.protocol.specs.Model.{isOpen, decided, awaitsWrite};
 ghost use Rattle.protocol.specs.Edit.{remembered};
-ghost use Rattle.protocol.specs.Calls.{bars, tookShare, openedChange};
-ghost use Rattle.verdicts.specs.Shape.{limits16, at, listOf, setOf, openOf, openAt, placeFor};
+ghost use Rattle.protocol.specs.Calls.{tookShare};
+ghost use Rattle.verdicts.specs.Shape.{limits16, openOf, openAt, placeFor};
 use limits::Limits;
 use verdicts::Place;
 

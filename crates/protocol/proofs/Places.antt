@@ -1,7 +1,7 @@
 -- The open changes of a cabinet against the history: what is known of each place, and how one place is written anew. Assumes nothing.
 use Prim.Native.Nat.{ℕ, _+_, _≤_, _<_}
 use mathlib.Core.Path.{_≡_, sym, _∙_}
-use mathlib.Core.Bool.{true, false, not}
+use mathlib.Core.Bool.{true, false}
 use mathlib.Core.Logic.{by-cases}
 use native.Mathlib.Decide.{ℕ-discrete}
 use Rattle.history.specs.Change.{CardSet, History, Numbers, touches, meets}

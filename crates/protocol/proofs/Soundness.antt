@@ -12,7 +12,7 @@ use borrow.Author.Tests.{le-leb, lt-ltb, eq-eqb, ne-eqb}
 use Rattle.laws.specs.Below.{allBelow}
 use Rattle.laws.proofs.Logic.{test, clash, fails, and-left, and-right, and-intro, or-left, or-right, not-true, not-intro}
 use Rattle.laws.proofs.Below.{Found, any-elim, any-intro, all-intro}
-use Rattle.history.specs.Change.{CardSet, History, Numbers, touches, meets, writers, made, UpTo, historyOf}
+use Rattle.history.specs.Change.{CardSet, History, Numbers, touches, writers, UpTo, historyOf}
 use Rattle.history.specs.Vector.{Vector, vector}
 use Rattle.history.proofs.Writers.{Maker, maker, made-found, found-mono}
 use Rattle.history.proofs.Precedence.{writes-touches, meets-intro, up-to-le}

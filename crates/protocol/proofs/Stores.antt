@@ -18,13 +18,32 @@ use Rattle.history.proofs.Precedence.{writes-touches}
 use Rattle.history.proofs.Entries.{state-vector-is}
 use Rattle.history.proofs.Lines.{line-is, line-cut}
 use Rattle.protocol.specs.Model.{Limits, Phase, up, down, rolling, isUp, isDown, Model, isOpen, decided, toWrite, awaitsWrite}
-use Rattle.protocol.specs.Edit.{keep, rebase, fall, halt, remembered, editedAll}
+use Rattle.protocol.specs.Edit.{put, withNumbers, keep, rebase, fall, halt, remembered, editedAll}
 use Rattle.protocol.specs.Calls.{lineOf, lines}
 use Rattle.protocol.specs.Journal.{Journal, noteStore, noteLose}
-use Rattle.protocol.proofs.Taking.{put-same, put-other, put-case}
+use Rattle.protocol.proofs.Taking.{Took, put-same, put-other, put-case}
 use Rattle.protocol.proofs.Intact.{Intact, lineAt, bridge, based-line, line-based}
 use Rattle.protocol.proofs.Places.{Opened, Stood}
 use Rattle.protocol.proofs.Running.{StandsFor, Remembers, Unfinished, About, Running}
+
+-- what the invariant says of the history speaks of neither stored nor held
+about-again : {L : Limits} {m : Model} {start : Numbers} {n : ℕ} {took : Took} {at : ℕ → ℕ} {H : History} (stored held : Numbers) → About L m start n took at H
+    → About L (withNumbers m (record { base = m .numbers .base; stored = stored; held = held; reached = m .numbers .reached }) (m .memory)) start n took at H
+about-again stored held a =
+    record {
+      orderly = a .orderly;
+      levels = a .levels;
+      tracks = a .tracks;
+      framed = a .framed;
+      based = a .based;
+      numbered = a .numbered;
+      bounded = a .bounded;
+      there = a .there;
+      standing = a .standing;
+      open-untaken = a .open-untaken;
+      ended-untaken = a .ended-untaken;
+      ended-real = a .ended-real;
+    }
 
 -- ---- store
 pub store-keeps : (L : Limits) (m : Model) (j : Journal) → Running L m j → (c s : ℕ) → c < L .width → m .numbers .stored c ≤ s → s ≤ m .numbers .held c
@@ -52,21 +71,7 @@ store-keeps L m j r c s l low high =
       not-fixed = r .not-fixed;
       places-open = r .places-open;
       places-down = r .places-down;
-      about = λ H agree. let a : About L m (j .start) (length (j .history)) (r .took) (r .at) H = r .about H agree in
-          record {
-            orderly = a .orderly;
-            levels = a .levels;
-            tracks = a .tracks;
-            framed = a .framed;
-            based = a .based;
-            numbered = a .numbered;
-            bounded = a .bounded;
-            there = a .there;
-            standing = a .standing;
-            open-untaken = a .open-untaken;
-            ended-untaken = a .ended-untaken;
-            ended-real = a .ended-real;
-          };
+      about = λ H agree. about-again (put (m .numbers .stored) c s) (m .numbers .held) (r .about H agree);
     }
 
 -- ---- the line of the cabinet
@@ -244,21 +249,7 @@ module _ (L : Limits) (m : Model) (j : Journal) (r : Running L m j) (cards : Car
               strangers = r .places-open .strangers;
             };
         places-down = r .places-down;
-        about = λ H agree. let a : About L m (j .start) (length (j .history)) (r .took) (r .at) H = r .about H agree in
-            record {
-              orderly = a .orderly;
-              levels = a .levels;
-              tracks = a .tracks;
-              framed = a .framed;
-              based = a .based;
-              numbered = a .numbered;
-              bounded = a .bounded;
-              there = a .there;
-              standing = a .standing;
-              open-untaken = a .open-untaken;
-              ended-untaken = a .ended-untaken;
-              ended-real = a .ended-real;
-            };
+        about = λ H agree. about-again (m .numbers .stored) fallen (r .about H agree);
       }
 
   -- from up the open changes end, and the decided ones with a written share untaken are remembered

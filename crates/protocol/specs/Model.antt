@@ -1,5 +1,5 @@
 -- A cabinet with no layout: what document 01 says of it, by card, by state and by place. Every representation has a view into this model.
-use Prim.Native.Nat.{ℕ, _+_, _≤_}
+use Prim.Native.Nat.{ℕ}
 use mathlib.Core.Bool.{Bool, true, false, not, _&&_, _||_}
 use lib.Dec.{eqb, ltb}
 use Rattle.laws.specs.Below.{allBelow, anyBelow, firstBelow}

@@ -1,15 +1,12 @@
-use Prim.Native.Nat.{ℕ, suc, _+_, _*_, _-_, _≤_, _<_}
-use mathlib.Core.Path.{_≡_, refl, sym, _∙_, ap, ap₂}
-use mathlib.Core.Bool.{Bool, true, false, not, _&&_, _||_, cond}
+use Prim.Native.Nat.{ℕ, _-_}
+use mathlib.Core.Path.{sym, _∙_, ap}
+use mathlib.Core.Bool.{not, _&&_}
 use native.Mathlib.Omega.{arith}
-use lib.ListN.{length, getD, List·getD-eq-default}
-use lib.Dec.{leb, ltb, eqb}
-use Rattle.laws.proofs.Fill.{AllSoFar, all-none, all-more, all-done}
-use Rattle.verdicts.specs.Shape.{limits16, at, presentOf}
+use lib.Dec.{ltb}
+use Rattle.verdicts.specs.Shape.{presentOf}
 use Rattle.laws.specs.Below.{anyBelow}
 use Rattle.verdicts.proofs.Limits.{width16}
 use Rattle.numbers.proofs.Tests.{cards-limits}
-use borrow.Author.Needs.{needs}
 use Rattle.numbers.proofs.cards_sound.Statement.{statement}
 use Rattle.numbers.proofs.cards_sound.Tie as tie
 use Rattle.numbers.proofs.cards_sound.Reads as reads

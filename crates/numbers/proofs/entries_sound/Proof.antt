@@ -1,9 +1,6 @@
-use Prim.Native.Nat.{ℕ, suc, _+_, _*_, _-_, _≤_, _<_}
-use mathlib.Core.Path.{_≡_, refl, sym, _∙_, ap, ap₂}
-use mathlib.Core.Bool.{Bool, true, false, not, _&&_, _||_, cond}
-use native.Mathlib.Omega.{arith}
-use lib.ListN.{length, getD, List·getD-eq-default}
-use lib.Dec.{leb, ltb, eqb}
+use Prim.Native.Nat.{_-_}
+use mathlib.Core.Bool.{cond}
+use lib.Dec.{leb, ltb}
 use Rattle.laws.proofs.Fill.{AllSoFar, all-none, all-more, all-done}
 use Rattle.verdicts.specs.Shape.{limits16, at}
 use Rattle.verdicts.proofs.Limits.{width16}
