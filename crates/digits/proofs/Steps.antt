@@ -1,16 +1,15 @@
 -- One turn of each loop, over variables. Assumes nothing.
 use Prim.Native.Nat.{ℕ, zero, suc, _+_, _*_, _-_, _/_, _%_, _^_, _≤_, _<_}
-use mathlib.Core.Path.{_≡_, refl, sym, _∙_, ap}
+use mathlib.Core.Path.{_≡_, sym, _∙_}
 use mathlib.Core.Bool.{Bool, true, false, _&&_, cond}
 use mathlib.Core.List.{List, [], _∷_, _++_}
 use native.Mathlib.Nat.{pow-le-pow-right}
 use native.Mathlib.Numerals.{add-one}
 use native.Mathlib.Omega.{arith}
 use lib.Dec.{lit<, leb, eqb}
-use lib.ListN.{length, take, drop, getD, set, length-append, length-drop, length-take, drop-of-length-le}
+use lib.ListN.{length, take, drop, getD, set, length-drop, drop-of-length-le}
 use lib.Seq.{sets, take-suc, getD-drop, drop-cons, drop-drop}
-use Rattle.laws.proofs.Logic.{clash}
-use Rattle.laws.proofs.Seq.{left, left-step, left-all, sets-append, sets-set}
+use Rattle.laws.proofs.Seq.{left, left-step, sets-append, sets-set}
 use Rattle.refusal.specs.declared.Refusal.the-variants.{BadLine, EndOrMore}
 use Rattle.digits.specs.declared.Sums.{Sums}
 use Rattle.digits.specs.declared.Line.the-variants.{Whole, Fault}

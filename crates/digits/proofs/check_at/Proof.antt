@@ -1,15 +1,8 @@
 -- `digits::check_at` judges the check of a line. Assumes nothing.
-use mathlib.Core.Path.{refl, sym, _∙_}
 use borrow.Author.Needs.{needs}
-use native.Mathlib.Omega.{arith}
 use Rattle.digits.proofs.Steps.{check-judged}
 use Rattle.digits.proofs.check_at.Statement.{statement}
 use Rattle.digits.proofs.check_at.Tie as tie
-use Rattle.digits.proofs.check_at.Reads as reads
-use Rattle.digits.proofs.check_at.Lts as lts
-use Rattle.digits.proofs.check_number.Reads as check-number-reads
-use Rattle.digits.proofs.number_at.Reads as number-at-reads
-use Rattle.digits.proofs.sums_over.Reads as sums-over-reads
 
 sums-over-requires : tie.Need-sums-over-requires
 sums-over-requires c κs = search needs

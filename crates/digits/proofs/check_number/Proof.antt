@@ -4,8 +4,6 @@ use borrow.Author.Needs.{needs}
 use Rattle.digits.specs.Line.{checkOf}
 use Rattle.digits.proofs.check_number.Statement.{statement}
 use Rattle.digits.proofs.check_number.Tie as tie
-use Rattle.digits.proofs.check_number.Reads as reads
-use Rattle.digits.proofs.check_number.Lts as lts
 
 cast-result : tie.Need-cast-result
 cast-result c = search needs

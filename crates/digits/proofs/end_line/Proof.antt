@@ -1,17 +1,10 @@
 -- `digits::end_line` ends a line. Assumes nothing.
-use mathlib.Core.Path.{refl, sym, _∙_}
 use borrow.Author.Needs.{needs}
-use native.Mathlib.Omega.{arith}
 use lib.ListN.{take, drop}
 use Rattle.digits.specs.Line.{summed, checkOf}
 use Rattle.digits.proofs.Steps.{end-step}
 use Rattle.digits.proofs.end_line.Statement.{statement}
 use Rattle.digits.proofs.end_line.Tie as tie
-use Rattle.digits.proofs.end_line.Reads as reads
-use Rattle.digits.proofs.end_line.Lts as lts
-use Rattle.digits.proofs.check_number.Reads as check-number-reads
-use Rattle.digits.proofs.put_number.Reads as put-number-reads
-use Rattle.digits.proofs.sums_over.Reads as sums-over-reads
 
 sums-over-requires : tie.Need-sums-over-requires
 sums-over-requires c κs = search needs

@@ -8,9 +8,6 @@ use borrow.Author.Tests.{le-leb, lt-leb, eq-eqb, ne-eqb, not-true, not-false}
 use Rattle.digits.proofs.Steps.{shape-end, shape-tests}
 use Rattle.digits.proofs.shape_at.Statement.{statement}
 use Rattle.digits.proofs.shape_at.Tie as tie
-use Rattle.digits.proofs.shape_at.Reads as reads
-use Rattle.digits.proofs.shape_at.Lts as lts
-use Rattle.digits.proofs.all_digits.Reads as all-digits-reads
 
 returns : tie.Need-returns
 returns c = shape-end _ _ _ (c .if1 .taken)

@@ -5,8 +5,6 @@ use native.Mathlib.Omega.{arith}
 use Rattle.frame_reader.proofs.Absent.{absent-other, absent-own}
 use Rattle.frame_reader.proofs.absent_allowed.Statement.{statement}
 use Rattle.frame_reader.proofs.absent_allowed.Tie as tie
-use Rattle.frame_reader.proofs.absent_allowed.Reads as reads
-use Rattle.frame_reader.proofs.absent_allowed.Lts as lts
 
 returns : tie.Need-returns
 returns c =

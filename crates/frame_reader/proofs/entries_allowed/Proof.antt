@@ -1,10 +1,10 @@
 -- `frame::entries_allowed` judges the entries of a frame. The invariant: those passed are allowed. Assumes nothing.
-use Prim.Native.Nat.{ℕ, _+_, _*_, _-_, _≤_, _<_, zero-le}
-use mathlib.Core.Bool.{true, false}
+use Prim.Native.Nat.{ℕ, _-_, _≤_, zero-le}
+use mathlib.Core.Bool.{true}
 use mathlib.Core.Path.{_≡_, refl, sym, _∙_, ap}
 use borrow.Author.Needs.{needs}
 use native.Mathlib.Omega.{arith}
-use borrow.Author.Tests.{lt-ltb, le-ltb, le-leb, lt-leb, eq-eqb, ne-eqb, not-true, not-false}
+use borrow.Author.Tests.{not-true, not-false}
 use lib.ListN.{getD}
 use Rattle.laws.specs.Below.{allBelow}
 use Rattle.frame.specs.Format.{formatOf}
@@ -12,9 +12,6 @@ use Rattle.frame.specs.Lines.{entryAllowed, entriesAllowed}
 use Rattle.frame.proofs.Judged.{below-step, below-stop}
 use Rattle.frame_reader.proofs.entries_allowed.Statement.{statement}
 use Rattle.frame_reader.proofs.entries_allowed.Tie as tie
-use Rattle.frame_reader.proofs.entries_allowed.Reads as reads
-use Rattle.frame_reader.proofs.entries_allowed.Lts as lts
-use Rattle.frame_reader.proofs.entry_allowed.Reads as entry-allowed-reads
 
 abbrev Inv-loop : tie.InvT-loop
 Inv-loop f card state n last next j₀ j = (j ≤ n) × (allBelow j (λ i. entryAllowed (formatOf f) card state i (getD last i 0) (getD next i 0)) ≡ true)

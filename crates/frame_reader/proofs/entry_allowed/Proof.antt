@@ -1,14 +1,11 @@
 -- `frame_reader::entry_allowed` judges an entry. Assumes nothing.
-use mathlib.Core.Path.{_≡_, refl, sym, _∙_, ap}
+use mathlib.Core.Path.{refl, sym, _∙_}
 use borrow.Author.Needs.{needs}
 use borrow.Author.Tests.{le-leb, lt-leb, eq-eqb, ne-eqb, not-true, not-false}
 use Rattle.frame.specs.Format.{formatOf}
 use Rattle.frame.proofs.Judged.{entry-tests}
 use Rattle.frame_reader.proofs.entry_allowed.Statement.{statement}
 use Rattle.frame_reader.proofs.entry_allowed.Tie as tie
-use Rattle.frame_reader.proofs.entry_allowed.Reads as reads
-use Rattle.frame_reader.proofs.entry_allowed.Lts as lts
-use Rattle.frame_reader.proofs.follows.Reads as follows-reads
 
 follows-requires : tie.Need-follows-requires
 follows-requires c κs = search needs

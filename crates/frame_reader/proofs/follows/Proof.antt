@@ -1,9 +1,6 @@
 -- `frame_reader::follows` compares an entry with the one before it. Assumes nothing.
-use borrow.Author.Needs.{needs}
 use Rattle.frame_reader.proofs.follows.Statement.{statement}
 use Rattle.frame_reader.proofs.follows.Tie as tie
-use Rattle.frame_reader.proofs.follows.Reads as reads
-use Rattle.frame_reader.proofs.follows.Lts as lts
 
 returns : tie.Need-returns
 returns c = rw (c .if1 .taken)

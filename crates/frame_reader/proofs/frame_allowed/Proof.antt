@@ -1,7 +1,7 @@
 -- `frame::frame_allowed` judges a frame. Assumes nothing.
-use mathlib.Core.Path.{_≡_, refl, sym, _∙_, ap}
+use mathlib.Core.Path.{_≡_, refl}
 use borrow.Author.Needs.{needs}
-use borrow.Author.Tests.{lt-ltb, le-ltb, le-leb, lt-leb, eq-eqb, ne-eqb, not-true, not-false}
+use borrow.Author.Tests.{lt-ltb, le-ltb, eq-eqb, ne-eqb, not-true, not-false}
 use native.Mathlib.Omega.{arith}
 use lib.ListN.{length}
 use Rattle.frame.specs.Format.{formatOf}
@@ -9,9 +9,6 @@ use Rattle.frame_reader.proofs.Absent.{entries-fail, entries-pass}
 use Rattle.frame.proofs.Judged.{frame-tests}
 use Rattle.frame_reader.proofs.frame_allowed.Statement.{statement}
 use Rattle.frame_reader.proofs.frame_allowed.Tie as tie
-use Rattle.frame_reader.proofs.frame_allowed.Reads as reads
-use Rattle.frame_reader.proofs.frame_allowed.Lts as lts
-use Rattle.frame_reader.proofs.entries_allowed.Reads as entries-allowed-reads
 
 returns : tie.Need-returns
 returns c =

@@ -1,11 +1,7 @@
 -- `sheet::sheets_left` counts the sheets left. Assumes nothing.
-use mathlib.Core.Path.{_≡_, refl, sym, _∙_, ap}
-use borrow.Author.Needs.{needs}
 use borrow.Author.Tests.{eq-eqb, ne-eqb}
 use Rattle.sheet.proofs.sheets_left.Statement.{statement}
 use Rattle.sheet.proofs.sheets_left.Tie as tie
-use Rattle.sheet.proofs.sheets_left.Reads as reads
-use Rattle.sheet.proofs.sheets_left.Lts as lts
 
 returns : tie.Need-returns
 returns c = rw (eq-eqb _ _ (c .before .if1 .taken), c .if2 .taken)
