@@ -174,7 +174,7 @@ pub fn frame_at(
     ensures { λ r. ⌜ r ≡ frameReadOf (frameVerdict (formatOf f) start card n state last (drop at (now (s .entry)))) (frameIn (formatOf f) n (drop at (now (s .entry)))) ⌝ }
 {
     let width = f.width;
-    let line = digits::shape_at(s, at, width + 8 + n as usize * width);
+    let line = line_check::shape_at(s, at, width + 8 + n as usize * width);
     match line {
         Line::Fault(r) => frame_refused(r),
         Line::Whole => frame_judged(f, s, at, start, card, n, state, last),
@@ -199,7 +199,7 @@ fn frame_judged(
     let short = f.short;
     let none = f.none;
     let cards = n as usize;
-    if !digits::check_at(s, at, width + 8 + cards * width, start) {
+    if !line_check::check_at(s, at, width + 8 + cards * width, start) {
         return frame_refused(Refusal::BadCheck);
     }
     let told = digits::number_at(s, at, width);

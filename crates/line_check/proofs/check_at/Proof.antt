@@ -1,8 +1,8 @@
--- `digits::check_at` judges the check of a line. Assumes nothing.
+-- `line_check::check_at` judges the check of a line. Assumes nothing.
 use borrow.Author.Needs.{needs}
-use Rattle.digits.proofs.Steps.{check-judged}
-use Rattle.digits.proofs.check_at.Statement.{statement}
-use Rattle.digits.proofs.check_at.Tie as tie
+use Rattle.line_check.proofs.Steps.{check-judged}
+use Rattle.line_check.proofs.check_at.Statement.{statement}
+use Rattle.line_check.proofs.check_at.Tie as tie
 
 sums-over-requires : tie.Need-sums-over-requires
 sums-over-requires c κs = search needs

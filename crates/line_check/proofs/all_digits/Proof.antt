@@ -1,15 +1,15 @@
--- `digits::all_digits` tells whether a part of the input is digits. The invariant: the digits left to see decide. Assumes nothing.
+-- `line_check::all_digits` tells whether a part of the input is digits. The invariant: the digits left to see decide. Assumes nothing.
 use Prim.Native.Nat.{_-_, _≤_, zero-le}
 use mathlib.Core.Path.{_≡_, sym, _∙_, ap}
 use borrow.Author.Needs.{needs}
 use native.Mathlib.Omega.{arith}
 use lib.ListN.{take, drop}
 use Rattle.laws.proofs.Seq.{left, left-none, left-all}
 use Rattle.digits.specs.Digits.{allDigits}
-use Rattle.digits.proofs.Steps.{all-step, all-stop}
+use Rattle.line_check.proofs.Steps.{all-step, all-stop}
 use borrow.Author.Tests.{not-true, not-false}
-use Rattle.digits.proofs.all_digits.Statement.{statement}
-use Rattle.digits.proofs.all_digits.Tie as tie
+use Rattle.line_check.proofs.all_digits.Statement.{statement}
+use Rattle.line_check.proofs.all_digits.Tie as tie
 
 abbrev Inv-loop : tie.InvT-loop
 Inv-loop s at n i₀ i = (i ≤ n) × (allDigits (left s at n i) ≡ allDigits (take n (drop at s)))

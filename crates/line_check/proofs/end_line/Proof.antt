@@ -1,10 +1,10 @@
--- `digits::end_line` ends a line. Assumes nothing.
+-- `line_check::end_line` ends a line. Assumes nothing.
 use borrow.Author.Needs.{needs}
 use lib.ListN.{take, drop}
 use Rattle.digits.specs.Line.{summed, checkOf}
-use Rattle.digits.proofs.Steps.{end-step}
-use Rattle.digits.proofs.end_line.Statement.{statement}
-use Rattle.digits.proofs.end_line.Tie as tie
+use Rattle.line_check.proofs.Steps.{end-step}
+use Rattle.line_check.proofs.end_line.Statement.{statement}
+use Rattle.line_check.proofs.end_line.Tie as tie
 
 sums-over-requires : tie.Need-sums-over-requires
 sums-over-requires c κs = search needs

@@ -1,5 +1,5 @@
--- `sheet::read_sheets` reads sheets. At each place, going on from what is taken in so far gives the whole. Assumes nothing.
-use Prim.Native.Nat.{ℕ, _+_, _*_, _-_, _≤_, _<_}
+-- `walk::read_sheets` reads sheets. At each place, going on from what is taken in so far gives the whole. Assumes nothing.
+use Prim.Native.Nat.{ℕ, _+_, _-_, _≤_, _<_}
 use mathlib.Core.Bool.{cond}
 use mathlib.Core.Path.{_≡_, refl, sym, _∙_, ap}
 use borrow.Author.Needs.{needs}
@@ -10,34 +10,21 @@ use Rattle.digits.proofs.Lines.{whole-room}
 use mathlib.Core.List.{List}
 use mathlib.Core.Logic.{⊎-elim}
 use Rattle.refusal.specs.declared.Verdict.{Verdict}
-use Rattle.refusal.specs.declared.Verdict.the-variants.{Accepted, Refused}
+use Rattle.refusal.specs.declared.Verdict.the-variants.{Accepted}
 use Rattle.frame.specs.declared.Header.{Header}
 use Rattle.frame.specs.declared.Frame.{Frame}
 use Rattle.frame.specs.declared.FrameRead.{FrameRead}
 use Rattle.frame.specs.declared.FrameLine.the-variants.{Read as frame-read}
 use Rattle.frame.specs.declared.Layout.{Layout}
 use Rattle.frame.specs.Format.{Format, formats, formatOf, Fits}
-use Rattle.frame.specs.Lines.{cardsOf, formatIn, headerDigits, headerIn, headerVerdict, headerTold, frameDigits, frameIn, frameVerdict, frameReadOf, frameTold, padded}
+use Rattle.frame.specs.Lines.{formatIn, headerDigits, headerIn, headerVerdict, frameDigits, frameIn, frameVerdict, frameReadOf, padded}
 use Rattle.frame.proofs.Judged.{row-small}
 use Rattle.frame.proofs.Passed.{Header-in-limits, header-within, header-passed, frame-passed}
 use Rattle.sheet.specs.declared.Reading.{Reading}
 use Rattle.sheet.specs.Walk.{readUpTo}
 use Rattle.sheet.proofs.Walk.{Outer, Inner, header-read-is, header-fault-is, frame-read-is, frame-fault-is, outer-start, outer-end, outer-fault, outer-inner, inner-fault, inner-end, inner-again, sheets-fewer, lift-pos, read-as, kept, wiped}
-use Rattle.sheet.proofs.read_sheets.Statement.{statement}
-use Rattle.sheet.proofs.read_sheets.Tie as tie
-use Rattle.sheet.proofs.read_sheets.Reads as reads
-use Rattle.sheet.proofs.read_sheets.Lts as lts
-use Rattle.frame_reader.proofs.frame_at.Reads as frame-at-reads
-use Rattle.frame.proofs.frame_told.Reads as frame-told-reads
-use Rattle.header_reader.proofs.header_at.Reads as header-at-reads
-use Rattle.frame.proofs.header_told.Reads as header-told-reads
-use Rattle.frame.proofs.start_of.Reads as start-of-reads
-use Rattle.frame.proofs.layout_of.Reads as layout-of-reads
-use Rattle.header_reader.proofs.told_at.Reads as told-at-reads
-use Rattle.header_reader.proofs.unraised.Reads as unraised-reads
-use Rattle.sheet.proofs.end_at.Reads as end-at-reads
-use Rattle.sheet.proofs.sheets_left.Reads as sheets-left-reads
-use Rattle.sheet.proofs.store_entries.Reads as store-entries-reads
+use Rattle.walk.proofs.read_sheets.Statement.{statement}
+use Rattle.walk.proofs.read_sheets.Tie as tie
 
 abbrev Inv-loop : tie.InvT-loop
 Inv-loop s card all r₀ at₀ due first left f w n base count session i last₀ k₀ r at last k = Inner formats (formatOf f) s card all due left n base count session i r at last k

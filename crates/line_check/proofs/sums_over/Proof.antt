@@ -1,14 +1,14 @@
--- `digits::sums_over` gives the two running sums. The invariant: going on from the sums so far gives the sums of the whole. Assumes nothing.
+-- `line_check::sums_over` gives the two running sums. The invariant: going on from the sums so far gives the sums of the whole. Assumes nothing.
 use Prim.Native.Nat.{_-_, _≤_, zero-le}
 use mathlib.Core.Path.{_≡_, sym, _∙_, ap}
 use borrow.Author.Needs.{needs}
 use native.Mathlib.Omega.{arith}
 use lib.ListN.{take, drop}
 use Rattle.laws.proofs.Seq.{left, left-none, left-all}
 use Rattle.digits.specs.Line.{summed}
-use Rattle.digits.proofs.Steps.{sums-step}
-use Rattle.digits.proofs.sums_over.Statement.{statement}
-use Rattle.digits.proofs.sums_over.Tie as tie
+use Rattle.line_check.proofs.Steps.{sums-step}
+use Rattle.line_check.proofs.sums_over.Statement.{statement}
+use Rattle.line_check.proofs.sums_over.Tie as tie
 
 abbrev Inv-loop : tie.InvT-loop
 Inv-loop s at n first₀ second₀ i₀ first second i =

@@ -1,9 +1,9 @@
--- `digits::check_number` gives the check as one number. Assumes nothing.
+-- `line_check::check_number` gives the check as one number. Assumes nothing.
 use mathlib.Core.Path.{refl}
 use borrow.Author.Needs.{needs}
 use Rattle.digits.specs.Line.{checkOf}
-use Rattle.digits.proofs.check_number.Statement.{statement}
-use Rattle.digits.proofs.check_number.Tie as tie
+use Rattle.line_check.proofs.check_number.Statement.{statement}
+use Rattle.line_check.proofs.check_number.Tie as tie
 
 cast-result : tie.Need-cast-result
 cast-result c = search needs

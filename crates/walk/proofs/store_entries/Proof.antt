@@ -1,13 +1,13 @@
--- `sheet::store_entries` stores entries. The invariant: storing those left gives the whole. Assumes nothing.
+-- `walk::store_entries` stores entries. The invariant: storing those left gives the whole. Assumes nothing.
 use Prim.Native.Nat.{ℕ, _+_, _-_, _≤_}
 use mathlib.Core.Path.{_≡_, sym, _∙_, ap}
 use borrow.Author.Needs.{needs}
 use native.Mathlib.Omega.{arith}
 use lib.ListN.{length, drop}
 use lib.Seq.{sets}
-use Rattle.sheet.proofs.Steps.{store-step, store-done}
-use Rattle.sheet.proofs.store_entries.Statement.{statement}
-use Rattle.sheet.proofs.store_entries.Tie as tie
+use Rattle.walk.proofs.Steps.{store-step, store-done}
+use Rattle.walk.proofs.store_entries.Statement.{statement}
+use Rattle.walk.proofs.store_entries.Tie as tie
 
 abbrev Inv-loop : tie.InvT-loop
 Inv-loop to₀ at entries j₀ to j = (j ≤ 16) × (sets to (at + j) (drop j entries) ≡ sets to₀ at entries)

@@ -1,13 +1,13 @@
--- `digits::shape_at` tells the shape of the line that is due. Assumes nothing.
+-- `line_check::shape_at` tells the shape of the line that is due. Assumes nothing.
 use Prim.Native.Nat.{_+_, _-_}
 use lib.ListN.{length}
 use mathlib.Core.Path.{refl, sym, _∙_}
 use borrow.Author.Needs.{needs}
 use native.Mathlib.Omega.{arith}
 use borrow.Author.Tests.{le-leb, lt-leb, eq-eqb, ne-eqb, not-true, not-false}
-use Rattle.digits.proofs.Steps.{shape-end, shape-tests}
-use Rattle.digits.proofs.shape_at.Statement.{statement}
-use Rattle.digits.proofs.shape_at.Tie as tie
+use Rattle.line_check.proofs.Steps.{shape-end, shape-tests}
+use Rattle.line_check.proofs.shape_at.Statement.{statement}
+use Rattle.line_check.proofs.shape_at.Tie as tie
 
 returns : tie.Need-returns
 returns c = shape-end _ _ _ (c .if1 .taken)

@@ -1,7 +1,7 @@
--- `sheet::sheets_left` counts the sheets left. Assumes nothing.
+-- `walk::sheets_left` counts the sheets left. Assumes nothing.
 use borrow.Author.Tests.{eq-eqb, ne-eqb}
-use Rattle.sheet.proofs.sheets_left.Statement.{statement}
-use Rattle.sheet.proofs.sheets_left.Tie as tie
+use Rattle.walk.proofs.sheets_left.Statement.{statement}
+use Rattle.walk.proofs.sheets_left.Tie as tie
 
 returns : tie.Need-returns
 returns c = rw (eq-eqb _ _ (c .before .if1 .taken), c .if2 .taken)
