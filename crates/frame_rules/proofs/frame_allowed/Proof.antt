@@ -1,14 +1,14 @@
--- `frame::frame_allowed` judges a frame. Assumes nothing.
+-- `frame_rules::frame_allowed` judges a frame. Assumes nothing.
 use mathlib.Core.Path.{_≡_, refl}
 use borrow.Author.Needs.{needs}
 use borrow.Author.Tests.{lt-ltb, le-ltb, eq-eqb, ne-eqb, not-true, not-false}
 use native.Mathlib.Omega.{arith}
 use lib.ListN.{length}
 use Rattle.frame.specs.Format.{formatOf}
-use Rattle.frame_reader.proofs.Absent.{entries-fail, entries-pass}
+use Rattle.frame_rules.proofs.Absent.{entries-fail, entries-pass}
 use Rattle.frame.proofs.Judged.{frame-tests}
-use Rattle.frame_reader.proofs.frame_allowed.Statement.{statement}
-use Rattle.frame_reader.proofs.frame_allowed.Tie as tie
+use Rattle.frame_rules.proofs.frame_allowed.Statement.{statement}
+use Rattle.frame_rules.proofs.frame_allowed.Tie as tie
 
 returns : tie.Need-returns
 returns c =

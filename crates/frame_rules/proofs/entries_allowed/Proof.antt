@@ -1,4 +1,4 @@
--- `frame::entries_allowed` judges the entries of a frame. The invariant: those passed are allowed. Assumes nothing.
+-- `frame_rules::entries_allowed` judges the entries of a frame. The invariant: those passed are allowed. Assumes nothing.
 use Prim.Native.Nat.{ℕ, _-_, _≤_, zero-le}
 use mathlib.Core.Bool.{true}
 use mathlib.Core.Path.{_≡_, refl, sym, _∙_, ap}
@@ -10,8 +10,8 @@ use Rattle.laws.specs.Below.{allBelow}
 use Rattle.frame.specs.Format.{formatOf}
 use Rattle.frame.specs.Lines.{entryAllowed, entriesAllowed}
 use Rattle.frame.proofs.Judged.{below-step, below-stop}
-use Rattle.frame_reader.proofs.entries_allowed.Statement.{statement}
-use Rattle.frame_reader.proofs.entries_allowed.Tie as tie
+use Rattle.frame_rules.proofs.entries_allowed.Statement.{statement}
+use Rattle.frame_rules.proofs.entries_allowed.Tie as tie
 
 abbrev Inv-loop : tie.InvT-loop
 Inv-loop f card state n last next j₀ j = (j ≤ n) × (allBelow j (λ i. entryAllowed (formatOf f) card state i (getD last i 0) (getD next i 0)) ≡ true)

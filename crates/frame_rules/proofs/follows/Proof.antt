@@ -1,6 +1,6 @@
--- `frame_reader::follows` compares an entry with the one before it. Assumes nothing.
-use Rattle.frame_reader.proofs.follows.Statement.{statement}
-use Rattle.frame_reader.proofs.follows.Tie as tie
+-- `frame_rules::follows` compares an entry with the one before it. Assumes nothing.
+use Rattle.frame_rules.proofs.follows.Statement.{statement}
+use Rattle.frame_rules.proofs.follows.Tie as tie
 
 returns : tie.Need-returns
 returns c = rw (c .if1 .taken)

@@ -1,10 +1,10 @@
--- `frame::absent_allowed` judges the entries of cards beyond 16. Assumes nothing.
+-- `frame_rules::absent_allowed` judges the entries of cards beyond 16. Assumes nothing.
 use mathlib.Core.Path.{_≡_}
 use Prim.Native.Nat.{ℕ, _+_, _-_, _<_}
 use native.Mathlib.Omega.{arith}
-use Rattle.frame_reader.proofs.Absent.{absent-other, absent-own}
-use Rattle.frame_reader.proofs.absent_allowed.Statement.{statement}
-use Rattle.frame_reader.proofs.absent_allowed.Tie as tie
+use Rattle.frame_rules.proofs.Absent.{absent-other, absent-own}
+use Rattle.frame_rules.proofs.absent_allowed.Statement.{statement}
+use Rattle.frame_rules.proofs.absent_allowed.Tie as tie
 
 returns : tie.Need-returns
 returns c =
