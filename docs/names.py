@@ -3,8 +3,10 @@
 
     python3 docs/names.py
 
-A path below crates/ must be there; a name that follows a path in the same cell or sentence must stand in that file;
-in a last column a crate's name is followed by edits of its must-fail folder. What is missing is printed, a line each."""
+A path below crates/ must be there; a name that follows a path in the same cell or sentence must stand in that file.
+In a chapter of the first page that has a line `Files: ..` a name of a table without a path must stand in one of those files.
+In a last column a crate's name is followed by edits of its must-fail folder. What is missing is printed, a line each, and so is
+a row of more than 430 characters."""
 import os
 import re
 import sys
@@ -35,16 +37,33 @@ def stands(name, text):
     return re.search(r"(?<![\w-])" + re.escape(last) + r"(?![\w-])", text) is not None
 
 
-def names_of(where, piece):
+def is_path(t):
+    return PATH.match(t) and not t.startswith(("docs/", "second/", "bench/", "bindings/", "must-fail/"))
+
+
+def names_of(where, piece, files=()):
     path = None
     for t in TOKEN.findall(piece):
-        if PATH.match(t) and not t.startswith(("docs/", "second/", "bench/", "bindings/", "must-fail/")):
+        if is_path(t):
             path = "crates/" + t
             if not os.path.exists(path):
                 say(where, f"no file {t}")
                 path = None
-        elif path and NAME.match(t) and t not in PLAIN and not stands(t, words(path)):
-            say(where, f"{path[7:]} has no {t}")
+        elif not NAME.match(t) or t in PLAIN:
+            continue
+        elif path:
+            if not stands(t, words(path)):
+                say(where, f"{path[7:]} has no {t}")
+        elif files and not os.path.isdir("crates/" + t) and not any(stands(t, words("crates/" + f)) for f in files):
+            say(where, f"no file of its chapter has {t}")
+
+
+def files_of(where, line):
+    files = [t for t in TOKEN.findall(line) if is_path(t)]
+    for f in files:
+        if not os.path.exists("crates/" + f):
+            say(where, f"no file {f}")
+    return [f for f in files if os.path.exists("crates/" + f)]
 
 
 def edits_of(where, cell):
@@ -58,13 +77,20 @@ def edits_of(where, cell):
 
 
 for page in ("docs/PROMISES.md", "docs/DECISIONS.md"):
+    files = []
     for number, line in enumerate(open(page, encoding="utf-8"), 1):
         where = f"{page}:{number}"
-        if line.startswith("|") and page.endswith("PROMISES.md"):
+        if line.startswith("## "):
+            files = []
+        elif line.startswith("Files: "):
+            files = files_of(where, line)
+        elif line.startswith("|") and page.endswith("PROMISES.md"):
+            if len(line) > 430:
+                say(where, f"a row of {len(line)} characters")
             cells = line.strip().strip("|").split(" | ")
-            for c in cells[:-1]:
+            for c in cells[1:-1]:
                 for piece in re.split(r"[;.:] ", c):
-                    names_of(where, piece)
+                    names_of(where, piece, files)
             edits_of(where, cells[-1])
         else:
             for piece in re.split(r"[;.:] ", line):

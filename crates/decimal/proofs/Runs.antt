@@ -1,17 +1,16 @@
 -- Laws of a run of digits in a text: how it goes on and ends, how a loop reads it, and that what was written is read back. Assumes nothing.
-use Prim.Native.Nat.{ℕ, zero, suc, _+_, _-_, _*_, _≤_, _<_}
+use Prim.Native.Nat.{ℕ, suc, _+_, _-_, _*_, _≤_, _<_}
 use mathlib.Core.Path.{_≡_, refl, sym, _∙_, ap, ap₂}
-use mathlib.Core.Bool.{Bool, true, false, _&&_, cond}
+use mathlib.Core.Bool.{Bool, true, false, cond}
 use mathlib.Core.List.{List, [], _∷_, _++_, append-nil, append-assoc}
-use native.Mathlib.Nat.{le-refl, le-trans, lt-of-lt-of-le, add-zero}
+use native.Mathlib.Nat.{le-refl, lt-of-lt-of-le, add-zero}
 use native.Mathlib.Numerals.{add-one}
 use native.Mathlib.Omega.{arith}
 use lib.Dec.{eqb, leb}
 use lib.ListN.{length, getD, take, drop, drop-of-length-le}
 use lib.Seq.{sets, sets-eq, drop-cons, drop-at, length-take-le}
 use borrow.Author.Tests.{le-leb, leb-true, lt-leb, ne-eqb}
-use Rattle.laws.proofs.Logic.{test, and-left, and-right}
-use Rattle.decimal.specs.declared.Reading.{Reading}
+use Rattle.laws.proofs.Logic.{and-left, and-right}
 use Rattle.decimal.specs.declared.Reading.the-variants.{Number, NotANumber}
 use Rattle.decimal.specs.Digits.{decimal, isDigit, digitsOnly, run, valueFrom, value}
 use Rattle.decimal.specs.Answers.{limit, reading, readAt}
@@ -22,9 +21,6 @@ use Rattle.decimal.proofs.Digits.{decimal-leads, decimal-only, decimal-
 -- the bytes that are digits
 pub digit-from : (b : ℕ) → isDigit b ≡ true → 48 ≤ b
 digit-from b e = leb-true 48 b (and-left (leb 48 b) (leb b 57) e)
-
-pub digit-to : (b : ℕ) → isDigit b ≡ true → b ≤ 57
-digit-to b e = leb-true b 57 (and-right (leb 48 b) (leb b 57) e)
 
 run-digit : (b : ℕ) (s : List ℕ) → isDigit b ≡ true → run (b ∷ s) ≡ b ∷ run s
 run-digit b s e = rw e
@@ -107,10 +103,6 @@ pub read-decimal : (n : ℕ) (p r : List ℕ) → n ≤ limit → run r ≡ [] �
 read-decimal n p r h e =
     read-run (decimal n) p r (decimal-only n) (decimal-leads n .some) (rw (decimal-value n) h) e
     ∙ ap (λ (v : ℕ). Number v (length p + length (decimal n))) (decimal-value n)
-
--- a leading zero adds nothing
-pub value-zero : (s : List ℕ) → value (48 ∷ s) ≡ value s
-value-zero s = refl
 
 -- Written at a place of a buffer that has room, with no digit in the byte after it, a number is read there again, and to its end.
 pub round-trip : (b : List ℕ) (at n : ℕ) → n ≤ limit → at + length (decimal n) ≤ length b → run (drop (at + length (decimal n)) b) ≡ []

@@ -3,15 +3,15 @@ use Prim.Native.Nat.{ℕ, zero, suc, _+_, _*_, _-_, _/_, _%_, _^_, _≤_, _<_}
 use mathlib.Core.Path.{_≡_, refl, sym, _∙_, ap, ap₂}
 use mathlib.Core.Logic.{_⊎_, inl, inr}
 use mathlib.Core.Bool.{Bool, true, false, not, _&&_, _||_, cond}
-use mathlib.Core.List.{List, [], _∷_, _++_, append-nil, append-assoc}
-use native.Mathlib.Nat.{pow-suc, div-add-mod', mod-lt, add-zero}
+use mathlib.Core.List.{List, [], _∷_, _++_, append-assoc}
+use native.Mathlib.Nat.{pow-suc, div-add-mod', mod-lt}
 use native.Mathlib.Numerals.{add-one}
 use native.Mathlib.Omega.{arith}
 use lib.Arith.{digits-div, digits-mod}
 use lib.Dec.{leb, ltb, eqb, lit<}
-use lib.ListN.{length, take, drop, getD, length-append, length-take, length-drop, take-append-drop}
-use lib.Seq.{take-suc, take-at, drop-at, take-length, length-take-le, take-all}
-use borrow.Author.Tests.{eqb-true, ltb-true, leb-true, lt-ltb, le-ltb, le-leb, lt-leb}
+use lib.ListN.{length, take, drop, getD, length-append, length-drop, take-append-drop}
+use lib.Seq.{take-suc, take-at, drop-at}
+use borrow.Author.Tests.{eqb-true, ltb-true, lt-ltb, le-ltb, le-leb, lt-leb}
 use Rattle.laws.specs.Below.{allBelow}
 use Rattle.laws.proofs.Below.{all-at}
 use Rattle.laws.proofs.Logic.{test, and-left, and-right, and-intro, or-elim, clash, cond-case}
@@ -70,9 +70,6 @@ all-left (x ∷ xs) ys p = and-intro (and-left (isDigit x) (allDigits (xs ++ ys)
 pub all-right : (xs ys : List ℕ) → allDigits (xs ++ ys) ≡ true → allDigits ys ≡ true
 all-right [] ys p = p
 all-right (x ∷ xs) ys p = all-right xs ys (and-right (isDigit x) (allDigits (xs ++ ys)) p)
-
-pub all-take : (k : ℕ) (bs : List ℕ) → allDigits bs ≡ true → allDigits (take k bs) ≡ true
-all-take k bs p = all-left (take k bs) (drop k bs) (rw take-append-drop p)
 
 pub all-drop : (k : ℕ) (bs : List ℕ) → allDigits bs ≡ true → allDigits (drop k bs) ≡ true
 all-drop k bs p = all-right (take k bs) (drop k bs) (rw take-append-drop p)

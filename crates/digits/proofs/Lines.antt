@@ -1,24 +1,22 @@
 -- Laws of lines: a line that is written passes, a line that passes is the line that is written, and a line with one altered byte does not pass. Assumes nothing.
-use Prim.Native.Nat.{ℕ, zero, suc, _+_, _*_, _-_, _%_, _^_, _≤_, _<_}
-use mathlib.Core.Path.{_≡_, refl, sym, _∙_, ap, ap₂}
-use mathlib.Core.Bool.{Bool, true, false, _&&_, cond}
+use Prim.Native.Nat.{ℕ, zero, suc, _+_, _-_, _%_, _≤_, _<_}
+use mathlib.Core.Path.{_≡_, refl, sym, _∙_, ap}
+use mathlib.Core.Bool.{true, _&&_}
 use mathlib.Core.List.{List, [], _∷_, _++_, append-assoc}
-use mathlib.Core.Logic.{_⊎_, inl, inr, by-cases}
-use native.Mathlib.Nat.{mod-lt, mod-add-mod, add-assoc, mod-mod}
-use native.Mathlib.Numerals.{add-one, add-five}
+use mathlib.Core.Logic.{by-cases}
+use native.Mathlib.Nat.{mod-add-mod, add-assoc}
 use native.Mathlib.Decide.{decLt}
 use native.Mathlib.Omega.{arith}
-use lib.Dec.{leb, eqb, lit<}
-use lib.ListN.{length, take, drop, getD, set, length-append, length-drop, length-take, length-set}
-use lib.Seq.{take-suc, take-add, take-at, drop-at, getD-at, take-length, length-take-le, take-take, drop-drop, take-set-le, take-set-lt, drop-set-lt, drop-set-add, getD-set-same, getD-set-other, getD-drop, getD-take, take-append-le}
+use lib.Dec.{leb, eqb}
+use lib.ListN.{length, take, drop, getD, set, length-append, length-drop}
+use lib.Seq.{take-suc, take-add, take-at, drop-at, getD-at, take-length, length-take-le, take-set-le, take-set-lt, drop-set-lt, getD-set-same, getD-drop, getD-take}
 use borrow.Author.Tests.{leb-true, eqb-true, le-leb, eq-eqb}
-use Rattle.laws.proofs.Logic.{test, and-left, and-right, and-intro, clash}
-use Rattle.refusal.specs.declared.Refusal.the-variants.{BadLine, EndOrMore}
+use Rattle.laws.proofs.Logic.{test, and-left, and-right, and-intro}
 use Rattle.digits.specs.declared.Sums.{Sums}
-use Rattle.digits.specs.declared.Line.the-variants.{Whole, Fault}
-use Rattle.digits.specs.Digits.{isDigit, allDigits, digits, number}
+use Rattle.digits.specs.declared.Line.the-variants.{Whole}
+use Rattle.digits.specs.Digits.{allDigits, digits, number}
 use Rattle.digits.specs.Line.{added, summed, checkOf, lineOf, shaped, checked, shapeOf}
-use Rattle.digits.proofs.Digits.{all-append, all-left, all-right, all-getD, all-take, all-drop, is-below, digits-length, digits-all, number-digits, digits-number}
+use Rattle.digits.proofs.Digits.{all-append, all-left, all-right, all-getD, is-below, digits-length, digits-all, number-digits, digits-number}
 
 -- what `shaped` says
 pub record Shape (n : ℕ) (input : List ℕ) : Type 0 where

@@ -1,11 +1,10 @@
 -- Document 01's lines of a sheet: digits, the check over them, byte 10.
 use Prim.Native.Nat.{ℕ, _+_, _*_, _%_, _^_}
-use mathlib.Core.Bool.{Bool, true, false, _&&_, cond}
+use mathlib.Core.Bool.{Bool, _&&_, cond}
 use mathlib.Core.List.{List, [], _∷_, _++_}
 use lib.Dec.{leb, eqb}
 use lib.ListN.{length, take, drop, getD}
-use Rattle.refusal.specs.declared.Refusal.{Refusal}
-use Rattle.refusal.specs.declared.Refusal.the-variants.{BadLine, BadCheck, EndOrMore}
+use Rattle.refusal.specs.declared.Refusal.the-variants.{BadLine, EndOrMore}
 use Rattle.digits.specs.declared.Sums.{Sums}
 use Rattle.digits.specs.declared.Line.{Line}
 use Rattle.digits.specs.declared.Line.the-variants.{Whole, Fault}

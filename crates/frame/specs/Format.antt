@@ -1,5 +1,5 @@
 -- What a sheet's format leaves open, as parameters, and document 01's choice of them; entries as they are held and as they are written.
-use Prim.Native.Nat.{ℕ, zero, suc, _+_, _-_, _^_, _≤_}
+use Prim.Native.Nat.{ℕ, _+_, _-_, _^_, _≤_}
 use mathlib.Core.Path.{_≡_}
 use mathlib.Core.Bool.{Bool, false, cond}
 use lib.Dec.{eqb}
@@ -56,20 +56,6 @@ formats told = format
 -- the entry that says none: FFFF in 4 digits
 abbrev pub noneOf : Format → ℕ
 noneOf f = 16 ^ f .width - 1
-
--- document 01's entry: none, or a state number
-pub data Entry : Type 0 where
-  none : Entry
-  state : ℕ → Entry
-
--- an entry as document 01 reads what is held, a dependency: 0 for none, state + 1 otherwise
-abbrev pub entryHeld : ℕ → Entry
-entryHeld zero = none
-entryHeld (suc s) = state s
-
--- an entry as document 01 reads what a sheet has: the greatest number of its digits for none
-abbrev pub entryWritten : ℕ → ℕ → Entry
-entryWritten all e = cond (eqb e all) none (state e)
 
 -- the dependency held for an entry of a sheet, whose greatest number `all` says none
 unfoldable pub dependency : ℕ → ℕ → ℕ

@@ -103,7 +103,7 @@ pub fn header_at(f: Layout, s: &[u8], at: usize, due: u32, first: u32) -> Header
     requires { ⌜ f .width ≤ 8 ⌝ }
     ensures { λ r. ⌜ r ≡ headerOr (headerVerdict (formatOf f) due first (drop at (now (s .entry)))) (headerIn (formatOf f) (drop at (now (s .entry)))) ⌝ }
 {
-    let line = digits::shape_at(s, at, f.width + 16);
+    let line = line_check::shape_at(s, at, f.width + 16);
     match line {
         Line::Fault(r) => HeaderLine::Fault(r),
         Line::Whole => header_judged(f, s, at, due, first),
@@ -118,7 +118,7 @@ fn header_judged(f: Layout, s: &[u8], at: usize, due: u32, first: u32) -> Header
     let digits = f.width + 16;
     let h = header_in(f, s, at);
     let start = frame::start_of(h.card, h.session);
-    if !digits::check_at(s, at, digits, start) {
+    if !line_check::check_at(s, at, digits, start) {
         return HeaderLine::Fault(Refusal::BadCheck);
     }
     if !header_allowed(f, h, due, first) {

@@ -121,9 +121,6 @@ module _ (f : Format) (s : Sound f) (due first : ℕ) (h : Header) (rest : List 
       let l = header-limits f due first h a in
       (session, (omega (arith, l .below, l .cards, s .few), (s .cards (h .cards) (l .cards), (omega (arith, l .states, s .states), (omega (arith, l .count, s .frames), tt)))))
 
-  header-body : List ℕ
-  header-body = written (headerWidths f) (headerNumbers h)
-
   header-length : length (written (headerWidths f) (headerNumbers h)) ≡ headerDigits f
   header-length = written-length (headerWidths f) (headerNumbers h) refl ∙ header-total f
 

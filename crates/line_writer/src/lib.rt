@@ -38,7 +38,7 @@ pub fn put_header(f: Layout, b: &mut [u8], at: usize, h: Header)
     digits::put_number(b, at + 12, width, h.base);
     digits::put_number(b, at + (width + 12), 4, h.count);
     let start = frame::start_of(h.card, h.session);
-    digits::end_line(b, at, width + 16, start);
+    line_check::end_line(b, at, width + 16, start);
 }
 
 // Writes the first n of a frame's entries from `at` on.
@@ -73,5 +73,5 @@ pub fn put_frame(f: Layout, b: &mut [u8], at: usize, start: Sums, n: usize, stat
     digits::put_number(b, at + width, 8, next.change);
     let entries = next.entries;
     put_entries(b, at + (width + 8), n, width, short, none, entries);
-    digits::end_line(b, at, width + 8 + n * width, start);
+    line_check::end_line(b, at, width + 8 + n * width, start);
 }

@@ -62,7 +62,7 @@ pub fn read_readout(s: &[u8]) -> Reading
     if Limits::LONGEST < s.len() {
         return sheet::nothing_read(Refusal::TooLong);
     }
-    let read = sheet::read_sheets(s, 0, true);
+    let read = walk::read_sheets(s, 0, true);
     let v = read.verdict;
     match v {
         Reply::Done => {

@@ -5,6 +5,9 @@ use lib.ListN.{length, replicate}
 use lib.Seq.{sets}
 use Rattle.refusal.specs.Number.{numberOf}
 use Rattle.decimal.specs.Digits.{decimal}
+use Rattle.text.specs.declared.Progress.{Progress}
+use Rattle.text.specs.declared.Progress.the-variants.{Next, Counting, TooShort}
+use Rattle.text.specs.Lines.{lineOf}
 use Rattle.refusal.specs.declared.Reply.{Reply}
 use Rattle.refusal.specs.declared.Reply.the-variants.{Done, Refused}
 use Rattle.readout.specs.Joint.{pagesRead}
@@ -16,25 +19,19 @@ use Rattle.report.specs.declared.Text.{Text}
 
 -- "per card: card, stored, line", separated by one space, ended by byte 10
 abbrev pub rowText : (card stored line : ℕ) → List ℕ
-rowText c s l = decimal c ++ (32 ∷ decimal s ++ (32 ∷ decimal l ++ (10 ∷ [])))
+rowText c s l = lineOf (decimal c) (s ∷ l ∷ [])
 
 -- of cards 0 to n − 1
 abbrev pub rowsText : ℕ → (stored line : Numbers) → List ℕ
 rowsText zero s l = []
 rowsText (suc n) s l = rowsText n s l ++ rowText n (s n) (l n)
 
--- the words "session " and "refused "
-abbrev pub sessionWord : List ℕ
-sessionWord = 115 ∷ 101 ∷ 115 ∷ 115 ∷ 105 ∷ 111 ∷ 110 ∷ 32 ∷ []
-
-abbrev pub refusedWord : List ℕ
-refusedWord = 114 ∷ 101 ∷ 102 ∷ 117 ∷ 115 ∷ 101 ∷ 100 ∷ 32 ∷ []
-
+-- "session" and "refused", each with a number after it
 abbrev pub sessionText : ℕ → List ℕ
-sessionText n = sessionWord ++ (decimal n ++ (10 ∷ []))
+sessionText n = lineOf (115 ∷ 101 ∷ 115 ∷ 115 ∷ 105 ∷ 111 ∷ 110 ∷ []) (n ∷ [])
 
 abbrev pub refusedText : ℕ → List ℕ
-refusedText n = refusedWord ++ (decimal n ++ (10 ∷ []))
+refusedText n = lineOf (114 ∷ 101 ∷ 102 ∷ 117 ∷ 115 ∷ 101 ∷ 100 ∷ []) (n ∷ [])
 
 -- "then the session after recovery"; "A refusal prints one line alone, as `refused 8`."
 abbrev pub textFor : Reply → ℕ → Model → List ℕ
@@ -46,8 +43,11 @@ abbrev pub lineText : List ℕ → List ℕ
 lineText bytes = textFor (restartReply bytes) (length (pagesRead bytes .pages)) (restartedFrom limits16 bytes)
 
 -- ---- a text by value: at the front of 560 bytes, zeros behind it
-abbrev pub pushed : Text → List ℕ → Text
-pushed t xs = record { bytes = sets (t .bytes) (t .length) xs; length = t .length + length xs }
-
 abbrev pub textOf : List ℕ → Text
-textOf xs = pushed (record { bytes = replicate 560 0; length = 0 }) xs
+textOf xs = record { bytes = sets (replicate 560 0) 0 xs; length = length xs }
+
+-- what of a buffer is text, where it is written as far as the progress says
+abbrev pub textAt : List ℕ → Progress → Text
+textAt b (Next n) = record { bytes = b; length = n }
+textAt b (Counting n) = record { bytes = b; length = 0 }
+textAt b TooShort = record { bytes = b; length = 0 }

@@ -1,12 +1,14 @@
 // The text of the line program: card, stored and line of each card and the session after recovery, or the refusal.
-ghost use Prim.Native.Nat.{ℕ, _+_, _*_, _≤_, _<_};
+ghost use Prim.Native.Nat.{_+_, _≤_};
 ghost use mathlib.Core.Path.{_≡_};
-ghost use mathlib.Core.List.{[], _∷_, _++_};
-ghost use Rattle.decimal.specs.Digits.{decimal};
+ghost use mathlib.Core.List.{_++_};
+ghost use lib.ListN.{length};
+ghost use Rattle.text.specs.declared.Progress.the-variants.{Next};
+ghost use Rattle.text.specs.Put.{Put};
 ghost use Rattle.verdicts.specs.Shape.{at};
-ghost use Rattle.report.specs.Report.{pushed, textOf, rowText, rowsText, sessionText, refusedText, lineText};
-use decimal::Writing;
+ghost use Rattle.report.specs.Report.{textAt, textOf, rowText, rowsText, sessionText, refusedText, lineText};
 use limits::Limits;
+use text::Progress;
 use refusal::Reply;
 
 // A text of so many bytes, at the front of an array.
@@ -15,88 +17,54 @@ pub struct Text {
     pub length: usize,
 }
 
-// The text with one byte more.
-fn push(t: Text, b: u8) -> Text
-    requires { ⌜ t .length < 560 ⌝ }
-    ensures { λ r. ⌜ r ≡ pushed t (b ∷ []) ⌝ }
+// The text that is written as far as `w` says.
+fn text_at(bytes: [u8; 560], w: Progress) -> Text
+    ensures { λ r. ⌜ r ≡ textAt bytes w ⌝ }
 {
-    let mut bytes = t.bytes;
-    let at = t.length;
-    bytes[at] = b;
-    Text {
-        bytes: bytes,
-        length: at + 1,
-    }
-}
-
-// The text with a number behind it.
-fn push_number(t: Text, n: u32) -> Text
-    requires { ⌜ t .length + 10 ≤ 560 ⌝ }
-    ensures so { λ r. ⌜ r ≡ pushed t (decimal n) ⌝ }
-    ensures room { λ r. ⌜ r .length ≤ t .length + 10 ⌝ }
-{
-    let mut bytes = t.bytes;
-    let at = t.length;
-    let w = decimal::write(&mut bytes, at, n);
     match w {
-        Writing::Next(next) => Text {
+        Progress::Next(n) => Text {
             bytes: bytes,
-            length: next,
+            length: n,
         },
-        Writing::TooShort => t,
+        Progress::Counting(_) => Text {
+            bytes: bytes,
+            length: 0,
+        },
+        Progress::TooShort => Text {
+            bytes: bytes,
+            length: 0,
+        },
     }
 }
 
-// The text with a word of eight bytes behind it.
-fn push_word(t: Text, word: [u8; 8]) -> Text
-    requires { ⌜ t .length + 8 ≤ 560 ⌝ }
-    ensures { λ r. ⌜ r ≡ pushed t word ⌝ }
+// Writes a card's line: "card, stored, line".
+fn put_card(b: &mut [u8], w: Progress, card: u32, stored: u32, line: u32) -> Progress
+    ensures so { λ r. ⌜ Put (now (b .entry)) w (rowText card stored line) r (now (b .exit)) ⌝ }
+    ensures room { λ r. ⌜ length (rowText card stored line) ≤ 33 ⌝ }
 {
-    let mut bytes = t.bytes;
-    let at = t.length;
-    let mut j: usize = 0;
-    while j < 8 {
-        bytes[at + j] = word[j];
-        j += 1;
-    }
-    Text {
-        bytes: bytes,
-        length: at + 8,
-    }
+    let numbers = [stored, line];
+    text::put_row(b, w, card, &numbers)
 }
 
-// The text with a card's line behind it: "card, stored, line".
-fn push_row(t: Text, card: u32, stored: u32, line: u32) -> Text
-    requires { ⌜ t .length + 33 ≤ 560 ⌝ }
-    ensures so { λ r. ⌜ r ≡ pushed t (rowText card stored line) ⌝ }
-    ensures room { λ r. ⌜ r .length ≤ t .length + 33 ⌝ }
-{
-    let a = push_number(t, card);
-    let b = push(a, 32);
-    let c = push_number(b, stored);
-    let d = push(c, 32);
-    let e = push_number(d, line);
-    push(e, 10)
-}
-
-// The lines of the first cards.
-fn rows(cards: u32, stored: [u32; Limits::CARDS], line: [u32; Limits::CARDS]) -> Text
+// Writes the lines of the first cards.
+fn put_cards(
+    b: &mut [u8],
+    cards: u32,
+    stored: [u32; Limits::CARDS],
+    line: [u32; Limits::CARDS],
+) -> Progress
     requires { ⌜ cards ≤ 16 ⌝ }
-    ensures so { λ r. ⌜ r ≡ textOf (rowsText cards (at stored) (at line)) ⌝ }
-    ensures room { λ r. ⌜ r .length ≤ 528 ⌝ }
+    ensures so { λ r. ⌜ Put (now (b .entry)) (Next 0) (rowsText cards (at stored) (at line)) r (now (b .exit)) ⌝ }
+    ensures room { λ r. ⌜ length (rowsText cards (at stored) (at line)) ≤ 528 ⌝ }
 {
-    let mut t = Text {
-        bytes: [0u8; 560],
-        length: 0,
-    };
+    let mut w = Progress::Next(0);
     let mut c: u32 = 0;
     while c < cards {
         let i = c as usize;
-        let more = push_row(t, c, stored[i], line[i]);
-        t = more;
+        w = put_card(b, w, c, stored[i], line[i]);
         c += 1;
     }
-    t
+    w
 }
 
 // "then the session after recovery"
@@ -109,23 +77,21 @@ fn accepted_text(
     requires { ⌜ (cards ≤ 16) × (session ≡ 4294967295 → ⊥) ⌝ }
     ensures { λ r. ⌜ r ≡ textOf (rowsText cards (at stored) (at line) ++ sessionText (session + 1)) ⌝ }
 {
-    let t = rows(cards, stored, line);
-    let t = push_word(t, *b"session ");
-    let t = push_number(t, session + 1);
-    push(t, 10)
+    let mut b = [0u8; 560];
+    let after = [session + 1];
+    let w = put_cards(&mut b, cards, stored, line);
+    let w = text::put_line(&mut b, w, b"session", &after);
+    text_at(b, w)
 }
 
 // "A refusal prints one line alone, as `refused 8`."
 fn refused_text(n: u32) -> Text
     ensures { λ r. ⌜ r ≡ textOf (refusedText n) ⌝ }
 {
-    let t = Text {
-        bytes: [0u8; 560],
-        length: 0,
-    };
-    let t = push_word(t, *b"refused ");
-    let t = push_number(t, n);
-    push(t, 10)
+    let mut b = [0u8; 560];
+    let number = [n];
+    let w = text::put_line(&mut b, Progress::Next(0), b"refused", &number);
+    text_at(b, w)
 }
 
 // What the line program prints for the bytes on its standard input.

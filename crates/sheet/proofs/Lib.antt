@@ -1,4 +1,3 @@
-pub mod Steps
 pub mod Walk
 pub mod Round
 pub mod Lay

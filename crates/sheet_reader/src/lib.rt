@@ -12,5 +12,5 @@ pub fn read_sheet(s: &[u8], card: u32) -> Reading
     if Limits::LONGEST < s.len() {
         return sheet::nothing_read(Refusal::TooLong);
     }
-    sheet::read_sheets(s, card, false)
+    walk::read_sheets(s, card, false)
 }

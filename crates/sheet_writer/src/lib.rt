@@ -37,7 +37,7 @@ fn frames_pass<'a>(
     while k < count {
         let state = base + 1 + k;
         let next = write::frame_of(changes, entries, card, state);
-        if !frame_reader::frame_allowed(f, card, n, state, last, state, next) {
+        if !frame_rules::frame_allowed(f, card, n, state, last, state, next) {
             return false;
         }
         last = next;

@@ -7,8 +7,9 @@ use native.Mathlib.Nat.{mul-le-mul, mul-le-mul-right, suc-mul, zero-mul}
 use native.Mathlib.Omega.{arith}
 use lib.ListN.{length, getD, replicate, length-append}
 use lib.Seq.{sets}
-use borrow.Author.Tests.{le-leb, lt-leb}
+use borrow.Author.Tests.{le-leb, lt-leb, lt-ltb}
 use Rattle.laws.specs.Below.{tabulate}
+use Rattle.laws.proofs.Logic.{cond-true}
 use Rattle.laws.proofs.Seq.{sets-append}
 use Rattle.laws.proofs.Fill.{length-tabulate, getD-tabulate}
 use Rattle.refusal.specs.declared.Refusal.the-variants.{TooShort}
@@ -19,7 +20,7 @@ use Rattle.digits.specs.Line.{lineOf}
 use Rattle.frame.specs.declared.Header.{Header}
 use Rattle.frame.specs.declared.Frame.{Frame}
 use Rattle.frame.specs.Format.{Format, formats, noneOf, shownBy}
-use Rattle.frame.specs.Lines.{cardsOf, formatFor, startOf, headerDigits, frameDigits, frameLine, headerLine, headerAllowed}
+use Rattle.frame.specs.Lines.{cardsOf, formatFor, startOf, headerDigits, frameDigits, frameLine, headerLine, headerAllowed, noFrame}
 use Rattle.frame.proofs.Passed.{header-limits}
 use Rattle.line_writer.proofs.Puts.{frame-line-length, header-line-length}
 use Rattle.sheet.specs.Pages.{framesBytes, bytesIn, pageBytes}
@@ -27,7 +28,7 @@ use Rattle.sheet.specs.Walk.{placeOf}
 use Rattle.sheet.specs.Ring.{ringFrame, ringPage}
 use Rattle.write.specs.declared.Written.{Written}
 use Rattle.write.specs.declared.Written.the-variants.{Length, Refused as written-refused}
-use Rattle.write.specs.Write.{ringRows, Wrote, wroteBytes}
+use Rattle.write.specs.Write.{heldFrame, ringRows, Wrote, wroteBytes}
 
 -- ---- a run of frames
 
@@ -95,8 +96,10 @@ module _ (f : Format) (start : Sums) (n base count : ℕ) (g : ℕ → Frame) wh
 abbrev pub rowsOf : (changes entries : List ℕ) → (card base : ℕ) → ℕ → Frame
 rowsOf changes entries card base k = ringFrame changes entries 16 card (suc (base + k))
 
-pub next-row : (changes entries : List ℕ) (card base k : ℕ) {next : Frame} → next ≡ ringFrame changes entries 16 card (base + 1 + k) → next ≡ rowsOf changes entries card base k
-next-row changes entries card base k e = let z : base + 1 + k ≡ suc (base + k) = omega arith in e ∙ ap (ringFrame changes entries 16 card) z
+pub next-row : (changes entries : List ℕ) (card base k : ℕ) {next : Frame} → card < 16 → next ≡ heldFrame changes entries card (base + 1 + k) → next ≡ rowsOf changes entries card base k
+next-row changes entries card base k h e =
+    let z : base + 1 + k ≡ suc (base + k) = omega arith in
+    e ∙ cond-true (ringFrame changes entries 16 card (base + 1 + k)) noFrame (lt-ltb card 16 h) ∙ ap (ringFrame changes entries 16 card) z
 
 pub row-length : (changes entries : List ℕ) (card base k : ℕ) → length (rowsOf changes entries card base k .entries) ≡ 16
 row-length changes entries card base k = length-tabulate 16 (λ j. getD entries (placeOf card (suc (base + k)) * 16 + j) 0)

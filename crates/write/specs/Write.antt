@@ -2,7 +2,7 @@
 use Prim.Native.Nat.{ℕ, suc, _+_}
 use mathlib.Core.Bool.{cond}
 use mathlib.Core.List.{List}
-use lib.Dec.{leb}
+use lib.Dec.{leb, ltb}
 use lib.ListN.{length}
 use lib.Seq.{sets}
 use Rattle.limits.specs.Document.{mostCards}
@@ -11,6 +11,8 @@ use Rattle.refusal.specs.declared.Refusal.the-variants.{TooShort}
 use Rattle.refusal.specs.declared.Reply.{Reply}
 use Rattle.refusal.specs.declared.Reply.the-variants.{Done, Refused}
 use Rattle.frame.specs.declared.Header.{Header}
+use Rattle.frame.specs.declared.Frame.{Frame}
+use Rattle.frame.specs.Lines.{noFrame}
 use Rattle.sheet.specs.Pages.{Page}
 use Rattle.sheet.specs.Ring.{ringFrame}
 use Rattle.write.specs.declared.Written.{Written}
@@ -26,6 +28,10 @@ abbrev pub wroteBytes : Reply → List ℕ → List ℕ → Wrote
 wroteBytes (Refused r) bytes buffer = record { answer = written-refused r; buffer = buffer }
 wroteBytes Done bytes buffer =
     cond (leb (length bytes) (length buffer)) (record { answer = Length (length bytes); buffer = sets buffer 0 bytes }) (record { answer = written-refused TooShort; buffer = buffer })
+
+-- the frame of state x of card c, with all 16 entries of its place; zeros of a card that the ring has no place for
+abbrev pub heldFrame : (changes entries : List ℕ) → (c x : ℕ) → Frame
+heldFrame changes entries c x = cond (ltb c mostCards) (ringFrame changes entries mostCards c x) noFrame
 
 -- the sheet that a ring holds for a header, each frame with all 16 entries of its place: as many are looked at as there are cards
 abbrev pub ringRows : (changes entries : List ℕ) → Header → Page

@@ -8,9 +8,9 @@ ghost use Rattle.laws.specs.Below.{tabulate};
 ghost use Rattle.frame.specs.Format.{formats, formatOf, Fits};
 ghost use Rattle.frame.specs.Lines.{cardsOf, formatFor, headerDigits, frameDigits, headerAllowed};
 ghost use Rattle.sheet.specs.Pages.{bytesIn, pageBytes};
-ghost use Rattle.sheet.specs.Ring.{ringFrame, ringPage};
+ghost use Rattle.sheet.specs.Ring.{ringPage};
 ghost use Rattle.refusal.specs.declared.Reply.the-variants.{Done};
-ghost use Rattle.write.specs.Write.{ringRows, wroteBytes};
+ghost use Rattle.write.specs.Write.{heldFrame, ringRows, wroteBytes};
 use frame::Frame;
 use frame::Header;
 use frame::Layout;
@@ -36,16 +36,21 @@ fn row_at(entries: &[u32; Limits::ENTRIES], place: usize) -> [u32; Limits::CARDS
     row
 }
 
-// The frame of a card's state, with all 16 entries of its place.
+// The frame of a card's state, with all 16 entries of its place; zeros for a card that the ring has no place for.
 pub fn frame_of<'a>(
     changes: &'a [u32; Limits::FRAMES],
     entries: &'a [u32; Limits::ENTRIES],
     card: u32,
     state: u32,
 ) -> Frame
-    requires { ⌜ card < 16 ⌝ }
-    ensures { λ r. ⌜ r ≡ ringFrame (now (changes .entry)) (now (entries .entry)) 16 card state ⌝ }
+    ensures { λ r. ⌜ r ≡ heldFrame (now (changes .entry)) (now (entries .entry)) card state ⌝ }
 {
+    if Limits::CARDS_U32 <= card {
+        return Frame {
+            change: 0,
+            entries: [0u32; Limits::CARDS],
+        };
+    }
     let place = (card * Limits::IN_HAND_U32 + state % Limits::IN_HAND_U32) as usize;
     let row = row_at(entries, place);
     Frame {

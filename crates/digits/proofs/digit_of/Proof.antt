@@ -1,12 +1,9 @@
 -- `digits::digit_of` gives a digit's byte. Assumes nothing.
-use mathlib.Core.Path.{sym}
 use borrow.Author.Needs.{needs}
 use borrow.Author.Tests.{lt-ltb, le-ltb}
 use Rattle.digits.specs.Digits.{digit}
 use Rattle.digits.proofs.digit_of.Statement.{statement}
 use Rattle.digits.proofs.digit_of.Tie as tie
-use Rattle.digits.proofs.digit_of.Reads as reads
-use Rattle.digits.proofs.digit_of.Lts as lts
 
 cast-result : tie.Need-cast-result
 cast-result c = search needs

@@ -2,8 +2,6 @@
 use Rattle.digits.proofs.Digits.{is-low, is-between, is-high}
 use Rattle.digits.proofs.is_digit.Statement.{statement}
 use Rattle.digits.proofs.is_digit.Tie as tie
-use Rattle.digits.proofs.is_digit.Reads as reads
-use Rattle.digits.proofs.is_digit.Lts as lts
 
 returns : tie.Need-returns
 returns c = is-low (c .before .args .b) (c .if1 .taken)

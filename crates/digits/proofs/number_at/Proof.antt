@@ -1,17 +1,13 @@
 -- `digits::number_at` gives the number that digits stand for. The invariant: going on from the number so far gives the whole number. Assumes nothing.
-use Prim.Native.Nat.{ℕ, _+_, _-_, _≤_, _<_, zero-le}
-use mathlib.Core.Path.{_≡_, refl, sym, _∙_, ap}
+use Prim.Native.Nat.{ℕ, _-_, _≤_, zero-le}
+use mathlib.Core.Path.{_≡_, refl, _∙_, ap}
 use borrow.Author.Needs.{needs}
 use native.Mathlib.Omega.{arith}
-use lib.ListN.{length, take, drop, getD}
-use Rattle.laws.proofs.Seq.{left, left-none, left-step, left-all}
-use Rattle.digits.specs.Digits.{numberAfter, number, digitValue}
+use lib.ListN.{take, drop}
+use Rattle.digits.specs.Digits.{number}
 use Rattle.digits.proofs.Steps.{number-step, number-room}
 use Rattle.digits.proofs.number_at.Statement.{statement}
 use Rattle.digits.proofs.number_at.Tie as tie
-use Rattle.digits.proofs.number_at.Reads as reads
-use Rattle.digits.proofs.number_at.Lts as lts
-use Rattle.digits.proofs.value_of.Reads as value-of-reads
 
 abbrev Inv-loop : tie.InvT-loop
 Inv-loop s at width n₀ i₀ n i = (i ≤ width) × (n ≡ number (take i (drop at s)))

@@ -1,19 +1,15 @@
 -- `digits::put_number` writes a number in digits. The invariant: writing what is left of the number before the place gives the whole. Assumes nothing.
-use Prim.Native.Nat.{ℕ, _+_, _-_, _≤_, _<_, zero-le}
+use Prim.Native.Nat.{ℕ, _+_, _-_, _≤_}
 use mathlib.Core.Path.{_≡_, refl, sym, _∙_, ap}
 use borrow.Author.Needs.{needs}
 use native.Mathlib.Omega.{arith}
-use lib.ListN.{length, set}
+use lib.ListN.{length}
 use lib.Seq.{sets}
-use Rattle.laws.proofs.Seq.{sets-append, sets-set}
-use Rattle.digits.specs.Digits.{digits, digit}
+use Rattle.digits.specs.Digits.{digits}
 use Rattle.digits.proofs.Steps.{put-step}
 use lib.ListN.{length-set}
 use Rattle.digits.proofs.put_number.Statement.{statement}
 use Rattle.digits.proofs.put_number.Tie as tie
-use Rattle.digits.proofs.put_number.Reads as reads
-use Rattle.digits.proofs.put_number.Lts as lts
-use Rattle.digits.proofs.digit_of.Reads as digit-of-reads
 
 abbrev Inv-loop : tie.InvT-loop
 Inv-loop b₀ at width n rest₀ k₀ b rest k = (k ≤ width) × (length b ≡ length b₀) × (sets b at (digits k rest) ≡ sets b₀ at (digits width n))

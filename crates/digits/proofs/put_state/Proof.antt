@@ -1,14 +1,11 @@
 -- `digits::put_state` writes a number. Assumes nothing.
 use Prim.Native.Nat.{ℕ}
-use mathlib.Core.Path.{_≡_, sym, _∙_, ap}
+use mathlib.Core.Path.{sym, _∙_, ap}
 use lib.Seq.{sets}
 use Rattle.digits.specs.Digits.{digits}
 use borrow.Author.Needs.{needs}
 use Rattle.digits.proofs.put_state.Statement.{statement}
 use Rattle.digits.proofs.put_state.Tie as tie
-use Rattle.digits.proofs.put_state.Reads as reads
-use Rattle.digits.proofs.put_state.Lts as lts
-use Rattle.digits.proofs.put_number.Reads as put-number-reads
 
 put-number-requires : tie.Need-put-number-requires
 put-number-requires c κs = search needs

@@ -1,14 +1,11 @@
 -- `digits::state_at` gives the number that digits stand for. Assumes nothing.
 use Prim.Native.Nat.{ℕ}
-use mathlib.Core.Path.{_≡_, sym, _∙_, ap}
+use mathlib.Core.Path.{sym, _∙_, ap}
 use lib.ListN.{take, drop}
 use Rattle.digits.specs.Digits.{number}
 use borrow.Author.Needs.{needs}
 use Rattle.digits.proofs.state_at.Statement.{statement}
 use Rattle.digits.proofs.state_at.Tie as tie
-use Rattle.digits.proofs.state_at.Reads as reads
-use Rattle.digits.proofs.state_at.Lts as lts
-use Rattle.digits.proofs.number_at.Reads as number-at-reads
 
 number-at-requires : tie.Need-number-at-requires
 number-at-requires c κs = search needs

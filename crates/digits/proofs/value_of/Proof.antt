@@ -6,8 +6,6 @@ use lib.Dec.{lit<}
 use Rattle.digits.proofs.Digits.{is-between, value-numeral, value-letter, value-none, is-lower, is-higher}
 use Rattle.digits.proofs.value_of.Statement.{statement}
 use Rattle.digits.proofs.value_of.Tie as tie
-use Rattle.digits.proofs.value_of.Reads as reads
-use Rattle.digits.proofs.value_of.Lts as lts
 
 returns : tie.Need-returns
 returns c = (sym (value-none (c .before .args .b) (is-lower (c .before .args .b) (c .if1 .taken))), lit< tt)

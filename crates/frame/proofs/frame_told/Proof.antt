@@ -1,11 +1,9 @@
 -- `frame::frame_told` gives the verdict of an answer. Assumes nothing.
-use mathlib.Core.Path.{_≡_, refl, sym, _∙_, ap}
+use mathlib.Core.Path.{sym, ap}
 use borrow.Author.Needs.{needs}
 use Rattle.frame.specs.Lines.{frameTold}
 use Rattle.frame.proofs.frame_told.Statement.{statement}
 use Rattle.frame.proofs.frame_told.Tie as tie
-use Rattle.frame.proofs.frame_told.Reads as reads
-use Rattle.frame.proofs.frame_told.Lts as lts
 
 enum-told : tie.Need-enum-told
 enum-told c = search needs

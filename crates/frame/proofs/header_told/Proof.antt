@@ -1,11 +1,9 @@
 -- `frame::header_told` gives the verdict of an answer. Assumes nothing.
-use mathlib.Core.Path.{_≡_, refl, sym, _∙_, ap}
+use mathlib.Core.Path.{sym, ap}
 use borrow.Author.Needs.{needs}
 use Rattle.frame.specs.Lines.{headerTold}
 use Rattle.frame.proofs.header_told.Statement.{statement}
 use Rattle.frame.proofs.header_told.Tie as tie
-use Rattle.frame.proofs.header_told.Reads as reads
-use Rattle.frame.proofs.header_told.Lts as lts
 
 enum-told : tie.Need-enum-told
 enum-told c = search needs

@@ -1,12 +1,10 @@
 -- `frame::layout_of` gives the layout of a sheet. Assumes nothing.
-use mathlib.Core.Path.{_≡_, refl, sym, _∙_, ap}
+use mathlib.Core.Path.{_∙_, ap}
 use borrow.Author.Needs.{needs}
-use Rattle.frame.specs.declared.Layout.{Layout}
-use Rattle.frame.specs.Format.{formatOf, Fits}
+use Rattle.frame.specs.Format.{formatOf}
 use Rattle.frame.proofs.Layouts.{plain-format, plain-fits}
 use Rattle.frame.proofs.layout_of.Statement.{statement}
 use Rattle.frame.proofs.layout_of.Tie as tie
-use Rattle.frame.proofs.plain.Reads as plain-reads
 
 plain-requires : tie.Need-plain-requires
 plain-requires c κs = search needs

@@ -1,9 +1,9 @@
 -- `frame::entries_at` reads the entries of a frame. The invariant: storing those left to read gives the whole. Assumes nothing.
-use Prim.Native.Nat.{ℕ, _+_, _*_, _-_, _≤_, _<_, zero-le}
+use Prim.Native.Nat.{_+_, _*_, _-_, _≤_, zero-le}
 use mathlib.Core.Path.{_≡_, refl, sym, _∙_, ap}
 use borrow.Author.Needs.{needs}
 use native.Mathlib.Omega.{arith}
-use lib.ListN.{length, take, drop, length-set, length-drop}
+use lib.ListN.{length, drop, length-set, length-drop}
 use lib.Seq.{sets}
 use Rattle.digits.proofs.Digits.{number-take}
 use Rattle.frame.specs.Format.{heldBy}
@@ -11,10 +11,6 @@ use Rattle.frame.specs.Lines.{entriesBy, padded}
 use Rattle.frame.proofs.Judged.{row-room, entries-step, entries-none, entries-start}
 use Rattle.frame_reader.proofs.entries_at.Statement.{statement}
 use Rattle.frame_reader.proofs.entries_at.Tie as tie
-use Rattle.frame_reader.proofs.entries_at.Reads as reads
-use Rattle.frame_reader.proofs.entries_at.Lts as lts
-use Rattle.frame_reader.proofs.held.Reads as held-reads
-use Rattle.digits.proofs.state_at.Reads as state-at-reads
 
 abbrev Inv-loop : tie.InvT-loop
 Inv-loop s at n w short none entries₀ j₀ entries j =

@@ -1,5 +1,5 @@
 -- `frame::frame_at` reads a frame line. Assumes nothing.
-use mathlib.Core.Path.{_≡_, refl, sym, _∙_, ap}
+use mathlib.Core.Path.{sym, _∙_}
 use borrow.Author.Needs.{needs}
 use native.Mathlib.Omega.{arith}
 use lib.ListN.{length, drop}
@@ -10,11 +10,6 @@ use Rattle.frame.specs.Lines.{noFrame}
 use Rattle.frame.proofs.Judged.{row-small, frame-faulty}
 use Rattle.frame_reader.proofs.frame_at.Statement.{statement}
 use Rattle.frame_reader.proofs.frame_at.Tie as tie
-use Rattle.frame_reader.proofs.frame_at.Reads as reads
-use Rattle.frame_reader.proofs.frame_at.Lts as lts
-use Rattle.frame_reader.proofs.frame_judged.Reads as frame-judged-reads
-use Rattle.frame_reader.proofs.frame_refused.Reads as frame-refused-reads
-use Rattle.digits.proofs.shape_at.Reads as shape-at-reads
 
 add-shape-at : tie.Need-add-shape-at
 add-shape-at c = search needs

@@ -1,8 +1,8 @@
 -- `frame::frame_judged` judges a frame line whose shape is right. Assumes nothing.
-use mathlib.Core.Path.{_≡_, refl, sym, _∙_, ap}
+use mathlib.Core.Path.{refl, sym, _∙_, ap}
 use borrow.Author.Needs.{needs}
 use native.Mathlib.Omega.{arith}
-use borrow.Author.Tests.{lt-ltb, le-ltb, le-leb, lt-leb, eq-eqb, ne-eqb, not-true, not-false}
+use borrow.Author.Tests.{not-true, not-false}
 use Prim.Native.Nat.{_+_}
 use lib.ListN.{drop}
 use Rattle.frame.specs.Lines.{padded}
@@ -10,13 +10,6 @@ use Rattle.frame.specs.Format.{formatOf}
 use Rattle.frame.proofs.Judged.{entries-by, frame-told, frame-taken, frame-kept}
 use Rattle.frame_reader.proofs.frame_judged.Statement.{statement}
 use Rattle.frame_reader.proofs.frame_judged.Tie as tie
-use Rattle.frame_reader.proofs.frame_judged.Reads as reads
-use Rattle.frame_reader.proofs.frame_judged.Lts as lts
-use Rattle.frame_reader.proofs.entries_at.Reads as entries-at-reads
-use Rattle.frame_reader.proofs.frame_allowed.Reads as frame-allowed-reads
-use Rattle.frame_reader.proofs.frame_refused.Reads as frame-refused-reads
-use Rattle.digits.proofs.check_at.Reads as check-at-reads
-use Rattle.digits.proofs.number_at.Reads as number-at-reads
 
 add-check-at : tie.Need-add-check-at
 add-check-at c = search needs

@@ -4,8 +4,6 @@ use borrow.Author.Tests.{not-true, not-false}
 use Rattle.frame.proofs.Entries.{held-none, held-long, held-zero, held-need}
 use Rattle.frame_reader.proofs.held.Statement.{statement}
 use Rattle.frame_reader.proofs.held.Tie as tie
-use Rattle.frame_reader.proofs.held.Reads as reads
-use Rattle.frame_reader.proofs.held.Lts as lts
 
 returns : tie.Need-returns
 returns c = let a = c .before .args in held-none (a .short) (a .none) (a .e) (c .if1 .taken)

@@ -1,10 +1,7 @@
 -- `frame::agrees` compares with the first sheet's number of cards. Assumes nothing.
-use borrow.Author.Needs.{needs}
-use borrow.Author.Tests.{lt-ltb, le-ltb, le-leb, lt-leb, eq-eqb, ne-eqb, not-true, not-false}
+use borrow.Author.Tests.{eq-eqb, ne-eqb}
 use Rattle.header_reader.proofs.agrees.Statement.{statement}
 use Rattle.header_reader.proofs.agrees.Tie as tie
-use Rattle.header_reader.proofs.agrees.Reads as reads
-use Rattle.header_reader.proofs.agrees.Lts as lts
 
 returns : tie.Need-returns
 returns c = rw (eq-eqb (c .before .args .first) 0 (c .if1 .taken))

@@ -1,5 +1,5 @@
 -- `frame::header_allowed` judges a header. Assumes nothing.
-use mathlib.Core.Path.{_≡_, refl, sym, _∙_, ap}
+use mathlib.Core.Path.{refl, sym, _∙_}
 use borrow.Author.Needs.{needs}
 use native.Mathlib.Omega.{arith}
 use Prim.Native.Nat.{_+_}
@@ -8,10 +8,6 @@ use Rattle.frame.specs.Format.{formatOf}
 use Rattle.frame.proofs.Judged.{header-tests, within}
 use Rattle.header_reader.proofs.header_allowed.Statement.{statement}
 use Rattle.header_reader.proofs.header_allowed.Tie as tie
-use Rattle.header_reader.proofs.header_allowed.Reads as reads
-use Rattle.header_reader.proofs.header_allowed.Lts as lts
-use Rattle.header_reader.proofs.agrees.Reads as agrees-reads
-use Rattle.header_reader.proofs.unraised.Reads as unraised-reads
 
 unraised-requires : tie.Need-unraised-requires
 unraised-requires c κs = search needs

@@ -1,5 +1,5 @@
 -- `frame::header_at` reads a header line. Assumes nothing.
-use mathlib.Core.Path.{_≡_, refl, sym, _∙_, ap}
+use mathlib.Core.Path.{sym, _∙_}
 use borrow.Author.Needs.{needs}
 use native.Mathlib.Omega.{arith}
 use lib.ListN.{length, drop}
@@ -9,10 +9,6 @@ use Rattle.frame.specs.Format.{formatOf}
 use Rattle.frame.proofs.Judged.{header-faulty}
 use Rattle.header_reader.proofs.header_at.Statement.{statement}
 use Rattle.header_reader.proofs.header_at.Tie as tie
-use Rattle.header_reader.proofs.header_at.Reads as reads
-use Rattle.header_reader.proofs.header_at.Lts as lts
-use Rattle.header_reader.proofs.header_judged.Reads as header-judged-reads
-use Rattle.digits.proofs.shape_at.Reads as shape-at-reads
 
 add-shape-at : tie.Need-add-shape-at
 add-shape-at c = search needs

@@ -1,14 +1,10 @@
 -- `frame::header_in` takes the numbers of a header from its digits. Assumes nothing.
 use Prim.Native.Nat.{_+_}
-use mathlib.Core.Path.{_≡_, refl, sym, _∙_, ap}
 use borrow.Author.Needs.{needs}
 use lib.Seq.{drop-drop}
 use Rattle.frame.specs.Lines.{headerIn}
 use Rattle.header_reader.proofs.header_in.Statement.{statement}
 use Rattle.header_reader.proofs.header_in.Tie as tie
-use Rattle.header_reader.proofs.header_in.Reads as reads
-use Rattle.header_reader.proofs.header_in.Lts as lts
-use Rattle.digits.proofs.number_at.Reads as number-at-reads
 
 number-at-requires : tie.Need-number-at-requires
 number-at-requires c κs = search needs

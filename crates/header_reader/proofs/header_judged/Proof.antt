@@ -1,19 +1,12 @@
 -- `frame::header_judged` judges a header line whose shape is right. Assumes nothing.
-use mathlib.Core.Path.{_≡_, refl, sym, _∙_, ap}
+use mathlib.Core.Path.{refl, sym, _∙_}
 use borrow.Author.Needs.{needs}
-use native.Mathlib.Omega.{arith}
-use borrow.Author.Tests.{lt-ltb, le-ltb, le-leb, lt-leb, eq-eqb, ne-eqb, not-true, not-false}
+use borrow.Author.Tests.{not-true, not-false}
 use lib.ListN.{drop}
 use Rattle.frame.specs.Format.{formatOf}
 use Rattle.frame.proofs.Judged.{header-told}
 use Rattle.header_reader.proofs.header_judged.Statement.{statement}
 use Rattle.header_reader.proofs.header_judged.Tie as tie
-use Rattle.header_reader.proofs.header_judged.Reads as reads
-use Rattle.header_reader.proofs.header_judged.Lts as lts
-use Rattle.header_reader.proofs.header_allowed.Reads as header-allowed-reads
-use Rattle.header_reader.proofs.header_in.Reads as header-in-reads
-use Rattle.frame.proofs.start_of.Reads as start-of-reads
-use Rattle.digits.proofs.check_at.Reads as check-at-reads
 
 add-digits : tie.Need-add-digits
 add-digits c = search needs

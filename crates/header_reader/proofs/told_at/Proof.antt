@@ -1,7 +1,7 @@
 -- `header_reader::told_at` gives the number of cards that a header tells. Assumes nothing.
-use Prim.Native.Nat.{ℕ, _+_, _-_, _≤_}
-use mathlib.Core.Path.{_≡_, refl, sym, _∙_, ap}
-use mathlib.Core.List.{List, []}
+use Prim.Native.Nat.{ℕ, _+_, _≤_}
+use mathlib.Core.Path.{_≡_, sym, _∙_, ap}
+use mathlib.Core.List.{List}
 use borrow.Author.Needs.{needs}
 use native.Mathlib.Omega.{arith}
 use lib.ListN.{length, take, drop, length-drop, drop-of-length-le}
@@ -9,9 +9,6 @@ use lib.Seq.{drop-drop, take-all}
 use Rattle.digits.specs.Digits.{number}
 use Rattle.header_reader.proofs.told_at.Statement.{statement}
 use Rattle.header_reader.proofs.told_at.Tie as tie
-use Rattle.header_reader.proofs.told_at.Reads as reads
-use Rattle.header_reader.proofs.told_at.Lts as lts
-use Rattle.digits.proofs.number_at.Reads as number-at-reads
 
 -- before those digits the input ends
 told-none : (s : List ℕ) (at : ℕ) → length s ≤ at + 10 → 0 ≡ number (take 2 (drop 10 (drop at s)))

@@ -4,8 +4,6 @@ use borrow.Author.Tests.{not-true, not-false}
 use Rattle.frame.proofs.Entries.{shown-none, shown-long, shown-zero, shown-need}
 use Rattle.line_writer.proofs.entry_of.Statement.{statement}
 use Rattle.line_writer.proofs.entry_of.Tie as tie
-use Rattle.line_writer.proofs.entry_of.Reads as reads
-use Rattle.line_writer.proofs.entry_of.Lts as lts
 
 returns : tie.Need-returns
 returns c = let a = c .before .args in shown-none (a .short) (a .none) (a .d) (c .if1 .taken)

@@ -1,9 +1,9 @@
 -- `frame::put_entries` writes the entries of a frame. The invariant: writing those left gives the whole. Assumes nothing.
-use Prim.Native.Nat.{ℕ, _+_, _*_, _-_, _≤_, _<_, zero-le}
+use Prim.Native.Nat.{ℕ, _+_, _*_, _-_, _≤_, zero-le}
 use mathlib.Core.Path.{_≡_, refl, sym, _∙_, ap}
 use borrow.Author.Needs.{needs}
 use native.Mathlib.Omega.{arith}
-use mathlib.Core.List.{List, map}
+use mathlib.Core.List.{map}
 use lib.ListN.{length, drop, replicate}
 use lib.Seq.{sets}
 use Rattle.digits.specs.Digits.{digits, written}
@@ -12,10 +12,6 @@ use Rattle.frame.proofs.Judged.{row-room}
 use Rattle.line_writer.proofs.Puts.{entry-put, entries-begin, entries-done}
 use Rattle.line_writer.proofs.put_entries.Statement.{statement}
 use Rattle.line_writer.proofs.put_entries.Tie as tie
-use Rattle.line_writer.proofs.put_entries.Reads as reads
-use Rattle.line_writer.proofs.put_entries.Lts as lts
-use Rattle.line_writer.proofs.entry_of.Reads as entry-of-reads
-use Rattle.digits.proofs.put_state.Reads as put-state-reads
 
 abbrev Inv-loop : tie.InvT-loop
 Inv-loop b₀ at n w short none entries j₀ b j =

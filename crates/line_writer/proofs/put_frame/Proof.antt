@@ -1,17 +1,11 @@
 -- `frame::put_frame` writes a frame line. Assumes nothing.
-use mathlib.Core.Path.{_≡_, refl, sym, _∙_, ap}
+use mathlib.Core.Path.{_≡_}
 use borrow.Author.Needs.{needs}
-use native.Mathlib.Omega.{arith}
 use lib.ListN.{length}
 use Rattle.frame.specs.Format.{formatOf}
 use Rattle.line_writer.proofs.Puts.{frame-put}
 use Rattle.line_writer.proofs.put_frame.Statement.{statement}
 use Rattle.line_writer.proofs.put_frame.Tie as tie
-use Rattle.line_writer.proofs.put_frame.Reads as reads
-use Rattle.line_writer.proofs.put_frame.Lts as lts
-use Rattle.line_writer.proofs.put_entries.Reads as put-entries-reads
-use Rattle.digits.proofs.end_line.Reads as end-line-reads
-use Rattle.digits.proofs.put_number.Reads as put-number-reads
 
 put-number-requires : tie.Need-put-number-requires
 put-number-requires c κs = search needs

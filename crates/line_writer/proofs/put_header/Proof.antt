@@ -1,16 +1,9 @@
 -- `frame::put_header` writes a header line. Assumes nothing.
-use mathlib.Core.Path.{_≡_, refl, sym, _∙_, ap}
 use borrow.Author.Needs.{needs}
-use native.Mathlib.Omega.{arith}
 use Rattle.frame.specs.Format.{formatOf}
 use Rattle.line_writer.proofs.Puts.{header-put}
 use Rattle.line_writer.proofs.put_header.Statement.{statement}
 use Rattle.line_writer.proofs.put_header.Tie as tie
-use Rattle.line_writer.proofs.put_header.Reads as reads
-use Rattle.line_writer.proofs.put_header.Lts as lts
-use Rattle.frame.proofs.start_of.Reads as start-of-reads
-use Rattle.digits.proofs.end_line.Reads as end-line-reads
-use Rattle.digits.proofs.put_number.Reads as put-number-reads
 
 put-number-requires : tie.Need-put-number-requires
 put-number-requires c κs = search needs

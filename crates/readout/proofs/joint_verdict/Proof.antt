@@ -6,11 +6,6 @@ use Rattle.two_vectors.specs.Heads.{listsRead}
 use Rattle.readout.proofs.Jointly.{joint-tests}
 use Rattle.readout.proofs.joint_verdict.Statement.{statement}
 use Rattle.readout.proofs.joint_verdict.Tie as tie
-use Rattle.readout.proofs.joint_verdict.Reads as reads
-use Rattle.readout.proofs.joint_verdict.Lts as lts
-use Rattle.sessions.proofs.lowest.Reads as lowest-reads
-use Rattle.sessions.proofs.sessions_apart.Reads as sessions-apart-reads
-use Rattle.two_vectors.proofs.two_vectors.Reads as two-vectors-reads
 
 sub-lowest : tie.Need-sub-lowest
 sub-lowest c = search needs

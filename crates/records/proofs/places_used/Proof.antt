@@ -2,8 +2,6 @@ use mathlib.Core.Path.{sym}
 use Rattle.laws.proofs.Logic.{cond-true, cond-false}
 use Rattle.records.proofs.places_used.Statement.{statement}
 use Rattle.records.proofs.places_used.Tie as tie
-use Rattle.records.proofs.places_used.Reads as reads
-use Rattle.records.proofs.places_used.Lts as lts
 
 -- src/lib.rt:34:1
 returns : tie.Need-returns

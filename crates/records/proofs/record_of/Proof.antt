@@ -2,8 +2,6 @@ use mathlib.Core.Path.{refl}
 use borrow.Author.Needs.{needs}
 use Rattle.records.proofs.record_of.Statement.{statement}
 use Rattle.records.proofs.record_of.Tie as tie
-use Rattle.records.proofs.record_of.Reads as reads
-use Rattle.records.proofs.record_of.Lts as lts
 
 -- src/lib.rt:27:15
 cast-t4 : tie.Need-cast-t4

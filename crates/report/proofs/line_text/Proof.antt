@@ -1,15 +1,8 @@
 -- `report::line_text` is the text of what a restart answers. Assumes nothing.
-use mathlib.Core.Path.{_≡_}
 use Rattle.report.proofs.Told.{few, left, accepted-same, refused-same}
 use borrow.Author.Needs.{needs}
 use Rattle.report.proofs.line_text.Statement.{statement}
 use Rattle.report.proofs.line_text.Tie as tie
-use Rattle.report.proofs.line_text.Reads as reads
-use Rattle.report.proofs.line_text.Lts as lts
-use Rattle.refusal.proofs.number.Reads as number-reads
-use Rattle.report.proofs.accepted_text.Reads as accepted-text-reads
-use Rattle.report.proofs.refused_text.Reads as refused-text-reads
-use Rattle.restart.proofs.restart.Reads as restart-reads
 
 restart-requires : tie.Need-restart-requires
 restart-requires c κs = search needs

@@ -1,35 +1,36 @@
 -- `report::refused_text` is the line of a refusal. Assumes nothing.
-use Prim.Native.Nat.{ℕ, zero, suc, _+_, _*_, _-_, _≤_, _<_, zero-le}
-use mathlib.Core.Path.{_≡_, refl, sym, _∙_, ap}
-use mathlib.Core.List.{List, [], _∷_, _++_}
+use mathlib.Core.List.{[], _∷_}
 use native.Mathlib.Omega.{arith}
-use lib.ListN.{length, getD, replicate}
-use Rattle.decimal.specs.Digits.{decimal}
-use Rattle.verdicts.specs.Shape.{at}
-use Rattle.report.specs.declared.Text.{Text}
-use Rattle.report.specs.Report.{rowText, rowsText, sessionWord, refusedWord}
-use Rattle.report.proofs.Pushes.{length-of, end-pushed, emptyText}
+use Rattle.report.proofs.Pushes.{whole-text, line-length}
 use borrow.Author.Needs.{needs}
 use Rattle.report.proofs.refused_text.Statement.{statement}
 use Rattle.report.proofs.refused_text.Tie as tie
-use Rattle.report.proofs.refused_text.Reads as reads
-use Rattle.report.proofs.refused_text.Lts as lts
-use Rattle.report.proofs.push.Reads as push-reads
-use Rattle.report.proofs.push_number.Reads as push-number-reads
-use Rattle.report.proofs.push_word.Reads as push-word-reads
 
-push-word-requires : tie.Need-push-word-requires
-push-word-requires c κs = search needs
+slice-aggregate-put-line : tie.Need-slice-aggregate-put-line
+slice-aggregate-put-line c = search needs
 
-push-number-requires : tie.Need-push-number-requires
-push-number-requires c κs = omega (arith, length-of emptyText refusedWord (c .push-word .ensures))
+slice-aggregate-put-line-2 : tie.Need-slice-aggregate-put-line-2
+slice-aggregate-put-line-2 c = search needs
 
-push-requires : tie.Need-push-requires
-push-requires c κs = omega (arith, length-of emptyText refusedWord (c .before .push-word .ensures), c .push-number .ensures .1)
+slice-aggregate-put-line-3 : tie.Need-slice-aggregate-put-line-3
+slice-aggregate-put-line-3 c = search needs
+
+put-line-requires : tie.Need-put-line-requires
+put-line-requires c κs = search needs
+
+text-at-requires : tie.Need-text-at-requires
+text-at-requires c κs = search needs
 
 returns : tie.Need-returns
-returns c = end-pushed emptyText [] refusedWord (decimal (c .before .before .before .before .before .args .n)) refl (c .before .before .push-word .ensures) (c .before .push-number .ensures .0) (c .push .ensures)
+returns c = let l = line-length (114 ∷ 101 ∷ 102 ∷ 117 ∷ 115 ∷ 101 ∷ 100 ∷ []) (c .before .before .before .before .before .before .args .n) (search needs) in whole-text (c .before .before .put-line .ensures) (omega (arith, l)) (c .text-at .ensures)
 
 pub refused-text-spec : {M : Type 1} → statement M
 refused-text-spec =
-    tie.close (tie.spec push-word-requires push-number-requires push-requires returns)
+    tie.close
+    (tie.spec
+    slice-aggregate-put-line
+    slice-aggregate-put-line-2
+    slice-aggregate-put-line-3
+    put-line-requires
+    text-at-requires
+    returns)

@@ -1,11 +1,8 @@
 -- `readout::ahead` tells a sheet that refusal 11 does not let pass. Assumes nothing.
-use mathlib.Core.Path.{_≡_, refl, sym, _∙_, ap}
 use borrow.Author.Needs.{needs}
 use Rattle.sessions.proofs.Turns.{not-ahead, far-ahead, one-ahead}
 use Rattle.sessions.proofs.ahead.Statement.{statement}
 use Rattle.sessions.proofs.ahead.Tie as tie
-use Rattle.sessions.proofs.ahead.Reads as reads
-use Rattle.sessions.proofs.ahead.Lts as lts
 
 returns : tie.Need-returns
 returns c = not-ahead (c .before .args .session) (c .before .args .count) (c .before .args .low) (c .if1 .taken)

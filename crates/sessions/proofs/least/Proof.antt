@@ -2,8 +2,6 @@
 use borrow.Author.Needs.{needs}
 use Rattle.sessions.proofs.least.Statement.{statement}
 use Rattle.sessions.proofs.least.Tie as tie
-use Rattle.sessions.proofs.least.Reads as reads
-use Rattle.sessions.proofs.least.Lts as lts
 
 -- src/lib.rt:9:1
 returns : tie.Need-returns

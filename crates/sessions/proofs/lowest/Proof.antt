@@ -1,25 +1,22 @@
--- `readout::lowest` gives the lowest session. The invariant: the lowest of those passed. Assumes nothing.
-use Prim.Native.Nat.{ℕ, _+_, _*_, _-_, _≤_, _<_, zero-le}
-use mathlib.Core.Bool.{true, false, _||_, _&&_}
-use mathlib.Core.Path.{_≡_, refl, sym, _∙_, ap}
-use borrow.Author.Needs.{needs}
+-- `sessions::lowest` gives the lowest session. The invariant: the lowest of those passed. Assumes nothing.
+use Prim.Native.Nat.{_-_, _≤_, zero-le}
+use mathlib.Core.Path.{_≡_, refl, _∙_, ap}
 use native.Mathlib.Omega.{arith}
-use lib.Dec.{eqb, ltb}
-use lib.ListN.{length, getD}
-use Rattle.laws.specs.Below.{allBelow, anyBelow}
+use lib.ListN.{getD}
 use Rattle.sessions.specs.Sessions.{lowestTo}
-use Rattle.sessions.proofs.Turns.{lowest-step}
+use Rattle.sessions.proofs.Turns.{lowest-step, lowest-beyond}
+use borrow.Author.Needs.{needs}
 use Rattle.sessions.proofs.lowest.Statement.{statement}
 use Rattle.sessions.proofs.lowest.Tie as tie
-use Rattle.sessions.proofs.lowest.Reads as reads
-use Rattle.sessions.proofs.lowest.Lts as lts
-use Rattle.sessions.proofs.least.Reads as least-reads
 
 abbrev Inv-loop : tie.InvT-loop
 Inv-loop last sessions low₀ i₀ low i = (i ≤ last) × (low ≡ lowestTo (λ k. getD sessions k 0) i)
 
 abbrev μ-loop : tie.MeasureT-loop
 μ-loop last sessions low₀ i₀ low i = last - i
+
+returns : tie.Need-returns Inv-loop μ-loop
+returns c = lowest-beyond (c .before .args .t1) (c .before .args .last) (search needs)
 
 array-read-low : tie.Need-array-read-low Inv-loop μ-loop
 array-read-low c = search needs
@@ -46,12 +43,12 @@ loop-less : tie.Need-loop-less Inv-loop μ-loop
 loop-less c = search needs
 
 loop-again : tie.Need-loop-again Inv-loop μ-loop
-loop-again c = (omega arith, lowest-step (λ k. getD (c .before .before .before .args .t1) k 0) (c .before .before .loop .i) (c .before .before .loop .inv .1) refl (c .least .ensures))
+loop-again c = (omega arith, lowest-step (λ k. getD (c .before .before .before .before .args .t1) k 0) (c .before .before .loop .i) (c .before .before .loop .inv .1) refl (c .least .ensures))
 
-returns : tie.Need-returns Inv-loop μ-loop
-returns c =
-    let e : c .before .loop .i ≡ c .before .before .args .last = omega arith in
-    c .before .loop .inv .1 ∙ ap (lowestTo (λ k. getD (c .before .before .args .t1) k 0)) e
+returns-2 : tie.Need-returns-2 Inv-loop μ-loop
+returns-2 c =
+    let e : c .before .loop .i ≡ c .before .before .before .args .last = omega arith in
+    c .before .loop .inv .1 ∙ ap (lowestTo (λ k. getD (c .before .before .before .args .t1) k 0)) e
 
 pub lowest-spec : {M : Type 1} → statement M
 lowest-spec =
@@ -59,6 +56,7 @@ lowest-spec =
     (tie.spec
     Inv-loop
     μ-loop
+    returns
     array-read-low
     loop-holds
     add-i
@@ -68,4 +66,4 @@ lowest-spec =
     least-requires
     loop-less
     loop-again
-    returns)
+    returns-2)

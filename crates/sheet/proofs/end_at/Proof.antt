@@ -1,15 +1,10 @@
 -- `sheet::end_at` judges what stands behind the last sheet. Assumes nothing.
 use Prim.Native.Nat.{_-_}
-use mathlib.Core.Path.{_≡_, refl, sym, _∙_, ap}
-use borrow.Author.Needs.{needs}
 use native.Mathlib.Omega.{arith}
 use borrow.Author.Tests.{eq-eqb, ne-eqb}
-use lib.Dec.{eqb}
-use lib.ListN.{length, drop, length-drop}
+use lib.ListN.{length, length-drop}
 use Rattle.sheet.proofs.end_at.Statement.{statement}
 use Rattle.sheet.proofs.end_at.Tie as tie
-use Rattle.sheet.proofs.end_at.Reads as reads
-use Rattle.sheet.proofs.end_at.Lts as lts
 
 returns : tie.Need-returns
 returns c = rw (length-drop (c .before .args .at) (c .before .args .s .now), ne-eqb (length (c .before .args .s .now) - c .before .args .at) 0 (omega arith))

@@ -1,5 +1,5 @@
 -- `sheet_writer::frames_pass` judges the frames of a sheet. The invariant: what is left to judge decides. Assumes nothing.
-use Prim.Native.Nat.{_-_, _≤_, zero-le}
+use Prim.Native.Nat.{_-_, _≤_, _<_, zero-le}
 use mathlib.Core.Path.{_≡_, refl}
 use borrow.Author.Needs.{needs}
 use borrow.Author.Tests.{not-true, not-false}
@@ -11,11 +11,6 @@ use Rattle.write.proofs.Rows.{rowsOf, next-row}
 use Rattle.sheet_writer.proofs.Single.{judging, judging-stop, judging-again, judging-done, judged-all}
 use Rattle.sheet_writer.proofs.frames_pass.Statement.{statement}
 use Rattle.sheet_writer.proofs.frames_pass.Tie as tie
-use Rattle.sheet_writer.proofs.frames_pass.Reads as reads
-use Rattle.sheet_writer.proofs.frames_pass.Lts as lts
-use Rattle.frame_reader.proofs.frame_allowed.Reads as frame-allowed-reads
-use Rattle.header_reader.proofs.unraised.Reads as unraised-reads
-use Rattle.write.proofs.frame_of.Reads as frame-of-reads
 
 abbrev Inv-loop : tie.InvT-loop
 Inv-loop f changes entries card n base count last₀ k₀ last k =
@@ -23,6 +18,9 @@ Inv-loop f changes entries card n base count last₀ k₀ last k =
 
 abbrev μ-loop : tie.MeasureT-loop
 μ-loop f changes entries card n base count last₀ k₀ last k = count - k
+
+is-card : (c : tie.After-unraised Inv-loop μ-loop) → c .before .args .h .card < 16
+is-card c = let l = header-limits (formatOf (c .before .args .f)) _ _ _ (c .before .pre .1) in omega (arith, l .below, l .cards)
 
 unraised-requires : tie.Need-unraised-requires Inv-loop μ-loop
 unraised-requires c κs = search needs
@@ -37,7 +35,7 @@ add-state-2 : tie.Need-add-state-2 Inv-loop μ-loop
 add-state-2 c = let l = header-limits (formatOf (c .before .before .before .args .f)) _ _ _ (c .before .before .before .pre .1) in omega (arith, l .states, l .count)
 
 frame-of-requires : tie.Need-frame-of-requires Inv-loop μ-loop
-frame-of-requires c κs = let l = header-limits (formatOf (c .before .before .before .args .f)) _ _ _ (c .before .before .before .pre .1) in omega (arith, l .below, l .cards)
+frame-of-requires c κs = search needs
 
 frame-allowed-requires : tie.Need-frame-allowed-requires Inv-loop μ-loop
 frame-allowed-requires c κs = search needs
@@ -49,7 +47,7 @@ returns c =
     let l = c .before .before .before .before .loop in
     judged-all (formatOf (a .f)) (a .h .card) (u .result) (a .h .base) (a .h .count) (rowsOf (a .changes .now) (a .entries .now) (a .h .card) (a .h .base)) noFrame (cardsOf (formatOf (a .f)) (a .h)) (u .ensures)
     (judging-stop (formatOf (a .f)) (a .h .card) (u .result) (a .h .base) (a .h .count) (rowsOf (a .changes .now) (a .entries .now) (a .h .card) (a .h .base)) (l .last) noFrame (l .k) (c .before .before .before .loop-test .taken) (l .inv .1)
-    (next-row (a .changes .now) (a .entries .now) (a .h .card) (a .h .base) (l .k) (c .before .before .frame-of .ensures)) (c .before .frame-allowed .ensures) (not-true _ (c .if1 .taken)))
+    (next-row (a .changes .now) (a .entries .now) (a .h .card) (a .h .base) (l .k) (is-card (c .before .before .before .before .before)) (c .before .before .frame-of .ensures)) (c .before .frame-allowed .ensures) (not-true _ (c .if1 .taken)))
 
 add-k : tie.Need-add-k Inv-loop μ-loop
 add-k c = search needs
@@ -63,7 +61,7 @@ loop-again c =
     let l = c .before .before .before .before .loop in (
       omega (arith, c .before .before .before .loop-test .taken),
       judging-again (formatOf (a .f)) (a .h .card) (c .before .before .before .before .before .unraised .result) (a .h .base) (a .h .count) (rowsOf (a .changes .now) (a .entries .now) (a .h .card) (a .h .base)) (l .last) noFrame (l .k) (c .before .before .before .loop-test .taken) (l .inv .1)
-          (next-row (a .changes .now) (a .entries .now) (a .h .card) (a .h .base) (l .k) (c .before .before .frame-of .ensures)) (c .before .frame-allowed .ensures) (not-false _ (c .if1 .left)),
+          (next-row (a .changes .now) (a .entries .now) (a .h .card) (a .h .base) (l .k) (is-card (c .before .before .before .before .before)) (c .before .before .frame-of .ensures)) (c .before .frame-allowed .ensures) (not-false _ (c .if1 .left)),
     )
 
 returns-2 : tie.Need-returns-2 Inv-loop μ-loop

@@ -5,8 +5,6 @@ use Prim.Native.Nat.{_+_}
 use borrow.Author.Needs.{needs}
 use Rattle.two_vectors.proofs.end_of.Statement.{statement}
 use Rattle.two_vectors.proofs.end_of.Tie as tie
-use Rattle.two_vectors.proofs.end_of.Reads as reads
-use Rattle.two_vectors.proofs.end_of.Lts as lts
 
 add-result : tie.Need-add-result
 add-result c = search needs

@@ -8,9 +8,6 @@ use Rattle.merge.specs.Merge.{at}
 use borrow.Author.Needs.{needs}
 use Rattle.two_vectors.proofs.ends_of.Statement.{statement}
 use Rattle.two_vectors.proofs.ends_of.Tie as tie
-use Rattle.two_vectors.proofs.ends_of.Reads as reads
-use Rattle.two_vectors.proofs.ends_of.Lts as lts
-use Rattle.two_vectors.proofs.end_of.Reads as end-of-reads
 
 abbrev Inv-loop : tie.InvT-loop
 Inv-loop n bases counts out₀ c₀ out c = FilledSoFar 0 16 (λ i. cond (ltb i n) (at bases i + at counts i) 0) out c

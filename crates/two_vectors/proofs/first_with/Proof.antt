@@ -9,8 +9,6 @@ use Rattle.merge.specs.Merge.{at}
 use borrow.Author.Needs.{needs}
 use Rattle.two_vectors.proofs.first_with.Statement.{statement}
 use Rattle.two_vectors.proofs.first_with.Tie as tie
-use Rattle.two_vectors.proofs.first_with.Reads as reads
-use Rattle.two_vectors.proofs.first_with.Lts as lts
 
 abbrev Inv-loop : tie.InvT-loop
 Inv-loop k heads c₀ c = NoneSoFar 16 (λ i. eqb (at heads i) k) c

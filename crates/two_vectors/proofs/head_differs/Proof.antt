@@ -7,10 +7,6 @@ use Rattle.two_vectors.specs.Heads.{sameEntries}
 use borrow.Author.Needs.{needs}
 use Rattle.two_vectors.proofs.head_differs.Statement.{statement}
 use Rattle.two_vectors.proofs.head_differs.Tie as tie
-use Rattle.two_vectors.proofs.head_differs.Reads as reads
-use Rattle.two_vectors.proofs.head_differs.Lts as lts
-use Rattle.two_vectors.proofs.head_place.Reads as head-place-reads
-use Rattle.two_vectors.proofs.same_entries.Reads as same-entries-reads
 
 head-place-requires : tie.Need-head-place-requires
 head-place-requires c κs = search needs

@@ -3,11 +3,6 @@ use Rattle.two_vectors.proofs.Agreed.{compared-some, compared-none}
 use borrow.Author.Needs.{needs}
 use Rattle.two_vectors.proofs.heads_differ.Statement.{statement}
 use Rattle.two_vectors.proofs.heads_differ.Tie as tie
-use Rattle.two_vectors.proofs.heads_differ.Reads as reads
-use Rattle.two_vectors.proofs.heads_differ.Lts as lts
-use Rattle.two_vectors.proofs.first_with.Reads as first-with-reads
-use Rattle.two_vectors.proofs.head_place.Reads as head-place-reads
-use Rattle.two_vectors.proofs.some_differs.Reads as some-differs-reads
 
 first-with-requires : tie.Need-first-with-requires
 first-with-requires c κs = search needs

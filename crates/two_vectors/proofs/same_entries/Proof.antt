@@ -11,8 +11,6 @@ use Rattle.two_vectors.specs.Heads.{sameEntries}
 use borrow.Author.Needs.{needs}
 use Rattle.two_vectors.proofs.same_entries.Statement.{statement}
 use Rattle.two_vectors.proofs.same_entries.Tie as tie
-use Rattle.two_vectors.proofs.same_entries.Reads as reads
-use Rattle.two_vectors.proofs.same_entries.Lts as lts
 
 abbrev Inv-loop : tie.InvT-loop
 Inv-loop entries p q n k₀ k = (k ≤ n) × (sameEntries entries k p q ≡ true)

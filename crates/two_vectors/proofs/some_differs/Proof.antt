@@ -7,9 +7,6 @@ use Rattle.two_vectors.proofs.Turns.{none-stop, none-more, none-end}
 use borrow.Author.Needs.{needs}
 use Rattle.two_vectors.proofs.some_differs.Statement.{statement}
 use Rattle.two_vectors.proofs.some_differs.Tie as tie
-use Rattle.two_vectors.proofs.some_differs.Reads as reads
-use Rattle.two_vectors.proofs.some_differs.Lts as lts
-use Rattle.two_vectors.proofs.head_differs.Reads as head-differs-reads
 
 abbrev Inv-loop : tie.InvT-loop
 Inv-loop entries k p n heads passed other₀ other = NoneSoFar 16 (headDiffers entries heads passed n k p) other

@@ -8,13 +8,6 @@ use Rattle.two_vectors.proofs.Agreed.{Looked, looked-none, looked-more,
 use borrow.Author.Needs.{needs}
 use Rattle.two_vectors.proofs.two_vectors.Statement.{statement}
 use Rattle.two_vectors.proofs.two_vectors.Tie as tie
-use Rattle.two_vectors.proofs.two_vectors.Reads as reads
-use Rattle.two_vectors.proofs.two_vectors.Lts as lts
-use Rattle.merge.proofs.heads.Reads as heads-reads
-use Rattle.merge.proofs.least.Reads as least-reads
-use Rattle.merge.proofs.past.Reads as past-reads
-use Rattle.two_vectors.proofs.ends_of.Reads as ends-of-reads
-use Rattle.two_vectors.proofs.heads_differ.Reads as heads-differ-reads
 
 abbrev Inv-loop : tie.InvT-loop
 Inv-loop changes entries n cards ends passed₀ heads₀ k₀ x₀ passed heads k x = Looked changes entries passed₀ ends n passed heads k x

@@ -15,13 +15,6 @@ use Rattle.sheet.specs.Pages.{framesBytes}
 use Rattle.write.proofs.Rows.{rowsOf, next-row, row-length, writing, writing-start, writing-again, writing-none, lines-fit, next-line}
 use Rattle.write.proofs.put_sheet.Statement.{statement}
 use Rattle.write.proofs.put_sheet.Tie as tie
-use Rattle.write.proofs.put_sheet.Reads as reads
-use Rattle.write.proofs.put_sheet.Lts as lts
-use Rattle.frame.proofs.start_of.Reads as start-of-reads
-use Rattle.header_reader.proofs.unraised.Reads as unraised-reads
-use Rattle.line_writer.proofs.put_frame.Reads as put-frame-reads
-use Rattle.line_writer.proofs.put_header.Reads as put-header-reads
-use Rattle.write.proofs.frame_of.Reads as frame-of-reads
 
 abbrev Inv-loop : tie.InvT-loop
 Inv-loop f b₀ changes entries width card session base count n line at₀ k₀ b at k =
@@ -81,7 +74,7 @@ add-state-2 : tie.Need-add-state-2 Inv-loop μ-loop
 add-state-2 c = let l = limits (c .before .before .before .before .before .before) in omega (arith, l .states, l .count)
 
 frame-of-requires : tie.Need-frame-of-requires Inv-loop μ-loop
-frame-of-requires c κs = let l = limits (c .before .before .before .before .before .before) in omega (arith, l .below, l .cards)
+frame-of-requires c κs = search needs
 
 start-of-requires : tie.Need-start-of-requires Inv-loop μ-loop
 start-of-requires c κs = search needs
@@ -122,7 +115,7 @@ loop-again c =
       c .before .before .put-frame .kept .1 .0 ∙ l .inv .1,
       next-line (headerDigits f + 5) (l .k) (frameDigits f n + 5) (l .at) (l .inv .2),
       writing-again f (f .start (a .h .card) (a .h .session)) n (a .h .base) (a .h .count) (rowsOf (a .changes .now) (a .entries .now) (a .h .card) (a .h .base)) (l .b) (l .at) (l .k) (c .before .before .before .before .before .before .loop-test .taken) (few u) (row-length (a .changes .now) (a .entries .now) (a .h .card) (a .h .base) (l .k))
-          (next-row (a .changes .now) (a .entries .now) (a .h .card) (a .h .base) (l .k) (c .before .before .before .before .before .frame-of .ensures)) (c .before .before .before .before .start-of .ensures) (c .before .before .put-frame .ensures)
+          (next-row (a .changes .now) (a .entries .now) (a .h .card) (a .h .base) (l .k) (let m = limits u in omega (arith, m .below, m .cards)) (c .before .before .before .before .before .frame-of .ensures)) (c .before .before .before .before .start-of .ensures) (c .before .before .put-frame .ensures)
           ∙ l .inv .3,
     )
 

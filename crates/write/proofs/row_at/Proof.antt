@@ -6,8 +6,6 @@ use lib.ListN.{getD}
 use Rattle.laws.proofs.Fill.{FilledSoFar, filled-none, filled-more, filled-done}
 use Rattle.write.proofs.row_at.Statement.{statement}
 use Rattle.write.proofs.row_at.Tie as tie
-use Rattle.write.proofs.row_at.Reads as reads
-use Rattle.write.proofs.row_at.Lts as lts
 
 abbrev Inv-loop : tie.InvT-loop
 Inv-loop entries place row₀ j₀ row j = FilledSoFar 0 16 (λ i. getD entries (place * 16 + i) 0) row j

@@ -13,10 +13,6 @@ use Rattle.write.specs.Write.{ringRows}
 use Rattle.write.proofs.Rows.{told-short, told-whole, sheet-length, line-bound, lines-bound}
 use Rattle.write.proofs.write_in.Statement.{statement}
 use Rattle.write.proofs.write_in.Tie as tie
-use Rattle.write.proofs.write_in.Reads as reads
-use Rattle.write.proofs.write_in.Lts as lts
-use Rattle.write.proofs.put_sheet.Reads as put-sheet-reads
-use Rattle.header_reader.proofs.unraised.Reads as unraised-reads
 
 -- what the header allows
 limits : (c : tie.After-unraised) → Header-in-limits (formatOf (c .before .before .args .f)) (c .before .before .args .h .card) 0 (c .before .before .args .h)

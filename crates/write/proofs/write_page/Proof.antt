@@ -6,10 +6,6 @@ use Rattle.frame.specs.Lines.{headerAllowed}
 use Rattle.write.proofs.Rows.{told-page}
 use Rattle.write.proofs.write_page.Statement.{statement}
 use Rattle.write.proofs.write_page.Tie as tie
-use Rattle.write.proofs.write_page.Reads as reads
-use Rattle.write.proofs.write_page.Lts as lts
-use Rattle.write.proofs.write_in.Reads as write-in-reads
-use Rattle.frame.proofs.layout_of.Reads as layout-of-reads
 
 layout-of-requires : tie.Need-layout-of-requires
 layout-of-requires c κs = search needs
