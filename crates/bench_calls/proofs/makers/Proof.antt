@@ -1,9 +1,9 @@
--- `calls_bench::entries` ends: the places left fall. Assumes nothing.
+-- `bench_calls::makers` ends: the places left fall. Assumes nothing.
 use Prim.Native.Nat.{_-_}
 use borrow.Author.Needs.{needs}
-use Rattle.calls_bench.proofs.entries.Statement.{statement}
-use Rattle.calls_bench.proofs.entries.Tie as tie
-use Rattle.calls_bench.proofs.kept.Reads as kept-reads
+use Rattle.bench_calls.proofs.makers.Statement.{statement}
+use Rattle.bench_calls.proofs.makers.Tie as tie
+use Rattle.bench_calls.proofs.kept.Reads as kept-reads
 
 abbrev Inv-loop : tie.InvT-loop
 Inv-loop cards states out₀ p₀ out p = Unit {0}
@@ -17,6 +17,12 @@ loop-holds c = search needs
 add-x : tie.Need-add-x Inv-loop μ-loop
 add-x c = search needs
 
+mul-kept : tie.Need-mul-kept Inv-loop μ-loop
+mul-kept c = search needs
+
+add-kept : tie.Need-add-kept Inv-loop μ-loop
+add-kept c = search needs
+
 kept-requires : tie.Need-kept-requires Inv-loop μ-loop
 kept-requires c κs = search needs
 
@@ -26,17 +32,11 @@ mul-out c = search needs
 add-out : tie.Need-add-out Inv-loop μ-loop
 add-out c = search needs
 
-mul-out-2 : tie.Need-mul-out-2 Inv-loop μ-loop
-mul-out-2 c = search needs
-
-add-out-2 : tie.Need-add-out-2 Inv-loop μ-loop
-add-out-2 c = search needs
-
 cast-out : tie.Need-cast-out Inv-loop μ-loop
 cast-out c = search needs
 
-mul-out-3 : tie.Need-mul-out-3 Inv-loop μ-loop
-mul-out-3 c = search needs
+mul-out-2 : tie.Need-mul-out-2 Inv-loop μ-loop
+mul-out-2 c = search needs
 
 array-write-out : tie.Need-array-write-out Inv-loop μ-loop
 array-write-out c = search needs
@@ -53,21 +53,21 @@ loop-again c = search needs
 returns : tie.Need-returns Inv-loop μ-loop
 returns c = search needs
 
-pub entries-spec : {M : Type 1} → statement M
-entries-spec =
+pub makers-spec : {M : Type 1} → statement M
+makers-spec =
     tie.close
     (tie.spec
     Inv-loop
     μ-loop
     loop-holds
     add-x
+    mul-kept
+    add-kept
     kept-requires
     mul-out
     add-out
-    mul-out-2
-    add-out-2
     cast-out
-    mul-out-3
+    mul-out-2
     array-write-out
     add-p
     loop-less

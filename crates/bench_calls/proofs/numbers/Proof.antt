@@ -1,8 +1,8 @@
--- `calls_bench::numbers` ends: the cards left fall. Assumes nothing.
+-- `bench_calls::numbers` ends: the cards left fall. Assumes nothing.
 use Prim.Native.Nat.{_-_}
 use borrow.Author.Needs.{needs}
-use Rattle.calls_bench.proofs.numbers.Statement.{statement}
-use Rattle.calls_bench.proofs.numbers.Tie as tie
+use Rattle.bench_calls.proofs.numbers.Statement.{statement}
+use Rattle.bench_calls.proofs.numbers.Tie as tie
 
 abbrev Inv-loop : tie.InvT-loop
 Inv-loop cards n out₀ c₀ out c = Unit {0}

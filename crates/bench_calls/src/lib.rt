@@ -1,8 +1,11 @@
-// What bench/run.sh measures, exported to Rust: each call once, on a cabinet that was forged for it.
+// What bench/run.sh measures, exported to Rust: each call once, on a cabinet that was forged for it, and parts by themselves.
 // A cabinet has so many cards, and on each so many states in hand, each made by a change of its own.
 use cabinet::Cabinet;
+use frame::Header;
+use limits::Limits;
 use records::CardRecord;
 use recovery::FixReply;
+use refusal::Verdict;
 use verdicts::OpenReply;
 use verdicts::Phase;
 use verdicts::Place;
@@ -344,4 +347,75 @@ pub extern "C" fn bench_restart(bytes: &[u8], at: u32) -> u32 {
     let c = a.cabinet;
     let e = looked(c, at);
     seen(e, done(r))
+}
+
+// The readers by themselves: 0 where the bytes are accepted, else the number of the refusal.
+fn verdict(v: Verdict) -> u32 {
+    match v {
+        Verdict::Accepted => 0,
+        Verdict::Refused(r) => refusal::number(r),
+    }
+}
+
+#[no_mangle]
+pub extern "C" fn bench_read_readout(bytes: &[u8]) -> u32 {
+    let read = readout::read_readout(bytes);
+    let v = read.verdict;
+    verdict(v)
+}
+
+fn change_at(changes: &[u32; Limits::FRAMES], at: u32) -> u32 {
+    changes[(at % 768) as usize]
+}
+
+// A change number of the sheet of card 0 is looked at where it stands.
+#[no_mangle]
+pub extern "C" fn bench_read_sheet(bytes: &[u8], at: u32) -> u32 {
+    let read = sheet_reader::read_sheet(bytes, card(at));
+    let v = read.verdict;
+    let change = change_at(&read.readout.changes, at);
+    seen(change, verdict(v))
+}
+
+// The writer by itself, lent a ring: the length of the sheet of card 0, or 0.
+#[no_mangle]
+pub extern "C" fn bench_write_sheet<'a, 'b>(
+    buffer: &'a mut [u8],
+    changes: &'b [u32; Limits::FRAMES],
+    entries: &'b [u32; Limits::ENTRIES],
+    cards: u32,
+    count: u32,
+) -> usize {
+    let h = Header {
+        session: 1,
+        card: 0,
+        cards,
+        base: 0,
+        count,
+    };
+    let w = sheet_writer::write_sheet(buffer, changes, entries, h);
+    match w {
+        Written::Length(n) => n,
+        Written::Refused(_) => 0,
+    }
+}
+
+// The core of fix by itself, with its check for 28, and with the longest list: 16 cards that reached state 48 and stored none, and
+// eight changes that a loss ended. How many changes are lost; 0 where it is refused.
+#[no_mangle]
+pub extern "C" fn bench_fix_all_lost<'a, 'b>(
+    list: &'a mut [u32],
+    changes: &'b [u32; Limits::FRAMES],
+    entries: &'b [u32; Limits::ENTRIES],
+) -> usize {
+    let head = verdicts::head_of(1, Limits::CARDS_U32, Phase::Down);
+    let mut core = verdicts::blank(verdicts::counted(head, 1000));
+    core.reached = [Limits::IN_HAND_U32; Limits::CARDS];
+    core.ended = [784u32, 785, 786, 787, 788, 789, 790, 791];
+    let out = lost::fix(list, entries, changes, core, Limits::CARDS);
+    let r = out.reply;
+    match r {
+        FixReply::Fixed(n) => n,
+        FixReply::NotFixed(_) => 0,
+    }
 }
