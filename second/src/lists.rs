@@ -502,9 +502,8 @@ pub fn summit() -> (Vec<String>, Vec<String>) {
             climb.extend(["lose 0", "fix 2 0", "roll 0", "roll 1"].map(String::from));
         }
     }
-    let end = "show\nopen 0 1\nopen 1 2\nvote 1 0 1\nvote 1 1 1\ntake 1 0\ntake 1 1\nopen 3 1\nopen 0 3\n\
-               store 1 1\nsheet 0 65536\nsheet 1 65536\nlose 2\nfix 2 0\nrestart\nroll 1\nsheet 1 99\n\
-               roll 0\nshow\nopen 1 2\nopen 1 1";
+    let end = "show\nopen 0 1\nopen 0 3\nopen 1 2\nvote 1 0 1\nvote 1 1 1\ntake 1 0\ntake 1 1\nopen 3 1\n\
+               sheet 0 65536\nlose 2\nfix 2 1\nrestart\nroll 1\nroll 0\nshow";
     (climb, end.lines().map(String::from).collect())
 }
 

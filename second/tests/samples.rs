@@ -113,8 +113,8 @@ fn the_48th_state_is_taken_and_the_49th_is_23() {
 #[test]
 fn a_card_at_60000_may_be_read_not_written() {
     let answers = replay(&joined(&summit_list()));
-    let end = "session 101 up cards 2\n0 60000 60000 60000 60000\n1 0 0 0 0\nrefused 24\nchange 1\nok\nok\nok\nok\n\
-               refused 24\nrefused 24\nok\nsheet 25\n";
+    let end = "session 101 up cards 2\n0 60000 60000 60000 60000\n1 0 0 0 0\nrefused 24\nrefused 24\nchange 1\nok\nok\n\
+               ok\nok\nrefused 24\nsheet 25\n";
     assert!(answers.contains(end), "{}", &answers[answers.len() - 600..]);
 }
 

@@ -1,8 +1,8 @@
 // Lent lists and buffers: places beyond an answer, and all places of a refused call, keep what they held: 9 in a card record, 7 in
 // the list of changes lost, a dot in a buffer. Of each only a front is lent.
+use crate::lists::run;
 use cabinet::Cabinet;
 use cabinet::recover::RecordsAnswer;
-use check_lists::run;
 use libc::STDOUT_FILENO;
 use limits::Limits;
 use records::CardRecord;

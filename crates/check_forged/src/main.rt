@@ -1,13 +1,14 @@
 // What no list of calls from a fresh cabinet reaches: 28 of each kind, numbers at their limits, what is lent and kept beyond an
 // answer, and sheets of a ring with any numbers.
 use cabinet::Cabinet;
-use check_lists::run;
 use limits::Limits;
+use lists::run;
 use verdicts::Core;
 use verdicts::Head;
 use verdicts::Phase;
 
 mod lent;
+mod lists;
 mod pages;
 
 const LAST: u32 = Limits::GREATEST_NUMBER;

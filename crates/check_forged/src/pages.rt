@@ -5,10 +5,14 @@ use limits::Limits;
 use sheet_writer::write_sheet;
 use write::Written;
 
-// Two frames of two cards: the change of each, and its dependencies.
+// Two frames of card 0 of two: the change of each, its own dependency and the other card's.
 struct Rows {
-    first: [u32; 3],
-    second: [u32; 3],
+    change: u32,
+    own: u32,
+    other: u32,
+    next_change: u32,
+    next_own: u32,
+    next_other: u32,
 }
 
 fn header(session: u32, card: u32, cards: u32, base: u32, count: u32) -> Header {
@@ -23,17 +27,17 @@ fn header(session: u32, card: u32, cards: u32, base: u32, count: u32) -> Header 
 
 fn changes(rows: Rows) -> [u32; Limits::FRAMES] {
     let mut to = [77u32; Limits::FRAMES];
-    to[1] = rows.first[0];
-    to[2] = rows.second[0];
+    to[1] = rows.change;
+    to[2] = rows.next_change;
     to
 }
 
 fn entries(rows: Rows) -> [u32; Limits::ENTRIES] {
     let mut to = [77u32; Limits::ENTRIES];
-    to[16] = rows.first[1];
-    to[17] = rows.first[2];
-    to[32] = rows.second[1];
-    to[33] = rows.second[2];
+    to[16] = rows.own;
+    to[17] = rows.other;
+    to[32] = rows.next_own;
+    to[33] = rows.next_other;
     to
 }
 
@@ -57,21 +61,36 @@ fn write(rows: Rows, h: Header, room: usize) {
     streams::print(b"\n");
 }
 
-// The header alone.
-fn head(session: u32, card: u32, cards: u32, base: u32, count: u32) {
-    let none = [0u32; 3];
-    let rows = Rows {
-        first: none,
-        second: none,
-    };
-    write(rows, header(session, card, cards, base, count), 80);
+// One frame.
+fn one(change: u32, own: u32, other: u32) -> Rows {
+    Rows {
+        change,
+        own,
+        other,
+        next_change: 0,
+        next_own: 0,
+        next_other: 0,
+    }
 }
 
-// One frame, or two, of card 0: into enough bytes and into too few.
-fn frames(count: u32, first: [u32; 3], second: [u32; 3]) {
-    let rows = Rows { first, second };
+// The header alone.
+fn head(session: u32, card: u32, cards: u32, base: u32, count: u32) {
+    write(one(0, 0, 0), header(session, card, cards, base, count), 80);
+}
+
+// The first frames of card 0: into enough bytes and into too few.
+fn frames(rows: Rows, count: u32) {
     write(rows, header(1, 0, 2, 0, count), 80);
     write(rows, header(1, 0, 2, 0, count), 10);
+}
+
+// A second frame after one of change 5 that hangs on this state of the other card.
+fn two(other: u32, next_change: u32, next_other: u32) {
+    let mut rows = one(5, 1, other);
+    rows.next_change = next_change;
+    rows.next_own = 2;
+    rows.next_other = next_other;
+    frames(rows, 2);
 }
 
 // Headers at their limits, and those that 7 refuses.
@@ -94,18 +113,17 @@ fn heads() {
 
 // Frames that 9 refuses, and those that it just does not.
 fn kinds() {
-    let none = [0u32; 3];
-    frames(1, [1, 1, 60000], none);
-    frames(1, [0, 1, 0], none);
-    frames(1, [1, 0, 0], none);
-    frames(1, [1, 2, 0], none);
-    frames(1, [1, 1, 60001], none);
-    frames(1, [1, 1, 65536], none);
-    frames(2, [5, 1, 0], [Limits::GREATEST_NUMBER, 2, 60000]);
-    frames(2, [5, 1, 8], [5, 2, 8]);
-    frames(2, [5, 1, 8], [4, 2, 8]);
-    frames(2, [5, 1, 8], [6, 2, 7]);
-    frames(2, [5, 1, 8], [6, 2, 0]);
+    frames(one(1, 1, 60000), 1);
+    frames(one(0, 1, 0), 1);
+    frames(one(1, 0, 0), 1);
+    frames(one(1, 2, 0), 1);
+    frames(one(1, 1, 60001), 1);
+    frames(one(1, 1, 65536), 1);
+    two(0, Limits::GREATEST_NUMBER, 60000);
+    two(8, 5, 8);
+    two(8, 4, 8);
+    two(8, 6, 7);
+    two(8, 6, 0);
 }
 
 pub fn check() {

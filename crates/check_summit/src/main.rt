@@ -1,9 +1,11 @@
 // Brings card 0 to state 60,000, its last, in 100 sessions of 600 changes each, and then asks for more: refusal 24, which no short
 // list of calls reaches. It prints what is asked there; a climb that failed shows in it.
 ghost use Prim.Native.Nat.{_<_};
+use asking::Replay;
 use cabinet::Cabinet;
 use limits::Limits;
 use records::CardRecord;
+use text::Progress;
 
 // Change k of the session takes card 0 to its next state, which is stored and trimmed.
 fn rise(c: Cabinet, k: u32, state: u32) -> Cabinet {
@@ -47,16 +49,54 @@ fn renew(c: Cabinet) -> Cabinet {
     next
 }
 
-// At the last state: the card can be read, and not written; its sheet, a loss, a restart and the rolls keep it there.
+fn print(out: &[u8], w: Progress) {
+    match w {
+        Progress::Next(n) => {
+            if n <= out.len() {
+                streams::print(&out[0..n]);
+            }
+        }
+        Progress::Counting(_) => {}
+        Progress::TooShort => {}
+    }
+}
+
+// Does a line and prints its answer.
+fn told(r: Replay, line: &[u8]) -> Replay {
+    let mut out = io::buffer();
+    let s = trace::step(r, line, &mut out);
+    let w = s.written;
+    print(&out, w);
+    let next = s.replay;
+    next
+}
+
+// At the last state: the card can be read, and not written.
 fn above(c: Cabinet) {
-    let c = check_lists::run(
-        c,
-        b"show\nopen 0 1\nopen 1 2\nvote 1 0 1\nvote 1 1 1\ntake 1 0\ntake 1 1\nopen 3 1\nopen 0 3\nstore 1 1\nsheet 0 65536\nsheet 1 65536\n",
-    );
-    check_lists::run(
-        c,
-        b"lose 2\nfix 2 0\nrestart\nroll 1\nsheet 1 99\nroll 0\nshow\nopen 1 2\nopen 1 1\n",
-    );
+    let r = Replay {
+        cabinet: c,
+        begun: true,
+    };
+    let r = told(r, b"show");
+    let r = told(r, b"open 0 1");
+    let r = told(r, b"open 0 3");
+    let r = told(r, b"open 1 2");
+    let r = told(r, b"vote 1 0 1");
+    let r = told(r, b"vote 1 1 1");
+    let r = told(r, b"take 1 0");
+    let r = told(r, b"take 1 1");
+    after(told(r, b"open 3 1"));
+}
+
+// Its sheet, a loss, a restart and the rolls keep it there.
+fn after(r: Replay) {
+    let r = told(r, b"sheet 0 65536");
+    let r = told(r, b"lose 2");
+    let r = told(r, b"fix 2 1");
+    let r = told(r, b"restart");
+    let r = told(r, b"roll 1");
+    let r = told(r, b"roll 0");
+    told(r, b"show");
 }
 
 fn main() {

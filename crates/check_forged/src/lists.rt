@@ -1,4 +1,4 @@
-// What the programs that forge a cabinet or bring it far share: a list of calls on a cabinet at hand, each answer printed.
+// A list of calls on a cabinet at hand, each answer printed.
 ghost use Prim.Native.Nat.{_≤_};
 ghost use lib.ListN.{length};
 use asking::Replay;

@@ -1,9 +1,9 @@
--- `check_lists::run` goes through the lines. Assumes nothing.
+-- `check_forged::lists::run` goes through the lines. Assumes nothing.
 use Prim.Native.Nat.{_-_}
 use lib.ListN.{length}
 use borrow.Author.Needs.{needs}
-use Rattle.check_lists.proofs.run.Statement.{statement}
-use Rattle.check_lists.proofs.run.Tie as tie
+use Rattle.check_forged.proofs.lists.run.Statement.{statement}
+use Rattle.check_forged.proofs.lists.run.Tie as tie
 
 abbrev Inv-loop : tie.InvT-loop
 Inv-loop list r₀ at₀ r at = Unit {0}

@@ -1,9 +1,9 @@
--- `check_lists::find` stops within the text. Assumes nothing.
+-- `check_forged::lists::find` stops within the text. Assumes nothing.
 use Prim.Native.Nat.{_≤_, _-_}
 use lib.ListN.{length}
 use borrow.Author.Needs.{needs}
-use Rattle.check_lists.proofs.find.Statement.{statement}
-use Rattle.check_lists.proofs.find.Tie as tie
+use Rattle.check_forged.proofs.lists.find.Statement.{statement}
+use Rattle.check_forged.proofs.lists.find.Tie as tie
 
 abbrev Inv-loop : tie.InvT-loop
 Inv-loop text from i₀ i = (from ≤ i) × (i ≤ length text)
