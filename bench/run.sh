@@ -7,12 +7,12 @@ set -e
 cd "$(dirname "$0")/.."
 out=target/bench
 mkdir -p $out
-rt staticlib calls_bench > $out/staticlib.log 2>&1
+rt staticlib bench_calls > $out/staticlib.log 2>&1
 rt check replay line > $out/check.log 2>&1
 cargo build --release --offline -j1 --manifest-path bench/port/Cargo.toml --target-dir $out/port 2> $out/port.log
 cargo build --release --offline -j1 --manifest-path second/Cargo.toml --target-dir $out/second 2> $out/second.log
 rustc -C opt-level=3 --edition 2021 -o $out/run bench/run.rs \
-    --extern port=$out/port/release/libport.rlib -L target/staticlib -l static=calls_bench
+    --extern port=$out/port/release/libport.rlib -L target/staticlib -l static=bench_calls
 
 # The port gives the engine's answers: random lists and read-outs, both programs.
 echo "port and engine over random lists and read-outs:"
@@ -35,8 +35,7 @@ whole() { # INPUT PROGRAM
 }
 
 $out/second/release/generate lists 1 5 > $out/list
-$out/second/release/generate data $out/data 1 1
-grep '^+' $out/data/readouts.txt | tail -1 | sed 's/^+//; s/[=!].*//' | tr -d '\n' | tr / '\n' > $out/largest
+$out/second/release/generate largest > $out/largest
 for program in target/bin/replay $out/port/release/replay; do
     echo "replay $(wc -l < $out/list) $(whole $out/list $program)"
 done > $out/whole

@@ -1,7 +1,9 @@
 //! The answers of calls, and their text in the trace.
 
 use crate::cabinet::{Cabinet, Phase, Record};
+use crate::history::Vector;
 use crate::refusal::Refusal;
+use crate::sheet::Frame;
 
 #[derive(Clone, PartialEq, Eq, Debug)]
 pub enum Answer {
@@ -13,6 +15,8 @@ pub enum Answer {
         lost: Vec<u32>,
     },
     Sheet(Vec<u8>),
+    /// The states in hand of a card.
+    Frames(Vec<Frame>),
     /// What the cabinet is, as text.
     Shown(String),
     Refused(Refusal),
@@ -31,6 +35,7 @@ impl Answer {
             Answer::Safe(false) => "unsafe\n".to_string(),
             Answer::Fixed { records, lost } => fixed_text(records, lost),
             Answer::Sheet(bytes) => format!("sheet {}\n{}", bytes.len(), String::from_utf8_lossy(bytes)),
+            Answer::Frames(frames) => frames_text(frames),
             Answer::Shown(text) => text.clone(),
             Answer::Refused(Refusal::Barred(card)) => format!("refused 21 {card}\n"),
             Answer::Refused(refusal) => format!("refused {}\n", refusal.number()),
@@ -50,6 +55,20 @@ fn fixed_text(records: &[Record], lost: &[u32]) -> String {
         text += &format!(" {number}");
     }
     text + "\n"
+}
+
+/// The entries of a vector, each after a space.
+pub fn vector_text(vector: &Vector) -> String {
+    vector.iter().map(|entry| entry.map_or(" -".to_string(), |state| format!(" {state}"))).collect()
+}
+
+/// The lines of `frames`.
+fn frames_text(frames: &[Frame]) -> String {
+    let mut text = format!("frames {}\n", frames.len());
+    for frame in frames {
+        text += &format!("{} {}{}\n", frame.state, frame.change, vector_text(&frame.vector));
+    }
+    text
 }
 
 /// The lines of `show`.

@@ -351,6 +351,12 @@ impl Cabinet {
         }
     }
 
+    /// What the states in hand of a card hang on.
+    pub fn in_hand(&self, card: u32) -> Result<Vec<Frame>, Refusal> {
+        let card = self.card_of(card)?;
+        Ok(self.frames(card, self.cards[card].reached))
+    }
+
     /// The sheet of a card; one already rolled writes the next session.
     pub fn sheet_of(&self, card: usize) -> Sheet {
         Sheet {

@@ -16,6 +16,7 @@ pub enum Call {
     Roll { card: u32 },
     Sheet { card: u32, room: u32 },
     Restart,
+    Frames { card: u32 },
     Show,
 }
 
@@ -57,6 +58,7 @@ pub fn read_call(line: &[u8]) -> Option<Call> {
         (b"roll", &[card]) => Call::Roll { card },
         (b"sheet", &[card, room]) if room <= MOST_ROOM => Call::Sheet { card, room },
         (b"restart", &[]) => Call::Restart,
+        (b"frames", &[card]) => Call::Frames { card },
         (b"show", &[]) => Call::Show,
         _ => return None,
     };
@@ -79,6 +81,7 @@ pub fn write_call(call: &Call) -> String {
         Call::Roll { card } => format!("roll {card}"),
         Call::Sheet { card, room } => format!("sheet {card} {room}"),
         Call::Restart => "restart".to_string(),
+        Call::Frames { card } => format!("frames {card}"),
         Call::Show => "show".to_string(),
     }
 }

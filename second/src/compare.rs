@@ -1,13 +1,9 @@
 //! Comparing two programs with the same text interface, and shrinking what
 //! differs.
-//!
-//! What document 01 leaves to the program is compared as what holds of it: the
-//! card of 21 must be a touched barred card, the lost changes must be the same
-//! set, each once.
 
 use crate::answer::Answer;
 use crate::call::{read_call, write_call, Call};
-use crate::cards::{has, members, CardSet};
+use crate::cards::{members, CardSet};
 use crate::lists::joined;
 use crate::replay::{replay, Place};
 use crate::restart::line_text;
@@ -103,6 +99,7 @@ impl<'a> Answers<'a> {
         let lines = match words.first() {
             Some(&"fixed") => number(1) + 1,
             Some(&"session") => number(4),
+            Some(&"frames") => number(1),
             _ => 0,
         };
         for _ in 0..lines {
@@ -118,15 +115,12 @@ impl<'a> Answers<'a> {
     }
 }
 
-/// The first call whose answers differ in more than what is left open.
+/// The first call whose answers differ.
 pub fn difference(lines: &[Vec<u8>], first: &[u8], second: &[u8]) -> Option<Difference> {
-    let mut place = Place::default();
     let (mut first, mut second) = (Answers(first), Answers(second));
-    for (number, line) in lines.iter().enumerate() {
-        let barred = barred_by(&place, line);
-        place.answer_line(line);
+    for number in 0..lines.len() {
         let (a, b) = (first.next(), second.next());
-        if !same(&a, &b, barred) {
+        if a != b {
             return Some(different(number, &a, &b));
         }
     }
@@ -137,41 +131,6 @@ pub fn difference(lines: &[Vec<u8>], first: &[u8], second: &[u8]) -> Option<Diff
 fn different(place: usize, first: &[u8], second: &[u8]) -> Difference {
     let text = |bytes: &[u8]| String::from_utf8_lossy(bytes).into_owned();
     Difference { place, first: text(first), second: text(second) }
-}
-
-/// The touched cards that are barred, if the line is an opening.
-pub fn barred_by(place: &Place, line: &[u8]) -> CardSet {
-    match (read_call(line), &place.cabinet) {
-        (Some(Call::Open { reads, writes }), Some(cabinet)) => {
-            cabinet.barred(reads as CardSet & !(writes as CardSet), writes as CardSet)
-        }
-        _ => 0,
-    }
-}
-
-fn same(a: &[u8], b: &[u8], barred: CardSet) -> bool {
-    if a.starts_with(b"refused 21 ") && b.starts_with(b"refused 21 ") {
-        return names_barred(a, barred) && names_barred(b, barred);
-    }
-    a == b || (a.starts_with(b"fixed ") && with_lost_sorted(a) == with_lost_sorted(b))
-}
-
-fn names_barred(answer: &[u8], barred: CardSet) -> bool {
-    let text = String::from_utf8_lossy(answer);
-    let card = text.strip_prefix("refused 21 ").and_then(|card| card.trim_end().parse::<usize>().ok());
-    card.is_some_and(|card| card < 16 && has(barred, card))
-}
-
-/// A fix's answer with its lost changes in rising order. Doubles stay, so a
-/// change named twice shows.
-fn with_lost_sorted(answer: &[u8]) -> String {
-    let text = String::from_utf8_lossy(answer).into_owned();
-    let Some((front, lost)) = text.rsplit_once("lost") else {
-        return text;
-    };
-    let mut numbers: Vec<&str> = lost.trim_end_matches('\n').split(' ').collect();
-    numbers.sort_by_key(|number| (number.len(), number.to_string()));
-    format!("{front}lost{}\n", numbers.join(" "))
 }
 
 /// How many tries a shrinking makes at most.
@@ -202,15 +161,6 @@ fn list_text(lines: &[Vec<u8>]) -> Vec<u8> {
         text.pop();
     }
     text
-}
-
-/// Runs a program over a list whose answers are at hand.
-pub fn answers_difference(
-    program: &Program,
-    lines: &[Vec<u8>],
-    answers: &str,
-) -> io::Result<Option<Difference>> {
-    Ok(difference(lines, answers.as_bytes(), &program.run(&list_text(lines))?))
 }
 
 /// Runs both programs over a list.

@@ -25,6 +25,7 @@ fn named(call: &Call) -> u64 {
         | Call::Take { card, .. }
         | Call::Store { card, .. }
         | Call::Roll { card }
+        | Call::Frames { card }
         | Call::Sheet { card, .. } => one(card),
         _ => 0,
     }
@@ -36,9 +37,12 @@ fn phases(call: &Call) -> &'static [Phase] {
         Call::Store { .. } => &[Phase::Up, Phase::Down],
         Call::Fix { .. } => &[Phase::Down],
         Call::Roll { .. } => &[Phase::Rolling],
-        Call::Lose { .. } | Call::Sheet { .. } | Call::Restart | Call::Show | Call::Fresh { .. } => {
-            &[Phase::Up, Phase::Down, Phase::Rolling]
-        }
+        Call::Lose { .. }
+        | Call::Sheet { .. }
+        | Call::Restart
+        | Call::Frames { .. }
+        | Call::Show
+        | Call::Fresh { .. } => &[Phase::Up, Phase::Down, Phase::Rolling],
         _ => &[Phase::Up],
     }
 }

@@ -123,14 +123,15 @@ impl Maker {
         self.call(call);
     }
 
-    /// At the end all sheets, mostly with all that the cards hold stored, and
-    /// often a recovery.
+    /// At the end all frames and sheets, mostly with all that the cards hold
+    /// stored, and often a recovery.
     fn end(&mut self) {
         let store = self.style != Style::Full && self.cabinet().phase == Phase::Up && self.random.chance(700);
         for card in 0..self.cards() {
             if store && self.random.chance(850) {
                 self.store_all(card);
             }
+            self.call(Call::Frames { card: card as u32 });
             self.call(Call::Sheet { card: card as u32, room: MOST_BYTES as u32 });
         }
         if self.style == Style::Full || self.random.chance(700) {
@@ -385,13 +386,18 @@ impl Maker {
         self.show_at(120);
     }
 
-    /// A sheet into a buffer that mostly is long enough, or a look at all.
+    /// A look at the cabinet or at the frames of a card, or a sheet into a buffer
+    /// that mostly is long enough.
     fn look(&mut self) {
         if self.random.chance(350) {
             self.call(Call::Show);
             return;
         }
         let card = self.any_card();
+        if self.random.chance(400) {
+            self.call(Call::Frames { card });
+            return;
+        }
         let count = self.cabinet().sheet_of(card as usize).frames.len();
         let bytes = (HEADER_DIGITS + 1 + count * (frame_digits(self.cards()) + 1)) as u32;
         let room = match self.random.below(10) {
@@ -484,30 +490,25 @@ impl Maker {
     }
 }
 
-/// The one long list that brings a card to state 60,000.
-pub fn summit() -> Vec<Vec<u8>> {
-    let mut lines = vec!["fresh 2".to_string()];
+/// The one long list that brings a card to state 60,000, in sessions of 600
+/// changes, and what is asked there.
+pub fn summit() -> (Vec<String>, Vec<String>) {
+    let mut climb = vec!["fresh 2".to_string()];
     for state in 1..=HIGHEST_STATE {
-        let change = (state - 1) % (20 * MOST_IN_HAND) + 1;
-        lines.extend(["open 0 1".to_string(), format!("vote {change} 0 1"), format!("take {change} 0")]);
-        if state % MOST_IN_HAND == 0 {
-            lines.extend(["open 0 1".to_string()]);
-            lines.extend([format!("store 0 {state}"), "trim".to_string()]);
-        }
-        if change == 20 * MOST_IN_HAND {
-            lines.extend(["lose 3", "fix 16 776", "roll 0", "roll 1"].map(String::from));
+        let change = (state - 1) % 600 + 1;
+        climb.extend(["open 0 1".to_string(), format!("vote {change} 0 1"), format!("take {change} 0")]);
+        climb.extend([format!("store 0 {state}"), "trim".to_string()]);
+        if change == 600 {
+            climb.extend(["lose 0", "fix 2 0", "roll 0", "roll 1"].map(String::from));
         }
     }
-    lines.extend(
-        ["show", "open 0 1", "open 1 2", "vote 481 0 1", "vote 481 1 1", "take 481 0", "take 481 1"]
-            .map(String::from),
-    );
-    lines.extend(
-        ["open 3 1", "open 0 3", "store 1 1", "sheet 0 65536", "sheet 1 65536", "lose 2", "fix 2 0"]
-            .map(String::from),
-    );
-    lines.extend(
-        ["restart", "roll 1", "sheet 1 99", "roll 0", "show", "open 1 2", "open 1 1"].map(String::from),
-    );
-    lines.into_iter().map(String::into_bytes).collect()
+    let end = "show\nopen 0 1\nopen 0 3\nopen 1 2\nvote 1 0 1\nvote 1 1 1\ntake 1 0\ntake 1 1\nopen 3 1\n\
+               sheet 0 65536\nlose 2\nfix 2 1\nrestart\nroll 1\nroll 0\nshow";
+    (climb, end.lines().map(String::from).collect())
+}
+
+/// The same as lines.
+pub fn summit_list() -> Vec<Vec<u8>> {
+    let (climb, end) = summit();
+    climb.into_iter().chain(end).map(String::into_bytes).collect()
 }

@@ -67,6 +67,7 @@ fn run(cabinet: &mut Cabinet, call: Call) -> Result<Answer, Refusal> {
             .map(|(records, lost)| Answer::Fixed { records, lost }),
         Call::Roll { card } => cabinet.roll(card).map(done),
         Call::Sheet { card, room } => cabinet.sheet(card, room as usize).map(Answer::Sheet),
+        Call::Frames { card } => cabinet.in_hand(card).map(Answer::Frames),
         Call::Show | Call::Fresh { .. } | Call::Restart => Ok(Answer::Shown(show(cabinet))),
     }
 }

@@ -43,6 +43,7 @@ fn cards_and_sets() {
         "lose 4",
         "roll 2",
         "sheet 2 0",
+        "frames 2",
     ] {
         refused(&format!("fresh 2\n{call}"), "2");
     }

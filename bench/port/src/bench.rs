@@ -1,5 +1,5 @@
 //! What bench/run.sh measures of the port: each call once, on a cabinet forged
-//! for it, as crates/calls_bench does it. `port_..` by value, `lent_..` by `&mut`.
+//! for it, as crates/bench_calls does it. `port_..` by value, `lent_..` by `&mut`.
 
 use crate::{all_below, restart, Answer, Cabinet, Head, Phase, Place, FREE, IN_HAND, PLACES, WIDTH};
 
@@ -211,6 +211,11 @@ pub fn lent_sheet(cards: u32, states: u32, at: u32, buffer: &mut [u8]) -> u32 {
 #[inline(never)]
 pub fn port_restart(bytes: &[u8], at: u32) -> u32 {
     seen(restart::restart(bytes), at)
+}
+
+/// A forged cabinet whose ring of frames is lent.
+pub fn ring(cards: u32, states: u32) -> Cabinet {
+    forged(cards, states, states, FREE, Phase::Up)
 }
 
 /// The sheets of all cards of a forged cabinet, joined.

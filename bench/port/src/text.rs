@@ -2,7 +2,7 @@
 
 use crate::recovery::Fixed;
 use crate::restart::restart;
-use crate::{Answer, Cabinet, Phase, Refusal};
+use crate::{place_in_ring, Answer, Cabinet, Phase, Refusal};
 use std::fmt::Write;
 
 fn number(word: &str) -> Option<u32> {
@@ -22,7 +22,7 @@ fn read(line: &[u8]) -> Option<(&str, Vec<u32>)> {
     let numbers = words.map(number).collect::<Option<Vec<u32>>>()?;
     let count = match name {
         "trim" | "restart" | "show" => 0,
-        "fresh" | "withdraw" | "safe" | "lose" | "roll" => 1,
+        "fresh" | "withdraw" | "safe" | "lose" | "roll" | "frames" => 1,
         "open" | "take" | "store" | "fix" | "sheet" => 2,
         "vote" => 3,
         _ => return None,
@@ -67,6 +67,24 @@ fn show(cabinet: &Cabinet) -> String {
     for c in 0..cabinet.head.cards as usize {
         let (base, stored) = (cabinet.base[c], cabinet.stored[c]);
         let _ = writeln!(text, "{c} {base} {stored} {} {}", cabinet.held[c], cabinet.reached[c]);
+    }
+    text
+}
+
+/// What the states in hand of a card hang on.
+fn frames(cabinet: &Cabinet, card: u32) -> String {
+    if !cabinet.there(card) {
+        return refused(2);
+    }
+    let (base, reached) = (cabinet.base[card as usize], cabinet.reached[card as usize]);
+    let mut text = format!("frames {}\n", reached - base);
+    for state in base + 1..=reached {
+        let place = place_in_ring(card as usize, state);
+        text += &format!("{state} {}", cabinet.makers[place]);
+        for entry in &cabinet.vector_at(place)[..cabinet.head.cards as usize] {
+            text += &entry.checked_sub(1).map_or(" -".to_string(), |state| format!(" {state}"));
+        }
+        text.push('\n');
     }
     text
 }
@@ -117,6 +135,7 @@ fn ask(cabinet: Cabinet, name: &str, n: &[u32]) -> (Cabinet, String) {
             told(answer, |length| format!("sheet {length}\n{}", String::from_utf8_lossy(&buffer[..length])))
         }
         "restart" => restart_from_own(cabinet),
+        "frames" => (cabinet, frames(&cabinet, n[0])),
         _ => (cabinet, show(&cabinet)),
     }
 }

@@ -1,18 +1,15 @@
 //! Runs two programs over random lists or read-outs and reports the first
 //! difference, shrunk.
 
-use second::compact::{unpack_lists, unpack_readouts};
 use second::compare::*;
-use second::lists::{joined, list, summit};
+use second::lists::{joined, list, summit_list};
 use second::readouts::readout;
-use std::path::Path;
 use std::process::exit;
-use std::{env, fs, io};
+use std::{env, io};
 
 const USE: &str = "compare lists FIRST SECOND SEED COUNT
 compare readouts FIRST SECOND SEED COUNT
 compare summit FIRST SECOND
-compare data DIR REPLAY LINE
 FIRST and SECOND are commands with their arguments, or `own` for this package's program run in place.
 ";
 
@@ -34,9 +31,6 @@ fn main() -> io::Result<()> {
             compare_readouts(&Program::of_readouts(first), &Program::of_readouts(second), seed, count)
         }
         ["summit", first, second] => compare_summit(&Program::of_lists(first), &Program::of_lists(second)),
-        ["data", dir, replay, line] => {
-            compare_data(Path::new(dir), &Program::of_lists(replay), &Program::of_readouts(line))
-        }
         _ => {
             eprint!("{USE}");
             exit(2)
@@ -62,7 +56,7 @@ fn compare_lists(first: &Program, second: &Program, seed: u64, count: u64) -> io
 
 /// The one long list that brings a card to state 60,000.
 fn compare_summit(first: &Program, second: &Program) -> io::Result<()> {
-    let lines = summit();
+    let lines = summit_list();
     if let Some(difference) = list_difference(first, second, &lines)? {
         println!(
             "the summit differs at call {}: {}",
@@ -114,34 +108,6 @@ fn compare_readouts(first: &Program, second: &Program, seed: u64, count: u64) ->
         }
     }
     println!("{count} read-outs, no difference");
-    Ok(())
-}
-
-/// Matches two programs with the answers of compact data.
-fn compare_data(dir: &Path, replay: &Program, line: &Program) -> io::Result<()> {
-    let lists = unpack_lists(&fs::read_to_string(dir.join("lists.txt"))?);
-    let calls: usize = lists.iter().map(|(lines, _)| lines.len()).sum();
-    for (number, (lines, answers)) in lists.iter().enumerate() {
-        if let Some(difference) = answers_difference(replay, lines, answers)? {
-            println!("list {} differs at call {}:", number + 1, difference.place + 1);
-            println!("data:\n{}program:\n{}", difference.first, difference.second);
-            exit(1);
-        }
-    }
-    let text = fs::read_to_string(dir.join("readouts.txt"))?;
-    let readouts = unpack_readouts(&text).ok_or(io::Error::other("readouts.txt is not as packed"))?;
-    for (number, (bytes, answer)) in readouts.iter().enumerate() {
-        let other = line.run(bytes)?;
-        if other != answer.as_bytes() {
-            println!(
-                "read-out {} differs:\ndata:\n{answer}program:\n{}",
-                number + 1,
-                String::from_utf8_lossy(&other)
-            );
-            exit(1);
-        }
-    }
-    println!("{} lists, {calls} calls, {} read-outs, no difference", lists.len(), readouts.len());
     Ok(())
 }
 

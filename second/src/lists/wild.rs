@@ -31,7 +31,7 @@ impl Maker {
 
     fn wild_call(&mut self) -> Call {
         let (a, b, yes) = (self.wild_number(), self.wild_number(), self.random.chance(500));
-        match self.random.below(28) {
+        match self.random.below(30) {
             0..=3 => Call::Open { reads: a, writes: b },
             4..=6 => Call::Vote { change: a, card: b, yes },
             7..=9 => Call::Take { change: a, card: b },
@@ -42,6 +42,7 @@ impl Maker {
             20 | 21 => Call::Fix { records: a.min(16), numbers: b.min(776) },
             22 | 23 => Call::Roll { card: a },
             24..=26 => Call::Sheet { card: a, room: b.min(65_536) },
+            27 | 28 => Call::Frames { card: a },
             _ if self.random.chance(800) => {
                 Call::Fresh { cards: self.random.pick(&[0, 17, 99, 4_294_967_295]) }
             }

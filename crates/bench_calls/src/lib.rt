@@ -1,0 +1,421 @@
+// What bench/run.sh measures, exported to Rust: each call once, on a cabinet that was forged for it, and parts by themselves.
+// A cabinet has so many cards, and on each so many states in hand, each made by a change of its own.
+use cabinet::Cabinet;
+use frame::Header;
+use limits::Limits;
+use records::CardRecord;
+use recovery::FixReply;
+use refusal::Reply;
+use verdicts::OpenReply;
+use verdicts::Phase;
+use verdicts::Place;
+use refusal::Reply;
+use verdicts::SafeReply;
+use write::Written;
+
+// The number where the state is there, and 0 where it is not.
+fn kept(there: bool, n: u32) -> u32 {
+    if there { n } else { 0 }
+}
+
+// The changes that made the states: state x of card c was made by change 16 * x + c.
+fn makers(cards: u32, states: u32) -> [u32; 768] {
+    let mut out = [0u32; 768];
+    let mut p: u32 = 0;
+    while p < 768 {
+        let x = p % 48 + 1;
+        let there = (x <= states) & (p / 48 < cards);
+        out[(p / 48 * 48 + x % 48) as usize] = kept(there, x * 16 + p / 48);
+        p += 1;
+    }
+    out
+}
+
+// The vectors of these states: each change wrote its card alone.
+fn entries(cards: u32, states: u32) -> [u32; 12288] {
+    let mut out = [0u32; 12288];
+    let mut p: u32 = 0;
+    while p < 768 {
+        let x = p % 48 + 1;
+        let there = (x <= states) & (p / 48 < cards);
+        out[((p / 48 * 48 + x % 48) * 16 + p / 48) as usize] = kept(there, x);
+        p += 1;
+    }
+    out
+}
+
+// The number on each card that is there.
+fn numbers(cards: u32, n: u32) -> [u32; 16] {
+    let mut out = [0u32; 16];
+    let mut c: u32 = 0;
+    while c < 16 {
+        out[c as usize] = kept(c < cards, n);
+        c += 1;
+    }
+    out
+}
+
+// The cabinet in that phase, with that stored number on each card and with that change in its first place. While rolling
+// the card 0 alone is not rolled.
+fn forged(cards: u32, states: u32, stored: u32, first: Place, phase: Phase) -> Cabinet {
+    let a = Cabinet::fresh(cards);
+    let mut c = a.cabinet;
+    let e = entries(cards, states);
+    c.entries = e;
+    let m = makers(cards, states);
+    c.makers = m;
+    let reached = numbers(cards, states);
+    let mut core = c.core;
+    core.held = reached;
+    core.reached = reached;
+    let s = numbers(cards, stored);
+    core.stored = s;
+    core.places[0] = first;
+    let h = verdicts::head_of(1, cards, phase);
+    let h = verdicts::counted(h, 1000);
+    core.head = h;
+    core.rolled = bits::without(bits::all_below(cards), 0);
+    c.core = core;
+    c
+}
+
+// The card 0, not known beforehand.
+fn card(at: u32) -> u32 {
+    at / 12288
+}
+
+// A change that reads every card, or writes every card, with those votes.
+fn change(number: u32, cards: u32, reads: bool, yes: u16) -> Place {
+    let all = bits::all_below(cards);
+    let mut o = verdicts::free_place();
+    o.number = number;
+    o.reads = if reads { all } else { 0 };
+    o.writes = if reads { 0 } else { all };
+    o.yes = yes;
+    o
+}
+
+fn phase_number(phase: Phase) -> u32 {
+    match phase {
+        Phase::Up => 0,
+        Phase::Down => 1,
+        Phase::Rolling => 2,
+    }
+}
+
+fn wide(set: u16) -> u32 {
+    set as u32
+}
+
+// A number out of every part of a cabinet, at places not known beforehand, so that all that a call wrote is looked at.
+fn looked(c: Cabinet, at: u32) -> u32 {
+    let i = (at % 16) as usize;
+    let k = (at % 8) as usize;
+    let core = c.core;
+    let l = core.last[i];
+    let p = core.pending[i];
+    let o = core.places[k];
+    let h = core.head;
+    let phase = h.phase;
+    let frames = c.entries[(at % 12288) as usize] ^ c.makers[(at % 768) as usize];
+    let vectors = l.entries[i] ^ p.entries[i] ^ o.vector[i];
+    let sets = wide(o.reads) ^ wide(o.writes) ^ wide(o.yes) ^ wide(o.taken) ^ wide(core.rolled);
+    let numbers = core.base[i]
+        ^ core.stored[i]
+        ^ core.held[i]
+        ^ core.reached[i]
+        ^ core.line[i]
+        ^ core.ended[k];
+    let head = h.session ^ h.cards ^ h.count ^ phase_number(phase);
+    frames ^ vectors ^ sets ^ numbers ^ o.number ^ head
+}
+
+// What was looked at; 1000000 after a refusal.
+fn seen(number: u32, refused: u32) -> u32 {
+    if refused == 0 { number } else { 1000000 }
+}
+
+fn done(r: Reply) -> u32 {
+    match r {
+        Reply::Done => 0,
+        Reply::Refused(q) => refusal::number(q),
+    }
+}
+
+// Nothing but the making of the cabinet.
+#[no_mangle]
+pub extern "C" fn bench_nothing(cards: u32, states: u32, reads: bool, at: u32) -> u32 {
+    let c = forged(cards, states, states, verdicts::free_place(), Phase::Up);
+    let e = looked(c, at);
+    seen(e, 0)
+}
+
+#[no_mangle]
+pub extern "C" fn bench_fresh(cards: u32, at: u32) -> u32 {
+    let a = Cabinet::fresh(cards);
+    let r = a.reply;
+    let c = a.cabinet;
+    let e = looked(c, at);
+    seen(e, done(r))
+}
+
+#[no_mangle]
+pub extern "C" fn bench_open(cards: u32, states: u32, reads: bool, at: u32) -> u32 {
+    let c = forged(cards, states, states, verdicts::free_place(), Phase::Up);
+    let o = change(0, cards, reads, 0);
+    let a = c.open(o.reads, o.writes);
+    let r = a.reply;
+    let c = a.cabinet;
+    let e = looked(c, at);
+    let n = match r {
+        OpenReply::Opened(_) => 0,
+        OpenReply::NotOpened(q) => refusal::number(q),
+    };
+    seen(e, n)
+}
+
+// The vote that decides a change of all cards.
+#[no_mangle]
+pub extern "C" fn bench_vote(cards: u32, states: u32, reads: bool, at: u32) -> u32 {
+    let others = bits::without(bits::all_below(cards), 0);
+    let c = forged(
+        cards,
+        states,
+        states,
+        change(1000, cards, reads, others),
+        Phase::Up,
+    );
+    let a = c.vote(1000, card(at), true);
+    let r = a.reply;
+    let c = a.cabinet;
+    let e = looked(c, at);
+    seen(e, done(r))
+}
+
+#[no_mangle]
+pub extern "C" fn bench_take(cards: u32, states: u32, reads: bool, at: u32) -> u32 {
+    let all = bits::all_below(cards);
+    let c = forged(
+        cards,
+        states,
+        states,
+        change(1000, cards, reads, all),
+        Phase::Up,
+    );
+    let a = c.take(1000, card(at));
+    let r = a.reply;
+    let c = a.cabinet;
+    let e = looked(c, at);
+    seen(e, done(r))
+}
+
+#[no_mangle]
+pub extern "C" fn bench_withdraw(cards: u32, states: u32, reads: bool, at: u32) -> u32 {
+    let c = forged(
+        cards,
+        states,
+        states,
+        change(1000, cards, reads, 0),
+        Phase::Up,
+    );
+    let a = c.withdraw(1000);
+    let r = a.reply;
+    let c = a.cabinet;
+    let e = looked(c, at);
+    seen(e, done(r))
+}
+
+#[no_mangle]
+pub extern "C" fn bench_store(cards: u32, states: u32, reads: bool, at: u32) -> u32 {
+    let c = forged(cards, states, 0, verdicts::free_place(), Phase::Up);
+    let a = c.store(card(at), 0);
+    let r = a.reply;
+    let c = a.cabinet;
+    let e = looked(c, at);
+    seen(e, done(r))
+}
+
+// Every state is stored, so that each line is climbed to the end.
+#[no_mangle]
+pub extern "C" fn bench_trim(cards: u32, states: u32, reads: bool, at: u32) -> u32 {
+    let c = forged(cards, states, states, verdicts::free_place(), Phase::Up);
+    let a = c.trim();
+    let r = a.reply;
+    let c = a.cabinet;
+    let e = looked(c, at);
+    seen(e, done(r))
+}
+
+// Of that change; there is none in an empty cabinet.
+#[no_mangle]
+pub extern "C" fn bench_safe(cards: u32, states: u32, change: u32, at: u32) -> u32 {
+    let c = forged(cards, states, states, verdicts::free_place(), Phase::Up);
+    let a = c.safe(change);
+    let r = a.reply;
+    let c = a.cabinet;
+    let e = looked(c, at);
+    let n = match r {
+        SafeReply::Safe => 0,
+        SafeReply::Unsafe => 0,
+        SafeReply::Unknown(q) => refusal::number(q),
+    };
+    seen(e, n)
+}
+
+// All cards, with a decided change open.
+#[no_mangle]
+pub extern "C" fn bench_lose(cards: u32, states: u32, reads: bool, at: u32) -> u32 {
+    let all = bits::all_below(cards);
+    let c = forged(
+        cards,
+        states,
+        states,
+        change(1000, cards, reads, all),
+        Phase::Up,
+    );
+    let a = c.lose(all);
+    let r = a.reply;
+    let c = a.cabinet;
+    let e = looked(c, at);
+    seen(e, done(r))
+}
+
+// With that stored number on each card: from 0 every state is lost.
+#[no_mangle]
+pub extern "C" fn bench_fix(
+    cards: u32,
+    states: u32,
+    stored: u32,
+    at: u32,
+    list: &mut [u32],
+) -> u32 {
+    let c = forged(cards, states, stored, verdicts::free_place(), Phase::Down);
+    let zero = CardRecord {
+        card: 0,
+        stored: 0,
+        line: 0,
+    };
+    let out = c.fix_array([zero; 16], 16, list);
+    let a = out.answer;
+    let r = a.reply;
+    let c = a.cabinet;
+    let e = looked(c, at);
+    let n = match r {
+        FixReply::Fixed(_) => 0,
+        FixReply::NotFixed(q) => refusal::number(q),
+    };
+    seen(e, n)
+}
+
+// The last card rolled.
+#[no_mangle]
+pub extern "C" fn bench_roll(cards: u32, states: u32, reads: bool, at: u32) -> u32 {
+    let c = forged(
+        cards,
+        states,
+        states,
+        verdicts::free_place(),
+        Phase::Rolling,
+    );
+    let a = c.roll(card(at));
+    let r = a.reply;
+    let c = a.cabinet;
+    let e = looked(c, at);
+    seen(e, done(r))
+}
+
+// The sheet of card 0.
+#[no_mangle]
+pub extern "C" fn bench_sheet(cards: u32, states: u32, at: u32, buffer: &mut [u8]) -> u32 {
+    let c = forged(cards, states, states, verdicts::free_place(), Phase::Up);
+    let a = c.sheet(card(at), buffer);
+    let r = a.reply;
+    let c = a.cabinet;
+    let e = looked(c, at);
+    let n = match r {
+        Written::Length(_) => 0,
+        Written::Refused(q) => refusal::number(q),
+    };
+    seen(e, n)
+}
+
+// From the sheets of all cards, joined.
+#[no_mangle]
+pub extern "C" fn bench_restart(bytes: &[u8], at: u32) -> u32 {
+    let a = restart::restart(bytes);
+    let r = a.reply;
+    let c = a.cabinet;
+    let e = looked(c, at);
+    seen(e, done(r))
+}
+
+// The readers by themselves: 0 where the bytes are accepted, else the number of the refusal.
+fn verdict(v: Reply) -> u32 {
+    match v {
+        Reply::Done => 0,
+        Reply::Refused(r) => refusal::number(r),
+    }
+}
+
+#[no_mangle]
+pub extern "C" fn bench_read_readout(bytes: &[u8]) -> u32 {
+    let read = readout::read_readout(bytes);
+    let v = read.verdict;
+    verdict(v)
+}
+
+fn change_at(changes: &[u32; Limits::FRAMES], at: u32) -> u32 {
+    changes[(at % 768) as usize]
+}
+
+// A change number of the sheet of card 0 is looked at where it stands.
+#[no_mangle]
+pub extern "C" fn bench_read_sheet(bytes: &[u8], at: u32) -> u32 {
+    let read = sheet_reader::read_sheet(bytes, card(at));
+    let v = read.verdict;
+    let change = change_at(&read.readout.changes, at);
+    seen(change, verdict(v))
+}
+
+// The writer by itself, lent a ring: the length of the sheet of card 0, or 0.
+#[no_mangle]
+pub extern "C" fn bench_write_sheet<'a, 'b>(
+    buffer: &'a mut [u8],
+    changes: &'b [u32; Limits::FRAMES],
+    entries: &'b [u32; Limits::ENTRIES],
+    cards: u32,
+    count: u32,
+) -> usize {
+    let h = Header {
+        session: 1,
+        card: 0,
+        cards,
+        base: 0,
+        count,
+    };
+    let w = sheet_writer::write_sheet(buffer, changes, entries, h);
+    match w {
+        Written::Length(n) => n,
+        Written::Refused(_) => 0,
+    }
+}
+
+// The core of fix by itself, with its check for 28, and with the longest list: 16 cards that reached state 48 and stored none, and
+// eight changes that a loss ended. How many changes are lost; 0 where it is refused.
+#[no_mangle]
+pub extern "C" fn bench_fix_all_lost<'a, 'b>(
+    list: &'a mut [u32],
+    changes: &'b [u32; Limits::FRAMES],
+    entries: &'b [u32; Limits::ENTRIES],
+) -> usize {
+    let head = verdicts::head_of(1, Limits::CARDS_U32, Phase::Down);
+    let mut core = verdicts::blank(verdicts::counted(head, 1000));
+    core.reached = [Limits::IN_HAND_U32; Limits::CARDS];
+    core.ended = [784u32, 785, 786, 787, 788, 789, 790, 791];
+    let out = lost::fix(list, entries, changes, core, Limits::CARDS);
+    let r = out.reply;
+    match r {
+        FixReply::Fixed(n) => n,
+        FixReply::NotFixed(_) => 0,
+    }
+}

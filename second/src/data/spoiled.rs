@@ -1,0 +1,154 @@
+//! Read-outs by hand: the worked one, whole, altered and cut at each byte, and
+//! one that each limit of a line lets pass or refuses.
+
+use crate::history::Vector;
+use crate::limits::LAST_NUMBER;
+use crate::random::Random;
+use crate::sheet::{frame_line, header_line, Frame};
+
+pub fn header(session: u32, card: u32, cards: u32, base: u32, count: u32) -> Vec<u8> {
+    header_line(session, card, cards, base, count)
+}
+
+pub fn frame(state: u32, change: u32, vector: &[Option<u32>]) -> Vec<u8> {
+    frame_line(&Frame { state, change, vector: Vector::from(vector) })
+}
+
+/// Document 01's worked read-out.
+pub fn worked() -> Vec<u8> {
+    [
+        header(1, 0, 2, 0, 2),
+        frame(1, 1, &[Some(0), None]),
+        frame(2, 3, &[Some(1), Some(0)]),
+        header(1, 1, 2, 0, 0),
+    ]
+    .concat()
+}
+
+/// A byte of a read-out altered, to one that a line may have or to any other.
+pub fn altered(bytes: &[u8], place: usize, random: &mut Random, any: bool) -> Vec<u8> {
+    let mut altered = bytes.to_vec();
+    while altered[place] == bytes[place] {
+        let near = random.pick(b"0123456789ABCDEF\nag /:@G");
+        altered[place] = if any { random.bits() as u8 } else { near };
+    }
+    altered
+}
+
+/// A header of one card that declares so many frames over two.
+pub fn over_two_frames(count: u32) -> Vec<u8> {
+    [header(1, 0, 1, 0, count), frame(1, 1, &[Some(0)]), frame(2, 2, &[Some(1)])].concat()
+}
+
+/// Session, card, number of cards, base and count, at their limits.
+pub const HEADERS: [[u32; 5]; 15] = [
+    [0, 0, 1, 0, 0],
+    [1, 1, 1, 0, 0],
+    [1, 1, 2, 0, 0],
+    [1, 0, 0, 0, 0],
+    [1, 0, 17, 0, 0],
+    [1, 0, 1, 0, 49],
+    [1, 0, 1, 60_000, 0],
+    [1, 0, 1, 60_001, 0],
+    [1, 0, 1, 59_999, 1],
+    [1, 0, 1, 60_000, 1],
+    [1, 0, 1, 65_535, 0],
+    [LAST_NUMBER, 0, 1, 0, 0],
+    [LAST_NUMBER - 1, 0, 1, 0, 0],
+    [1, 0, 255, 0, 0],
+    [1, 16, 16, 0, 0],
+];
+
+pub fn of_header([session, card, cards, base, count]: [u32; 5]) -> Vec<u8> {
+    header(session, card, cards, base, count)
+}
+
+/// Two cards, of which the first has these frames.
+fn on_card_0(frames: &[Vec<u8>]) -> Vec<u8> {
+    [header(1, 0, 2, 0, frames.len() as u32), frames.concat(), header(1, 1, 2, 0, 0)].concat()
+}
+
+pub fn readouts() -> Vec<Vec<u8>> {
+    let mut all = around_the_worked();
+    all.extend((1..=3).map(over_two_frames));
+    for more in [b"0".to_vec(), frame(4, 3, &[Some(3)])] {
+        all.push([over_two_frames(3), more].concat());
+    }
+    all.extend(HEADERS.map(of_header));
+    all.push([header(1, 0, 1, 59_999, 1), frame(60_000, 1, &[Some(59_999)])].concat());
+    all.push([header(1, 0, 2, 0, 0), header(1, 1, 3, 0, 0)].concat());
+    all.push([header(1, 0, 2, 0, 0), header(1, 0, 2, 0, 0)].concat());
+    all.extend(frames_at_limits());
+    all.extend(sessions());
+    all.extend(one_change_on_four_cards());
+    all
+}
+
+/// Each byte altered, each cut, and each way of going on after the last sheet.
+fn around_the_worked() -> Vec<Vec<u8>> {
+    let whole = worked();
+    let mut random = Random::new(2_005_017);
+    let mut all = vec![whole.clone()];
+    for place in 0..whole.len() {
+        all.push(altered(&whole, place, &mut random, false));
+        all.push(altered(&whole, place, &mut random, true));
+        all.push(whole[..place].to_vec());
+    }
+    for more in [b"\n".to_vec(), b"0".to_vec(), worked(), header(1, 1, 2, 0, 0)] {
+        all.push([whole.clone(), more].concat());
+    }
+    all
+}
+
+/// 9 in each of its ways, and what is just not 9.
+fn frames_at_limits() -> Vec<Vec<u8>> {
+    let mut all = Vec::new();
+    for other in [Some(59_999), Some(60_000), Some(65_534), None] {
+        all.push(on_card_0(&[frame(1, 1, &[Some(0), other])]));
+    }
+    for own in [Some(1), None] {
+        all.push(on_card_0(&[frame(1, 1, &[own, None])]));
+    }
+    for (state, change, own) in [(1, 0, 0), (2, 1, 1), (0, 1, 0)] {
+        all.push(on_card_0(&[frame(state, change, &[Some(own), None])]));
+    }
+    for (first, change, second) in [
+        (Some(7), 6, Some(7)),
+        (Some(7), 5, Some(7)),
+        (Some(7), 6, Some(6)),
+        (Some(7), 6, None),
+        (None, 6, Some(6)),
+        (Some(7), 4, Some(7)),
+    ] {
+        all.push(on_card_0(&[frame(1, 5, &[Some(0), first]), frame(2, change, &[Some(1), second])]));
+    }
+    all
+}
+
+/// 11 and 24, and what is just not.
+fn sessions() -> Vec<Vec<u8>> {
+    let pairs = [(1, 2), (2, 1), (1, 3), (3, 1), (LAST_NUMBER, LAST_NUMBER), (LAST_NUMBER - 1, LAST_NUMBER)];
+    let mut all = Vec::from(
+        pairs.map(|(first, second)| [header(first, 0, 2, 0, 0), header(second, 1, 2, 0, 0)].concat()),
+    );
+    all.push([header(1, 0, 2, 0, 0), header(2, 1, 2, 0, 1), frame(1, 1, &[None, Some(0)])].concat());
+    all
+}
+
+/// Three changes that each wrote four cards, with one vector; and with another
+/// one in each place of each frame: 10.
+fn one_change_on_four_cards() -> Vec<Vec<u8>> {
+    let with = |altered: Option<(u32, u32, u32)>| -> Vec<u8> {
+        let entry = |card, state, other| state - 1 + u32::from(altered == Some((card, state, other)));
+        let vector = |card, state| (0..4).map(|other| Some(entry(card, state, other))).collect::<Vector>();
+        let frames = |card| (1..=3).flat_map(move |state| frame(state, state, &vector(card, state)));
+        (0..4).flat_map(|card| header(1, card, 4, 0, 3).into_iter().chain(frames(card))).collect()
+    };
+    let mut all = vec![with(None)];
+    for card in 0..4 {
+        for state in 1..=3 {
+            all.extend((0..4).map(|other| with(Some((card, state, other)))));
+        }
+    }
+    all
+}
