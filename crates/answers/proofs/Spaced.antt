@@ -20,8 +20,9 @@ use Rattle.verdicts.proofs.Limits.{width16}
 use Rattle.recovery.specs.Fix.{rowsOf}
 use Rattle.decimal.specs.Digits.{decimal}
 use Rattle.text.specs.Lines.{spaced, lineOf}
+use Rattle.text.proofs.Spaced.{selected-more}
 use Rattle.answers.specs.Texts.{fixedWord, lostWord, sheetWord, rowsText, rowCount, fixedText, answerText}
-use Rattle.answers.specs.Show.{sessionWord, cardsWord, phaseName, headText, joined}
+use Rattle.answers.specs.Show.{sessionWord, cardsWord, phaseName, headText}
 
 -- ---- the first line of show
 
@@ -34,16 +35,6 @@ head-as h =
 
 -- ---- lines of the cards that there are
 
--- a text of a list that is joined from texts of its elements grows by the next one that is selected
-pub selected-more : {A : Type 0} (T : List A → List ℕ) (t : A → List ℕ) → ((xs ys : List A) → T (xs ++ ys) ≡ T xs ++ T ys) → ((x : A) → T (x ∷ []) ≡ t x) → T [] ≡ []
-    → (p : ℕ → Bool) (f : ℕ → A) (i : ℕ) → T (selected i p f) ++ cond (p i) (t (f i)) [] ≡ T (selected (i + 1) p f)
-selected-more {A} T t join one none p f i =
-    sym (ap (λ (k : ℕ). T (selected k p f)) (add-one i) ∙ join (selected i p f) (cond (p i) (f i ∷ []) []) ∙ ap (λ (l : List ℕ). T (selected i p f) ++ l) (last (p i)))
-  where
-    last : (b : Bool) → T (cond b (f i ∷ []) []) ≡ cond b (t (f i)) []
-    last true = one (f i)
-    last false = none
-
 abbrev rowText : CardRow → List ℕ
 rowText r = lineOf (decimal (r .card)) (r .stored ∷ r .line ∷ [])
 
@@ -51,15 +42,8 @@ rows-append : (xs ys : List CardRow) → rowsText (xs ++ ys) ≡ rowsText xs ++ 
 rows-append [] ys = refl
 rows-append (x ∷ xs) ys = ap (λ (l : List ℕ). rowText x ++ l) (rows-append xs ys) ∙ sym (append-assoc (rowText x) (rowsText xs) (rowsText ys))
 
-joined-append : (xs ys : List (List ℕ)) → joined (xs ++ ys) ≡ joined xs ++ joined ys
-joined-append [] ys = refl
-joined-append (x ∷ xs) ys = ap (λ (l : List ℕ). x ++ l) (joined-append xs ys) ∙ sym (append-assoc x (joined xs) (joined ys))
-
 pub rows-more : (p : ℕ → Bool) (f : ℕ → CardRow) (i : ℕ) → rowsText (selected i p f) ++ cond (p i) (rowText (f i)) [] ≡ rowsText (selected (i + 1) p f)
 rows-more = selected-more rowsText rowText rows-append (λ x. append-nil (rowText x)) refl
-
-pub joined-more : (p : ℕ → Bool) (f : ℕ → List ℕ) (i : ℕ) → joined (selected i p f) ++ cond (p i) (f i) [] ≡ joined (selected (i + 1) p f)
-joined-more = selected-more joined (λ x. x) joined-append append-nil refl
 
 -- ---- the answer of fix
 

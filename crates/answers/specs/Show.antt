@@ -7,7 +7,7 @@ use Rattle.verdicts.specs.declared.Phase.{Phase}
 use Rattle.verdicts.specs.declared.Phase.the-variants.{Up, Down, Rolling}
 use Rattle.verdicts.specs.declared.Head.{Head}
 use Rattle.verdicts.specs.Shape.{limits16, at, presentOf}
-use Rattle.text.specs.Lines.{spaced, lineOf}
+use Rattle.text.specs.Lines.{spaced, lineOf, joined}
 
 abbrev pub sessionWord : List ℕ
 sessionWord = 115 ∷ 101 ∷ 115 ∷ 115 ∷ 105 ∷ 111 ∷ 110 ∷ []
@@ -23,11 +23,6 @@ phaseName Rolling = 114 ∷ 111 ∷ 108 ∷ 108 ∷ 105 ∷ 110 ∷ 103 ∷ []
 -- `session S PHASE cards N`
 abbrev pub headText : Head → List ℕ
 headText h = sessionWord ++ (spaced (h .session ∷ []) ++ (32 ∷ (phaseName (h .phase) ++ (32 ∷ lineOf cardsWord (h .cards ∷ [])))))
-
--- texts one after the other
-abbrev pub joined : List (List ℕ) → List ℕ
-joined [] = []
-joined (t ∷ ts) = t ++ joined ts
 
 -- for each card `CARD BASE STORED HELD REACHED`
 abbrev pub cardsText : ℕ → (base stored kept reached : List ℕ) → List ℕ

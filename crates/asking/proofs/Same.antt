@@ -21,7 +21,7 @@ use Rattle.cabinet.specs.Apply.{applyAll, OpenCarried}
 use Rattle.text.specs.Lines.{spaced, lineOf}
 use Rattle.answers.specs.Texts.{fixedWord, lostWord, rowsText, answerText, replyText}
 use Rattle.words.specs.declared.Request.{Request}
-use Rattle.words.specs.declared.Request.the-variants.{Open, Vote, Take, Withdraw, Store, Trim, Safe, Lose, Fix, Roll, Sheet, Restart, Show}
+use Rattle.words.specs.declared.Request.the-variants.{Open, Vote, Take, Withdraw, Store, Trim, Safe, Lose, Fix, Roll, Sheet, Restart, Show, Frames}
 use Rattle.words.specs.declared.Spoken.{Spoken}
 use Rattle.words.specs.declared.Spoken.the-variants.{Fresh, Asks, Unreadable}
 use Rattle.asking.specs.declared.Replay.{Replay}
@@ -199,6 +199,7 @@ told-alike c (Roll card) x y = planned-alike x y
 told-alike c (Sheet card bytes) x y = planned-alike x y
 told-alike c Restart x y = restart-alike x y
 told-alike c Show x y = kept-alike x y
+told-alike c (Frames card) x y = kept-alike x y
 
 onward-alike : (c : Cabinet) (q : Request) {n m : Replay} {t u : List ℕ} → Onward (Told c q) n t → Onward (Told c q) m u → Alike n m t u
 onward-alike c q {n} {m} {t} {u} x y =

@@ -20,10 +20,11 @@ use Rattle.asking.specs.declared.Replay.{Replay}
 use Rattle.cabinet.specs.Apply.{applyAll, OpenCarried}
 use Rattle.joined.specs.Joined.{FromOwnSheets}
 use Rattle.words.specs.declared.Request.{Request}
-use Rattle.words.specs.declared.Request.the-variants.{Open, Vote, Take, Withdraw, Store, Trim, Safe, Lose, Fix, Roll, Sheet, Restart, Show}
+use Rattle.words.specs.declared.Request.the-variants.{Open, Vote, Take, Withdraw, Store, Trim, Safe, Lose, Fix, Roll, Sheet, Restart, Show, Frames}
 use Rattle.text.specs.Put.{Whole}
 use Rattle.answers.specs.Texts.{refusedText, replyText}
 use Rattle.answers.specs.Show.{showText}
+use Rattle.answer_frames.specs.Frames.{framesAnswer}
 
 -- the text of some answer, written into the buffer b from w on where it has room
 pub record Written (Told : List ℕ → Type 0) (b : List ℕ) (w r : Progress) (e : List ℕ) : Type 0 where
@@ -87,3 +88,4 @@ Told c (Roll card) next text = Planned c (rollPlan limits16 (view c) card) next 
 Told c (Sheet card bytes) next text = Planned c (sheetPlan codec limits16 (view c) card (min bytes longestInput)) next text
 Told c Restart next text = RestartTold c next text
 Told c Show next text = Kept c (showText (c .core .head) (c .core .base) (c .core .stored) (c .core .held) (c .core .reached)) next text
+Told c (Frames card) next text = Kept c (framesAnswer limits16 (view c) card) next text

@@ -11,6 +11,7 @@ ghost use Rattle.verdicts.specs.Shape.{limits16};
 ghost use Rattle.cabinet.specs.View.{view};
 ghost use Rattle.answers.specs.Texts.{refusedText};
 ghost use Rattle.answers.specs.Show.{showText};
+ghost use Rattle.answer_frames.specs.Frames.{framesAnswer};
 ghost use Rattle.asking.specs.Told.{Planned, OpenTold, LoseTold, FixSaid, RestartTold, Kept, Written, Onward};
 use crate::Replay;
 use crate::Stepped;
@@ -294,6 +295,19 @@ pub fn show(c: Cabinet, b: &mut [u8], w: Progress) -> Stepped
     let held = core.held;
     let reached = core.reached;
     let written = whole::put_show(b, w, head, base, stored, held, reached);
+    let replay = Replay {
+        cabinet: c,
+        begun: true,
+    };
+    Stepped { replay, written }
+}
+
+// What the states in hand of a card hang on.
+pub fn frames(c: Cabinet, card: u32, b: &mut [u8], w: Progress) -> Stepped
+    ensures { λ r. ⌜ Written (Onward (Kept c (framesAnswer limits16 (view c) card)) (r .replay)) (now (b .entry)) w (r .written) (now (b .exit)) ⌝ }
+{
+    let core = c.core;
+    let written = whole::put_frames(b, w, &c.entries, &c.makers, core, card);
     let replay = Replay {
         cabinet: c,
         begun: true,

@@ -90,6 +90,7 @@ pub fn done(r: Replay, said: Spoken, b: &mut [u8], w: Progress) -> Stepped
                 Request::Sheet { card, bytes } => calls::sheet(c, card, bytes, b, w),
                 Request::Restart => calls::restart(c, b, w),
                 Request::Show => calls::show(c, b, w),
+                Request::Frames(card) => calls::frames(c, card, b, w),
             }
         }
     }

@@ -37,7 +37,7 @@ use Rattle.text.specs.Put.{placeAfter, wholeAfter, Whole}
 use Rattle.words.specs.declared.Spoken.{Spoken}
 use Rattle.words.specs.declared.Spoken.the-variants.{Fresh, Asks, Unreadable}
 use Rattle.words.specs.declared.Request.{Request}
-use Rattle.words.specs.declared.Request.the-variants.{Open, Vote, Take, Withdraw, Store, Trim, Safe, Lose, Fix, Roll, Sheet, Restart, Show}
+use Rattle.words.specs.declared.Request.the-variants.{Open, Vote, Take, Withdraw, Store, Trim, Safe, Lose, Fix, Roll, Sheet, Restart, Show, Frames}
 use Rattle.words.specs.declared.Heard.{Heard}
 use Rattle.words.specs.declared.Heard.the-variants.{Line, End}
 use Rattle.words.specs.Calls.{heardAt}
@@ -101,6 +101,7 @@ tells c Restart = (
   record { reply = ownReply c; restarted = record { answer = refl; cabinet = refl }; answer = refl },
 )
 tells c Show = (c, _, record { cabinet = refl; answer = refl })
+tells c (Frames card) = (c, _, record { cabinet = refl; answer = refl })
 
 -- a line
 some : (said : Spoken) (r : Replay) → (next : Replay) × (text : List ℕ) × Steps said r next text

@@ -91,7 +91,7 @@ pub fn fitting(size: usize, w: Progress, counted: Progress) -> Progress
 }
 
 // Writes a number.
-fn put_number(b: &mut [u8], w: Progress, n: u32) -> Progress
+pub fn put_number(b: &mut [u8], w: Progress, n: u32) -> Progress
     ensures { λ r. ⌜ Put (now (b .entry)) w (decimal n) r (now (b .exit)) ⌝ }
 {
     let mut digits = [0u8; 10];

@@ -1,15 +1,18 @@
 // The answers to a list of calls, each written whole or not at all: it is counted first, and written where the buffer has room for all of it.
 ghost use lib.ListN.{take};
+ghost use Rattle.verdicts.specs.Shape.{limits16, modelOf};
 ghost use Rattle.verdicts.specs.Answers.{replyOf, openReplyOf, safeReplyOf};
 ghost use Rattle.recovery.specs.Fix.{fixReplyOf};
 ghost use Rattle.card_sheet.specs.Card.{sheetReplyOf};
 ghost use Rattle.text.specs.Put.{Whole};
 ghost use Rattle.answers.specs.Texts.{refusedText, replyText, noneText, unreadableText};
 ghost use Rattle.answers.specs.Show.{showText};
+ghost use Rattle.answer_frames.specs.Frames.{framesAnswer};
 use limits::Limits;
 use recovery::FixReply;
 use refusal::Refusal;
 use text::Progress;
+use verdicts::Core;
 use verdicts::Head;
 use verdicts::OpenReply;
 use verdicts::Reply;
@@ -127,4 +130,20 @@ pub fn put_show(
     let counted = answers::put_show(b, Progress::Counting(0), head, base, stored, held, reached);
     let from = text::fitting(b.len(), w, counted);
     answers::put_show(b, from, head, base, stored, held, reached)
+}
+
+// What the states in hand of a card hang on.
+pub fn put_frames<'a, 'b>(
+    b: &'a mut [u8],
+    w: Progress,
+    entries: &'b [u32; Limits::ENTRIES],
+    makers: &'b [u32; Limits::FRAMES],
+    core: Core,
+    card: u32,
+) -> Progress
+    ensures { λ x. ⌜ Whole (now (b .entry)) w (framesAnswer limits16 (modelOf (now (entries .entry)) (now (makers .entry)) core) card) x (now (b .exit)) ⌝ }
+{
+    let counted = answer_frames::put_frames(b, Progress::Counting(0), entries, makers, core, card);
+    let from = text::fitting(b.len(), w, counted);
+    answer_frames::put_frames(b, from, entries, makers, core, card)
 }

@@ -7,10 +7,9 @@ use Rattle.decimal.specs.Digits.{decimal}
 use Rattle.verdicts.specs.Shape.{at, presentOf}
 use Rattle.verdicts.proofs.Limits.{width16}
 use Rattle.text.specs.Put.{Put}
-use Rattle.text.specs.Lines.{lineOf}
-use Rattle.answers.specs.Show.{joined}
+use Rattle.text.specs.Lines.{lineOf, joined}
 use Rattle.text.proofs.Puts.{put-nothing, put-then, put-as, put-length}
-use Rattle.answers.proofs.Spaced.{joined-more}
+use Rattle.text.proofs.Spaced.{joined-more}
 use borrow.Author.Needs.{needs}
 use Rattle.answers.proofs.put_cards.Statement.{statement}
 use Rattle.answers.proofs.put_cards.Tie as tie

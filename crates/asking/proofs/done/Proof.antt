@@ -109,6 +109,12 @@ enum-told-4 c = search needs
 show-requires : tie.Need-show-requires
 show-requires c κs = search needs
 
+enum-known-q-11 : tie.Need-enum-known-q-11
+enum-known-q-11 c = search needs
+
+frames-requires : tie.Need-frames-requires
+frames-requires c κs = search needs
+
 same-length-2 : tie.Need-same-length-2
 same-length-2 c = search needs
 
@@ -199,6 +205,12 @@ same-length-16 c = search needs
 returns-16 : tie.Need-returns-16
 returns-16 c = asked-here (c .before .before .before .before .before .before .before .before .before .before .before .before .args .r) _ (c .before .before .before .before .before .before .before .before .before .said2 .given .1) (c .before .before .before .before .enum-told4 .given .1) (not-false _ (c .before .before .before .before .before .before .before .if1 .left)) (c .before .before .show .ensures)
 
+same-length-17 : tie.Need-same-length-17
+same-length-17 c = search needs
+
+returns-17 : tie.Need-returns-17
+returns-17 c = asked-here (c .before .before .before .before .before .before .before .before .before .before .before .before .before .args .r) _ (c .before .before .before .before .before .before .before .before .before .before .said2 .given .1) (c .before .before .before .before .before .q11 .given .1) (not-false _ (c .before .before .before .before .before .before .before .before .if1 .left)) (c .before .before .frames .ensures)
+
 pub done-spec : {M : Type 1} → statement M
 done-spec =
     tie.close
@@ -237,6 +249,8 @@ done-spec =
     restart-requires
     enum-told-4
     show-requires
+    enum-known-q-11
+    frames-requires
     same-length-2
     returns-2
     same-length-3
@@ -266,4 +280,6 @@ done-spec =
     same-length-15
     returns-15
     same-length-16
-    returns-16)
+    returns-16
+    same-length-17
+    returns-17)
