@@ -12,7 +12,6 @@ use Rattle.protocol.specs.Plan.{Plan, Reply}
 use Rattle.protocol.specs.Calls.{storePlan, takePlan, votePlan, withdrawPlan, safePlan, trimPlan, rollPlan, losePlan, fixPlan, isLost}
 use Rattle.protocol.specs.Codec.{sheetPlan}
 use Rattle.codec.specs.Sheets.{codec}
-use Rattle.frame.specs.Format.{formats}
 use Rattle.verdicts.specs.Shape.{limits16}
 use Rattle.cabinet.specs.declared.Cabinet.{Cabinet}
 use Rattle.cabinet.specs.View.{view}

@@ -45,8 +45,9 @@ use Rattle.words.proofs.Lines.{heard-forward}
 use Rattle.answers.specs.Texts.{refusedText, replyText, noneText, unreadableText}
 use Rattle.asking.specs.declared.Replay.{Replay}
 use Rattle.asking.specs.Told.{Planned, readsBeyond, writesBeyond, openWithin, setBeyond, lostWithin, Told}
-use Rattle.asking.specs.Step.{freshReply, afterFresh, Asked as AskedOf, Steps, Obeyed}
-use Rattle.trace.specs.Steps.{nothingYet, Ran, noLine, oneMore}
+use Rattle.obeying.specs.Step.{freshReply, afterFresh, Asked as AskedOf, Steps}
+use Rattle.stepping.specs.Obeyed.{nothingYet, Obeyed}
+use Rattle.trace.specs.Steps.{Ran, noLine, oneMore}
 use Rattle.demands.specs.Claims.{Said, answers, refuses}
 use Rattle.demands.proofs.Some.{lowest-is-barred}
 use Rattle.demands.proofs.Refusing.{every}

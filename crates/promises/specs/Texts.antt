@@ -17,8 +17,9 @@ use Rattle.words.specs.declared.Heard.the-variants.{Line}
 use Rattle.words.specs.Calls.{heardAt}
 use Rattle.answers.specs.Texts.{replyText}
 use Rattle.asking.specs.declared.Replay.{Replay}
-use Rattle.asking.specs.Step.{Steps}
-use Rattle.trace.specs.Steps.{nothingYet, Ran}
+use Rattle.obeying.specs.Step.{Steps}
+use Rattle.stepping.specs.Obeyed.{nothingYet}
+use Rattle.trace.specs.Steps.{Ran}
 use Rattle.demands.specs.Lists.{Asked, opening, vote, take, withdraw, store, trim, safe, lose, fix, roll, sheet, restart, callOf, Typed, Lent, Answered, List16, start, next}
 use Rattle.demands.specs.Claims.{Throughout}
 

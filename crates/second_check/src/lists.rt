@@ -31,7 +31,7 @@ fn call(r: Replay, packed: &[u8], t: Tally) -> Matched {
     let mut line = io::buffer();
     let n = unpack::put_call(&mut line, &packed[..end]);
     let mut out = io::large_buffer();
-    let s = trace::step(r, &line[..n], &mut out);
+    let s = stepping::step(r, &line[..n], &mut out);
     let w = s.written;
     let tally = crate::match_answer(t.with_call(), packed, end, &out, written(w));
     let replay = s.replay;
@@ -40,7 +40,7 @@ fn call(r: Replay, packed: &[u8], t: Tally) -> Matched {
 
 // After a list the next one begins with no cabinet.
 fn list_over(t: Tally) -> Matched {
-    let replay = trace::begin();
+    let replay = stepping::begin();
     Matched {
         replay,
         tally: t.with_list(),
@@ -56,7 +56,7 @@ fn line(r: Replay, packed: &[u8], t: Tally) -> Matched {
 
 // Matches the lists, to the first read-out.
 pub fn check(input: &[u8]) -> Lists {
-    let mut r = trace::begin();
+    let mut r = stepping::begin();
     let mut t = Tally::NONE;
     let mut at = 0;
     while at < input.len() && input[at] != b'+' {

@@ -27,7 +27,7 @@ fn print(out: &[u8], w: Progress) {
 // Does a line and prints its answer.
 fn told(r: Replay, line: &[u8]) -> Replay {
     let mut out = io::buffer();
-    let s = trace::step(r, line, &mut out);
+    let s = stepping::step(r, line, &mut out);
     let w = s.written;
     print(&out, w);
     let next = s.replay;
@@ -37,7 +37,7 @@ fn told(r: Replay, line: &[u8]) -> Replay {
 // Does a line and prints its answer where it begins neither as `ok` nor as `change` nor as `fixed`.
 fn done(r: Replay, line: &[u8]) -> Replay {
     let mut out = io::buffer();
-    let s = trace::step(r, line, &mut out);
+    let s = stepping::step(r, line, &mut out);
     let w = s.written;
     if (out[0] != 111) & (out[0] != 99) & (out[0] != 102) {
         print(&out, w);
@@ -142,7 +142,7 @@ fn above(r: Replay) {
 }
 
 fn main() {
-    let first = trace::begin();
+    let first = stepping::begin();
     let mut r = told(first, b"fresh 2");
     let mut from: u32 = 0;
     while from < 60000 {
