@@ -6,7 +6,7 @@ ghost use Rattle.protocol.specs.Codec.{sheetPlan};
 ghost use Rattle.codec.specs.Sheets.{codec};
 ghost use Rattle.verdicts.specs.Shape.{limits16};
 ghost use Rattle.cabinet.specs.View.{view};
-ghost use Rattle.answers.specs.Show.{showText};
+ghost use Rattle.answer_show.specs.Show.{showText};
 ghost use Rattle.answer_frames.specs.Frames.{framesAnswer};
 ghost use Rattle.asking.specs.Told.{Planned, FixSaid, RestartTold, Kept, Written, Onward};
 use asking::Replay;

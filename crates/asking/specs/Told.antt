@@ -22,7 +22,7 @@ use Rattle.words.specs.declared.Request.{Request}
 use Rattle.words.specs.declared.Request.the-variants.{Open, Vote, Take, Withdraw, Store, Trim, Safe, Lose, Fix, Roll, Sheet, Restart, Show, Frames}
 use Rattle.text.specs.Put.{Whole}
 use Rattle.answers.specs.Texts.{refusedText, replyText}
-use Rattle.answers.specs.Show.{showText}
+use Rattle.answer_show.specs.Show.{showText}
 use Rattle.answer_frames.specs.Frames.{framesAnswer}
 
 -- the text of some answer, written into the buffer b from w on where it has room

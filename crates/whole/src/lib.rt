@@ -6,7 +6,7 @@ ghost use Rattle.recovery.specs.Fix.{fixReplyOf};
 ghost use Rattle.card_sheet.specs.Card.{sheetReplyOf};
 ghost use Rattle.text.specs.Put.{Whole};
 ghost use Rattle.answers.specs.Texts.{refusedText, replyText, noneText, unreadableText};
-ghost use Rattle.answers.specs.Show.{showText};
+ghost use Rattle.answer_show.specs.Show.{showText};
 ghost use Rattle.answer_frames.specs.Frames.{framesAnswer};
 use limits::Limits;
 use recovery::FixReply;
@@ -86,7 +86,7 @@ pub fn put_fix(
 ) -> Progress
     ensures { λ x. ⌜ Whole (now (b .entry)) w (replyText (fixReplyOf cards stored line (take places list) r)) x (now (b .exit)) ⌝ }
 {
-    let counted = answers::put_fix(
+    let counted = answer_lists::put_fix(
         b,
         Progress::Counting(0),
         cards,
@@ -97,7 +97,7 @@ pub fn put_fix(
         r,
     );
     let from = text::fitting(b.len(), w, counted);
-    answers::put_fix(b, from, cards, stored, line, list, places, r)
+    answer_lists::put_fix(b, from, cards, stored, line, list, places, r)
 }
 
 // The answer of sheet writing.
@@ -110,9 +110,9 @@ pub fn put_sheet(
 ) -> Progress
     ensures { λ x. ⌜ Whole (now (b .entry)) w (replyText (sheetReplyOf (take places (now (sheet .entry))) r)) x (now (b .exit)) ⌝ }
 {
-    let counted = answers::put_sheet(b, Progress::Counting(0), sheet, places, r);
+    let counted = answer_lists::put_sheet(b, Progress::Counting(0), sheet, places, r);
     let from = text::fitting(b.len(), w, counted);
-    answers::put_sheet(b, from, sheet, places, r)
+    answer_lists::put_sheet(b, from, sheet, places, r)
 }
 
 // What a cabinet is.
@@ -127,9 +127,17 @@ pub fn put_show(
 ) -> Progress
     ensures { λ x. ⌜ Whole (now (b .entry)) w (showText head base stored held reached) x (now (b .exit)) ⌝ }
 {
-    let counted = answers::put_show(b, Progress::Counting(0), head, base, stored, held, reached);
+    let counted = answer_show::put_show(
+        b,
+        Progress::Counting(0),
+        head,
+        base,
+        stored,
+        held,
+        reached,
+    );
     let from = text::fitting(b.len(), w, counted);
-    answers::put_show(b, from, head, base, stored, held, reached)
+    answer_show::put_show(b, from, head, base, stored, held, reached)
 }
 
 // What the states in hand of a card hang on.

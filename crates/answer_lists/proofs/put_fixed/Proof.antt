@@ -1,14 +1,14 @@
--- `answers::put_fixed` writes an accepted fix. Assumes nothing.
+-- `answer_lists::put_fixed` writes an accepted fix. Assumes nothing.
 use Prim.Native.Nat.{ℕ}
 use mathlib.Core.Path.{_∙_, ap}
 use mathlib.Core.List.{[], _∷_, _++_, append-assoc}
 use Rattle.recovery.specs.Fix.{rowsOf}
 use Rattle.text.specs.Lines.{lineOf}
 use Rattle.answers.specs.Texts.{fixedWord, lostWord, rowsText}
 use Rattle.text.proofs.Puts.{put-then, put-as}
 use borrow.Author.Needs.{needs}
-use Rattle.answers.proofs.put_fixed.Statement.{statement}
-use Rattle.answers.proofs.put_fixed.Tie as tie
+use Rattle.answer_lists.proofs.put_fixed.Statement.{statement}
+use Rattle.answer_lists.proofs.put_fixed.Tie as tie
 
 row-count-requires : tie.Need-row-count-requires
 row-count-requires c κs = search needs

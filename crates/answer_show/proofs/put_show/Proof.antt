@@ -1,8 +1,8 @@
--- `answers::put_show` writes what a cabinet is. Assumes nothing.
+-- `answer_show::put_show` writes what a cabinet is. Assumes nothing.
 use Rattle.text.proofs.Puts.{put-then}
 use borrow.Author.Needs.{needs}
-use Rattle.answers.proofs.put_show.Statement.{statement}
-use Rattle.answers.proofs.put_show.Tie as tie
+use Rattle.answer_show.proofs.put_show.Statement.{statement}
+use Rattle.answer_show.proofs.put_show.Tie as tie
 
 put-head-requires : tie.Need-put-head-requires
 put-head-requires c κs = search needs

@@ -1,11 +1,10 @@
--- Laws of the texts of answers: how they go on. Assumes nothing.
+-- Laws of the texts of fix and sheet writing: how they go on. Assumes nothing.
 use Prim.Native.Nat.{ℕ, _+_, _-_, _≤_, min}
 use mathlib.Core.Path.{_≡_, refl, sym, _∙_, ap, ap₂}
 use mathlib.Core.Bool.{Bool, true, false, cond}
 use mathlib.Core.List.{List, [], _∷_, _++_, append-assoc, append-nil}
 use mathlib.Core.Logic.{by-cases}
 use native.Mathlib.Decide.{decLe}
-use native.Mathlib.Numerals.{add-one}
 use native.Mathlib.Omega.{arith}
 use lib.ListN.{length, take, drop, length-take}
 use lib.Seq.{take-all, take-take}
@@ -14,24 +13,14 @@ use Rattle.laws.specs.Below.{selected}
 use Rattle.laws.proofs.Below.{selected-first}
 use Rattle.laws.proofs.Fill.{length-tabulate}
 use Rattle.protocol.specs.Plan.{CardRow, fixed, written}
-use Rattle.verdicts.specs.declared.Head.{Head}
 use Rattle.verdicts.specs.Shape.{at, presentOf}
 use Rattle.verdicts.proofs.Limits.{width16}
 use Rattle.recovery.specs.Fix.{rowsOf}
 use Rattle.decimal.specs.Digits.{decimal}
-use Rattle.text.specs.Lines.{spaced, lineOf}
+use Rattle.text.specs.Lines.{lineOf}
 use Rattle.text.proofs.Spaced.{selected-more}
-use Rattle.answers.specs.Texts.{fixedWord, lostWord, sheetWord, rowsText, rowCount, fixedText, answerText}
-use Rattle.answers.specs.Show.{sessionWord, cardsWord, phaseName, headText}
-
--- ---- the first line of show
-
-pub head-as : (h : Head) → (((((sessionWord ++ spaced (h .session ∷ [])) ++ (32 ∷ [])) ++ phaseName (h .phase)) ++ (32 ∷ [])) ++ lineOf cardsWord (h .cards ∷ [])) ≡ headText h
-head-as h =
-    append-assoc ((((sessionWord ++ spaced (h .session ∷ [])) ++ (32 ∷ [])) ++ phaseName (h .phase))) (32 ∷ []) (lineOf cardsWord (h .cards ∷ []))
-    ∙ append-assoc ((sessionWord ++ spaced (h .session ∷ [])) ++ (32 ∷ [])) (phaseName (h .phase)) (32 ∷ lineOf cardsWord (h .cards ∷ []))
-    ∙ append-assoc (sessionWord ++ spaced (h .session ∷ [])) (32 ∷ []) (phaseName (h .phase) ++ (32 ∷ lineOf cardsWord (h .cards ∷ [])))
-    ∙ append-assoc sessionWord (spaced (h .session ∷ [])) (32 ∷ (phaseName (h .phase) ++ (32 ∷ lineOf cardsWord (h .cards ∷ []))))
+use Rattle.answers.specs.Texts.{fixedWord, lostWord, sheetWord, rowsText, answerText}
+use Rattle.answer_lists.specs.Fixed.{rowCount, fixedText}
 
 -- ---- lines of the cards that there are
 

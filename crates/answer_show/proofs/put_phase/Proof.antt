@@ -1,10 +1,10 @@
--- `answers::put_phase` writes the word of a phase. Assumes nothing.
+-- `answer_show::put_phase` writes the word of a phase. Assumes nothing.
 use mathlib.Core.Path.{sym, ap}
-use Rattle.answers.specs.Show.{phaseName}
+use Rattle.answer_show.specs.Show.{phaseName}
 use Rattle.text.proofs.Puts.{put-as}
 use borrow.Author.Needs.{needs}
-use Rattle.answers.proofs.put_phase.Statement.{statement}
-use Rattle.answers.proofs.put_phase.Tie as tie
+use Rattle.answer_show.proofs.put_phase.Statement.{statement}
+use Rattle.answer_show.proofs.put_phase.Tie as tie
 
 enum-told : tie.Need-enum-told
 enum-told c = search needs

@@ -1,8 +1,8 @@
--- `answers::put_bytes` writes an accepted sheet. Assumes nothing.
+-- `answer_lists::put_bytes` writes an accepted sheet. Assumes nothing.
 use Rattle.text.proofs.Puts.{put-then}
 use borrow.Author.Needs.{needs}
-use Rattle.answers.proofs.put_bytes.Statement.{statement}
-use Rattle.answers.proofs.put_bytes.Tie as tie
+use Rattle.answer_lists.proofs.put_bytes.Statement.{statement}
+use Rattle.answer_lists.proofs.put_bytes.Tie as tie
 
 slice-aggregate-put-line : tie.Need-slice-aggregate-put-line
 slice-aggregate-put-line c = search needs

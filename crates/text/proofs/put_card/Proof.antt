@@ -1,12 +1,12 @@
--- `answers::put_card` writes the line of a card that the cabinet has. Assumes nothing.
+-- `text::put_card` writes the line of a card that the cabinet has. Assumes nothing.
 use mathlib.Core.Path.{sym}
 use mathlib.Core.List.{List, []}
 use Rattle.laws.proofs.Logic.{cond-true, cond-false}
 use borrow.Author.Tests.{lt-ltb, le-ltb}
 use Rattle.text.proofs.Puts.{put-nothing, put-as}
 use borrow.Author.Needs.{needs}
-use Rattle.answers.proofs.put_card.Statement.{statement}
-use Rattle.answers.proofs.put_card.Tie as tie
+use Rattle.text.proofs.put_card.Statement.{statement}
+use Rattle.text.proofs.put_card.Tie as tie
 
 put-row-requires : tie.Need-put-row-requires
 put-row-requires c κs = search needs

@@ -1,4 +1,4 @@
--- `answers::put_rows` writes the card records of fix. Assumes nothing.
+-- `answer_lists::put_rows` writes the card records of fix. Assumes nothing.
 use Prim.Native.Nat.{ℕ, _-_, _≤_}
 use mathlib.Core.Path.{_≡_, sym, _∙_, ap}
 use mathlib.Core.List.{List, [], _∷_}
@@ -9,12 +9,12 @@ use Rattle.verdicts.proofs.Limits.{width16}
 use Rattle.text.specs.Put.{Put}
 use Rattle.protocol.specs.Plan.{CardRow}
 use Rattle.text.specs.Lines.{lineOf}
 use Rattle.answers.specs.Texts.{rowsText}
 use Rattle.text.proofs.Puts.{put-nothing, put-then, put-as, put-length}
-use Rattle.answers.proofs.Spaced.{rows-more}
+use Rattle.answer_lists.proofs.Spaced.{rows-more}
 use borrow.Author.Needs.{needs}
-use Rattle.answers.proofs.put_rows.Statement.{statement}
-use Rattle.answers.proofs.put_rows.Tie as tie
+use Rattle.answer_lists.proofs.put_rows.Statement.{statement}
+use Rattle.answer_lists.proofs.put_rows.Tie as tie
 
 abbrev row : (stored line : List ℕ) → ℕ → CardRow
 row stored line i = record { card = i; stored = at stored i; line = at line i }

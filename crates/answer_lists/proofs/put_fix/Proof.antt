@@ -1,14 +1,14 @@
--- `answers::put_fix` writes the answer of fix. Assumes nothing.
+-- `answer_lists::put_fix` writes the answer of fix. Assumes nothing.
 use mathlib.Core.Path.{sym, _∙_, ap}
 use lib.ListN.{take}
 use Rattle.recovery.specs.declared.FixReply.{FixReply}
 use Rattle.recovery.specs.Fix.{fixReplyOf}
 use Rattle.answers.specs.Texts.{replyText}
 use Rattle.text.proofs.Puts.{put-as}
-use Rattle.answers.proofs.Spaced.{fixed-as}
+use Rattle.answer_lists.proofs.Spaced.{fixed-as}
 use borrow.Author.Needs.{needs}
-use Rattle.answers.proofs.put_fix.Statement.{statement}
-use Rattle.answers.proofs.put_fix.Tie as tie
+use Rattle.answer_lists.proofs.put_fix.Statement.{statement}
+use Rattle.answer_lists.proofs.put_fix.Tie as tie
 
 enum-known-r : tie.Need-enum-known-r
 enum-known-r c = search needs

@@ -1,9 +1,9 @@
--- `answers::put_head` writes the first line of show. Assumes nothing.
+-- `answer_show::put_head` writes the first line of show. Assumes nothing.
 use Rattle.text.proofs.Puts.{put-then, put-as}
-use Rattle.answers.proofs.Spaced.{head-as}
+use Rattle.answer_show.proofs.First.{head-as}
 use borrow.Author.Needs.{needs}
-use Rattle.answers.proofs.put_head.Statement.{statement}
-use Rattle.answers.proofs.put_head.Tie as tie
+use Rattle.answer_show.proofs.put_head.Statement.{statement}
+use Rattle.answer_show.proofs.put_head.Tie as tie
 
 slice-aggregate-put : tie.Need-slice-aggregate-put
 slice-aggregate-put c = search needs

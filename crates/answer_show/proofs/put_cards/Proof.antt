@@ -1,6 +1,7 @@
--- `answers::put_cards` writes the cards of show. Assumes nothing.
+-- `answer_show::put_cards` writes the cards of show. Assumes nothing.
 use Prim.Native.Nat.{ℕ, _-_, _≤_}
 use mathlib.Core.Path.{_≡_, sym, _∙_, ap}
+use mathlib.Core.Bool.{cond}
 use mathlib.Core.List.{List, [], _∷_}
 use Rattle.laws.specs.Below.{selected}
 use Rattle.decimal.specs.Digits.{decimal}
@@ -11,8 +12,8 @@ use Rattle.text.specs.Lines.{lineOf, joined}
 use Rattle.text.proofs.Puts.{put-nothing, put-then, put-as, put-length}
 use Rattle.text.proofs.Spaced.{joined-more}
 use borrow.Author.Needs.{needs}
-use Rattle.answers.proofs.put_cards.Statement.{statement}
-use Rattle.answers.proofs.put_cards.Tie as tie
+use Rattle.answer_show.proofs.put_cards.Statement.{statement}
+use Rattle.answer_show.proofs.put_cards.Tie as tie
 
 abbrev row : (base stored kept reached : List ℕ) → ℕ → List ℕ
 row base stored kept reached i = lineOf (decimal i) (at base i ∷ at stored i ∷ at kept i ∷ at reached i ∷ [])
@@ -66,7 +67,13 @@ loop-less : tie.Need-loop-less Inv-loop μ-loop
 loop-less c = search needs
 
 loop-again : tie.Need-loop-again Inv-loop μ-loop
-loop-again c = let a = c .before .before .before .before .before .before .before .before .args in (put-as (joined-more (presentOf (a .cards)) (row (a .t4) (a .t5) (a .t6) (a .t7)) (c .before .before .before .before .before .before .loop .c)) (put-then (c .before .before .before .before .before .before .loop .inv .0) (c .before .before .put-card .ensures)), search needs)
+loop-again c =
+    let a = c .before .before .before .before .before .before .before .before .args in
+    let k : ℕ = c .before .before .before .before .before .before .loop .c in (
+      put-as (joined-more (presentOf (a .cards)) (row (a .t4) (a .t5) (a .t6) (a .t7)) k)
+          (put-then {u = cond (presentOf (a .cards) k) (row (a .t4) (a .t5) (a .t6) (a .t7) k) []} (c .before .before .before .before .before .before .loop .inv .0) (c .before .before .put-card .ensures)),
+      search needs,
+    )
 
 same-length : tie.Need-same-length Inv-loop μ-loop
 same-length c = put-length (c .before .loop .inv .0)

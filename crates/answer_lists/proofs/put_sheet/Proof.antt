@@ -1,14 +1,14 @@
--- `answers::put_sheet` writes the answer of sheet writing. Assumes nothing.
+-- `answer_lists::put_sheet` writes the answer of sheet writing. Assumes nothing.
 use mathlib.Core.Path.{sym, _∙_, ap}
 use lib.ListN.{take}
 use Rattle.write.specs.declared.Written.{Written}
 use Rattle.card_sheet.specs.Card.{sheetReplyOf}
 use Rattle.answers.specs.Texts.{replyText}
 use Rattle.text.proofs.Puts.{put-as}
-use Rattle.answers.proofs.Spaced.{sheet-as}
+use Rattle.answer_lists.proofs.Spaced.{sheet-as}
 use borrow.Author.Needs.{needs}
-use Rattle.answers.proofs.put_sheet.Statement.{statement}
-use Rattle.answers.proofs.put_sheet.Tie as tie
+use Rattle.answer_lists.proofs.put_sheet.Statement.{statement}
+use Rattle.answer_lists.proofs.put_sheet.Tie as tie
 
 enum-known-r : tie.Need-enum-known-r
 enum-known-r c = search needs
