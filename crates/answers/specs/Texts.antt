@@ -1,15 +1,13 @@
 -- The text of each answer: lines, each a word and numbers after it, each after one space.
-use Prim.Native.Nat.{ℕ, min}
+use Prim.Native.Nat.{ℕ}
 use mathlib.Core.List.{List, [], _∷_, _++_}
 use lib.ListN.{length}
-use Rattle.limits.specs.Document.{mostCards}
 use Rattle.decimal.specs.Digits.{decimal}
 use Rattle.refusal.specs.declared.Refusal.{Refusal}
 use Rattle.refusal.specs.declared.Told.{Told}
 use Rattle.refusal.specs.declared.Told.the-variants.{Alone, Card}
 use Rattle.refusal.specs.Number.{toldOf}
 use Rattle.text.specs.Lines.{lineOf}
-use Rattle.recovery.specs.Fix.{rowsOf}
 use Rattle.protocol.specs.Plan.{CardRow, Answer, done, opened, safe, unsafe, fixed, written, Reply, accepted, refused}
 
 -- ---- the words, as bytes
@@ -78,11 +76,3 @@ answerText (written bytes) = lineOf sheetWord (length bytes ∷ []) ++ bytes
 abbrev pub replyText : Reply → List ℕ
 replyText (accepted a) = answerText a
 replyText (refused q) = refusedText q
-
--- of so many cards those that have a record
-abbrev pub rowCount : ℕ → ℕ
-rowCount n = min n mostCards
-
--- the text of fix's answer, from the arrays and the list that it is answered in
-abbrev pub fixedText : ℕ → (stored line lost : List ℕ) → ℕ → List ℕ
-fixedText cards stored line lost count = lineOf fixedWord (rowCount cards ∷ count ∷ []) ++ (rowsText (rowsOf cards stored line) ++ lineOf lostWord lost)

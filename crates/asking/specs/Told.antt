@@ -12,7 +12,6 @@ use Rattle.protocol.specs.Plan.{Plan, Reply}
 use Rattle.protocol.specs.Calls.{storePlan, takePlan, votePlan, withdrawPlan, safePlan, trimPlan, rollPlan, losePlan, fixPlan, isLost}
 use Rattle.protocol.specs.Codec.{sheetPlan}
 use Rattle.codec.specs.Sheets.{codec}
-use Rattle.frame.specs.Format.{formats}
 use Rattle.verdicts.specs.Shape.{limits16}
 use Rattle.cabinet.specs.declared.Cabinet.{Cabinet}
 use Rattle.cabinet.specs.View.{view}
@@ -20,10 +19,11 @@ use Rattle.asking.specs.declared.Replay.{Replay}
 use Rattle.cabinet.specs.Apply.{applyAll, OpenCarried}
 use Rattle.joined.specs.Joined.{FromOwnSheets}
 use Rattle.words.specs.declared.Request.{Request}
-use Rattle.words.specs.declared.Request.the-variants.{Open, Vote, Take, Withdraw, Store, Trim, Safe, Lose, Fix, Roll, Sheet, Restart, Show}
+use Rattle.words.specs.declared.Request.the-variants.{Open, Vote, Take, Withdraw, Store, Trim, Safe, Lose, Fix, Roll, Sheet, Restart, Show, Frames}
 use Rattle.text.specs.Put.{Whole}
 use Rattle.answers.specs.Texts.{refusedText, replyText}
-use Rattle.answers.specs.Show.{showText}
+use Rattle.answer_show.specs.Show.{showText}
+use Rattle.answer_frames.specs.Frames.{framesAnswer}
 
 -- the text of some answer, written into the buffer b from w on where it has room
 pub record Written (Told : List ℕ → Type 0) (b : List ℕ) (w r : Progress) (e : List ℕ) : Type 0 where
@@ -87,3 +87,4 @@ Told c (Roll card) next text = Planned c (rollPlan limits16 (view c) card) next 
 Told c (Sheet card bytes) next text = Planned c (sheetPlan codec limits16 (view c) card (min bytes longestInput)) next text
 Told c Restart next text = RestartTold c next text
 Told c Show next text = Kept c (showText (c .core .head) (c .core .base) (c .core .stored) (c .core .held) (c .core .reached)) next text
+Told c (Frames card) next text = Kept c (framesAnswer limits16 (view c) card) next text

@@ -20,7 +20,7 @@ fn print(out: &[u8], w: Progress) {
 // Does a line and prints its answer.
 fn told(r: Replay, line: &[u8]) -> Replay {
     let mut out = io::buffer();
-    let s = trace::step(r, line, &mut out);
+    let s = stepping::step(r, line, &mut out);
     let w = s.written;
     print(&out, w);
     let next = s.replay;

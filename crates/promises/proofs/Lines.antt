@@ -38,7 +38,7 @@ use Rattle.text.specs.Put.{placeAfter, wholeAfter, Whole}
 use Rattle.words.specs.declared.Spoken.{Spoken}
 use Rattle.words.specs.declared.Spoken.the-variants.{Fresh, Asks, Unreadable}
 use Rattle.words.specs.declared.Request.{Request}
-use Rattle.words.specs.declared.Request.the-variants.{Open, Vote, Take, Withdraw, Store, Trim, Safe, Lose, Fix, Roll, Sheet, Restart, Show}
+use Rattle.words.specs.declared.Request.the-variants.{Open, Vote, Take, Withdraw, Store, Trim, Safe, Lose, Fix, Roll, Sheet, Restart, Show, Frames}
 use Rattle.words.specs.declared.Heard.{Heard}
 use Rattle.words.specs.declared.Heard.the-variants.{Line, End}
 use Rattle.words.specs.Calls.{heardAt}
@@ -46,8 +46,9 @@ use Rattle.words.proofs.Lines.{heard-forward}
 use Rattle.answers.specs.Texts.{refusedText, replyText, noneText, unreadableText}
 use Rattle.asking.specs.declared.Replay.{Replay}
 use Rattle.asking.specs.Told.{Planned, readsBeyond, writesBeyond, openWithin, setBeyond, lostWithin, Told}
-use Rattle.asking.specs.Step.{freshReply, afterFresh, Asked as AskedOf, Steps, Obeyed}
-use Rattle.trace.specs.Steps.{nothingYet, Ran, noLine, oneMore}
+use Rattle.obeying.specs.Step.{freshReply, afterFresh, Asked as AskedOf, Steps}
+use Rattle.stepping.specs.Obeyed.{nothingYet, Obeyed}
+use Rattle.trace.specs.Steps.{Ran, noLine, oneMore}
 use Rattle.demands.specs.Claims.{Said, answers, refuses}
 use Rattle.demands.proofs.Some.{lowest-is-barred}
 use Rattle.demands.proofs.Refusing.{every}
@@ -102,6 +103,7 @@ tells c Restart = (
   record { reply = ownReply c; restarted = record { answer = refl; cabinet = refl }; answer = refl },
 )
 tells c Show = (c, _, record { cabinet = refl; answer = refl })
+tells c (Frames card) = (c, _, record { cabinet = refl; answer = refl })
 
 -- a line
 some : (said : Spoken) (r : Replay) → (next : Replay) × (text : List ℕ) × Steps said r next text

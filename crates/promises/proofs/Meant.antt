@@ -14,13 +14,13 @@ use Rattle.cabinet.specs.declared.Cabinet.{Cabinet}
 use Rattle.cabinet.specs.View.{view}
 use Rattle.words.specs.declared.Spoken.the-variants.{Asks}
 use Rattle.words.specs.declared.Request.{Request}
-use Rattle.words.specs.declared.Request.the-variants.{Open, Vote, Take, Withdraw, Store, Trim, Safe, Lose, Fix, Roll, Sheet, Restart, Show}
+use Rattle.words.specs.declared.Request.the-variants.{Open, Vote, Take, Withdraw, Store, Trim, Safe, Lose, Fix, Roll, Sheet, Restart, Show, Frames}
 use Rattle.answers.specs.Texts.{replyText}
 use Rattle.asking.specs.Told.{Planned, OpenTold, readsBeyond, writesBeyond, openWithin, LoseTold, setBeyond, lostWithin, Told}
 use Rattle.protocol.specs.Run.{voteCall, takeCall, withdrawCall, storeCall, trimCall, safeCall, rollCall}
 use Rattle.demands.specs.Lists.{Asked, opening, plain, lose, fix, sheet, restart, Typed, Lent, nothingLent, Answered}
 use Rattle.demands.proofs.Some.{ReachedBy, fix-by, sheet-by}
-use Rattle.promises.specs.Texts.{Makes, opens, votes, takes, withdraws, stores, trims, asks-safe, loses, fixes, rolls, writes-sheet, restarts, NoCall, beyond-reads, beyond-writes, beyond-lost, looks}
+use Rattle.promises.specs.Texts.{Makes, opens, votes, takes, withdraws, stores, trims, asks-safe, loses, fixes, rolls, writes-sheet, restarts, NoCall, beyond-reads, beyond-writes, beyond-lost, looks, looks-at}
 
 -- a call, answered as its contract says, or none
 pub data Meant (c : Cabinet) (q : Request) (new : Cabinet) (u : List ℕ) : Type 0 where
@@ -87,3 +87,4 @@ module _ (c : Cabinet) (new : Cabinet) (u : List ℕ) where
       long = length-replicate (min bytes 65536) 0
   meant Restart o = called restart restarts tt (o .reply) nothingLent (o .restarted, refl) (o .answer)
   meant Show o = stayed looks (o .cabinet)
+  meant (Frames card) o = stayed (looks-at card) (o .cabinet)

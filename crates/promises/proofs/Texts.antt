@@ -18,8 +18,9 @@ use Rattle.words.specs.Calls.{heardAt}
 use Rattle.answers.specs.Texts.{replyText}
 use Rattle.asking.specs.declared.Replay.{Replay}
 use Rattle.asking.specs.Told.{Told, Onward}
-use Rattle.asking.specs.Step.{Freshened, Asked as AskedOf, Steps}
-use Rattle.trace.specs.Steps.{nothingYet, Ran, noLine, oneMore}
+use Rattle.obeying.specs.Step.{Freshened, Asked as AskedOf, Steps}
+use Rattle.stepping.specs.Obeyed.{nothingYet}
+use Rattle.trace.specs.Steps.{Ran, noLine, oneMore}
 use Rattle.demands.specs.Lists.{Asked, callOf, Typed, Lent, Answered, List16, start, next}
 use Rattle.demands.proofs.Whole.{demands-2-3}
 use Rattle.promises.specs.Texts.{Makes, NoCall, refuses-fresh, unreadable, Listed, begins, calls, stays, RunsLists}

@@ -29,8 +29,9 @@ use Rattle.words.specs.declared.Spoken.{Spoken}
 use Rattle.words.specs.declared.Spoken.the-variants.{Fresh}
 use Rattle.answers.specs.Texts.{replyText, noneText}
 use Rattle.asking.specs.declared.Replay.{Replay}
-use Rattle.asking.specs.Step.{Steps, Obeyed}
-use Rattle.trace.specs.Steps.{nothingYet, Replayed}
+use Rattle.obeying.specs.Step.{Steps}
+use Rattle.stepping.specs.Obeyed.{nothingYet, Obeyed}
+use Rattle.trace.specs.Steps.{Replayed}
 use Rattle.demands.specs.Lists.{Asked, Lent}
 use Rattle.demands.specs.Claims.{Said, Gets, CallsAnswer}
 use Rattle.promises.specs.Texts.{Makes, NoCall}

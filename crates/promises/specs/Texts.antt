@@ -12,13 +12,14 @@ use Rattle.records.specs.declared.CardRecord.{CardRecord}
 use Rattle.cabinet.specs.Fresh.{Freshly}
 use Rattle.words.specs.declared.Spoken.{Spoken}
 use Rattle.words.specs.declared.Spoken.the-variants.{Fresh, Asks, Unreadable}
-use Rattle.words.specs.declared.Request.the-variants.{Open, Vote, Take, Withdraw, Store, Trim, Safe, Lose, Fix, Roll, Sheet, Restart, Show}
+use Rattle.words.specs.declared.Request.the-variants.{Open, Vote, Take, Withdraw, Store, Trim, Safe, Lose, Fix, Roll, Sheet, Restart, Show, Frames}
 use Rattle.words.specs.declared.Heard.the-variants.{Line}
 use Rattle.words.specs.Calls.{heardAt}
 use Rattle.answers.specs.Texts.{replyText}
 use Rattle.asking.specs.declared.Replay.{Replay}
-use Rattle.asking.specs.Step.{Steps}
-use Rattle.trace.specs.Steps.{nothingYet, Ran}
+use Rattle.obeying.specs.Step.{Steps}
+use Rattle.stepping.specs.Obeyed.{nothingYet}
+use Rattle.trace.specs.Steps.{Ran}
 use Rattle.demands.specs.Lists.{Asked, opening, plain, lose, fix, sheet, restart, callOf, Typed, Lent, Answered, List16, start, next}
 use Rattle.demands.specs.Claims.{Throughout}
 
@@ -44,6 +45,7 @@ pub data NoCall : Spoken → Type 0 where
   beyond-writes : (reads writes : ℕ) → 65535 < writes → NoCall (Asks (Open reads writes))
   beyond-lost : (cards : ℕ) → 65535 < cards → NoCall (Asks (Lose cards))
   looks : NoCall (Asks Show)
+  looks-at : (card : ℕ) → NoCall (Asks (Frames card))
   unreadable : NoCall Unreadable
 
 -- the list of calls since the last accepted fresh, where the lines before a place ran and left this replay and these answers

@@ -97,7 +97,7 @@ fn feed(f: Reader, part: &[u8], out: &mut [u8]) -> Reader {
             };
         }
         let said = words::says(&line[0..n]);
-        let s = asking::done(r, said, out, Progress::Next(0));
+        let s = obeying::done(r, said, out, Progress::Next(0));
         let w = s.written;
         r = s.replay;
         if !print(out, w) {
@@ -143,7 +143,7 @@ fn do_rest(r: Replay, line: &[u8], count: usize) {
         if count <= line.len() {
             let mut out = io::large_buffer();
             let said = words::says(&line[0..count]);
-            let s = asking::done(r, said, &mut out, Progress::Next(0));
+            let s = obeying::done(r, said, &mut out, Progress::Next(0));
             let w = s.written;
             print(&out, w);
         }
@@ -161,7 +161,7 @@ fn finish(f: Reader) {
 }
 
 fn main() {
-    let replay = trace::begin();
+    let replay = stepping::begin();
     let line = [0u8; 129];
     let mut f = Reader {
         replay,

@@ -8,12 +8,13 @@ use native.Mathlib.Omega.{arith}
 use lib.ListN.{length, take, drop, getD}
 use lib.Seq.{sets, length-sets, take-suc}
 use borrow.Author.Tests.{le-leb}
+use Rattle.laws.specs.Below.{tabulate, selected}
 use Rattle.laws.proofs.Seq.{sets-part}
 use Rattle.decimal.specs.declared.Writing.{Writing}
 use Rattle.decimal.specs.Digits.{decimal}
 use Rattle.decimal.specs.Answers.{Wrote, fits}
 use Rattle.decimal.proofs.Digits.{decimal-short}
-use Rattle.text.specs.Lines.{spaced, lineOf}
+use Rattle.text.specs.Lines.{spaced, lineOf, joined}
 
 -- ---- a number's digits
 
@@ -59,3 +60,26 @@ spaced-more ns i h =
 
 pub line-as : (word ns : List ℕ) → (word ++ spaced ns) ++ (10 ∷ []) ≡ lineOf word ns
 line-as word ns = append-assoc word (spaced ns) (10 ∷ [])
+
+-- ---- texts one after the other
+
+-- a text of a list that is joined from texts of its elements grows by the next one that is selected
+pub selected-more : {A : Type 0} (T : List A → List ℕ) (t : A → List ℕ) → ((xs ys : List A) → T (xs ++ ys) ≡ T xs ++ T ys) → ((x : A) → T (x ∷ []) ≡ t x) → T [] ≡ []
+    → (p : ℕ → Bool) (f : ℕ → A) (i : ℕ) → T (selected i p f) ++ cond (p i) (t (f i)) [] ≡ T (selected (i + 1) p f)
+selected-more {A} T t join one none p f i =
+    sym (ap (λ (k : ℕ). T (selected k p f)) (add-one i) ∙ join (selected i p f) (cond (p i) (f i ∷ []) []) ∙ ap (λ (l : List ℕ). T (selected i p f) ++ l) (last (p i)))
+  where
+    last : (b : Bool) → T (cond b (f i ∷ []) []) ≡ cond b (t (f i)) []
+    last true = one (f i)
+    last false = none
+
+joined-append : (xs ys : List (List ℕ)) → joined (xs ++ ys) ≡ joined xs ++ joined ys
+joined-append [] ys = refl
+joined-append (x ∷ xs) ys = ap (λ (l : List ℕ). x ++ l) (joined-append xs ys) ∙ sym (append-assoc x (joined xs) (joined ys))
+
+pub joined-more : (p : ℕ → Bool) (f : ℕ → List ℕ) (i : ℕ) → joined (selected i p f) ++ cond (p i) (f i) [] ≡ joined (selected (i + 1) p f)
+joined-more = selected-more joined (λ x. x) joined-append append-nil refl
+
+pub joined-next : (f : ℕ → List ℕ) (i : ℕ) → joined (tabulate i f) ++ f i ≡ joined (tabulate (i + 1) f)
+joined-next f i =
+    sym (ap (λ (k : ℕ). joined (tabulate k f)) (add-one i) ∙ joined-append (tabulate i f) (f i ∷ []) ∙ ap (λ (l : List ℕ). joined (tabulate i f) ++ l) (append-nil (f i)))

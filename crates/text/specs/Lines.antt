@@ -11,3 +11,8 @@ spaced (n ∷ ns) = 32 ∷ (decimal n ++ spaced ns)
 -- a word, numbers after it, and byte 10
 abbrev pub lineOf : List ℕ → List ℕ → List ℕ
 lineOf word ns = word ++ (spaced ns ++ (10 ∷ []))
+
+-- texts one after the other
+abbrev pub joined : List (List ℕ) → List ℕ
+joined [] = []
+joined (t ∷ ts) = t ++ joined ts

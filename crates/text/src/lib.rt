@@ -1,6 +1,9 @@
 // Text into a lent buffer, cut off where the buffer ends: words, numbers, lines. What is to be whole is counted first.
 ghost use Prim.Native.Nat.{_-_, _≤_};
+ghost use mathlib.Core.Bool.{cond};
+ghost use mathlib.Core.List.{[]};
 ghost use mathlib.Core.Path.{_≡_};
+ghost use lib.Dec.{ltb};
 ghost use lib.ListN.{length, take};
 ghost use lib.Seq.{sets};
 ghost use Rattle.decimal.specs.Digits.{decimal};
@@ -91,7 +94,7 @@ pub fn fitting(size: usize, w: Progress, counted: Progress) -> Progress
 }
 
 // Writes a number.
-fn put_number(b: &mut [u8], w: Progress, n: u32) -> Progress
+pub fn put_number(b: &mut [u8], w: Progress, n: u32) -> Progress
     ensures { λ r. ⌜ Put (now (b .entry)) w (decimal n) r (now (b .exit)) ⌝ }
 {
     let mut digits = [0u8; 10];
@@ -130,4 +133,14 @@ pub fn put_row(b: &mut [u8], w: Progress, card: u32, numbers: &[u32]) -> Progres
     let w = put_number(b, w, card);
     let w = put_numbers(b, w, numbers);
     put(b, w, b"\n")
+}
+
+// The line of a card that the cabinet has.
+pub fn put_card(b: &mut [u8], w: Progress, cards: u32, card: u32, numbers: &[u32]) -> Progress
+    ensures { λ x. ⌜ Put (now (b .entry)) w (cond (ltb card cards) (lineOf (decimal card) (now (numbers .entry))) []) x (now (b .exit)) ⌝ }
+{
+    if card < cards {
+        return put_row(b, w, card, numbers);
+    }
+    w
 }

@@ -21,13 +21,10 @@ use Rattle.text.proofs.Puts.{place-fits, place-cut, count-fits, count-cut, put-
 use Rattle.text.proofs.Wholes.{whole-fits, whole-kept, whole-length, fitting-fits, fitting-cut}
 use Rattle.asking.specs.declared.Replay.{Replay}
 use Rattle.asking.specs.Told.{Written}
-use Rattle.asking.specs.Step.{Steps, Obeyed}
-use Rattle.trace.specs.Steps.{nothingYet, Ran, noLine, oneMore, Holds, Passed, Replayed}
+use Rattle.obeying.specs.Step.{Steps}
+use Rattle.stepping.specs.Obeyed.{nothingYet}
+use Rattle.trace.specs.Steps.{Ran, noLine, oneMore, Holds, Passed, Replayed}
 use Rattle.trace.proofs.Once.{same-length}
-
--- what was said, known by another name
-pub obeyed-for : {x y : Spoken} {old : Replay} {b : List ℕ} {w : Progress} {after : Replay} {r : Progress} {e : List ℕ} → x ≡ y → Obeyed x old b w after r e → Obeyed y old b w after r e
-obeyed-for {x} {y} {old} {b} {w} {after} {r} {e} z u = subst (λ (v : Spoken). Obeyed v old b w after r e) z u
 
 -- ---- texts one after the other
 

@@ -11,8 +11,8 @@ use Rattle.words.specs.declared.Heard.{Heard}
 use Rattle.words.specs.declared.Heard.the-variants.{Line, End}
 use Rattle.words.specs.Calls.{heardAt}
 use Rattle.asking.specs.declared.Replay.{Replay}
-use Rattle.asking.specs.Step.{Steps}
-use Rattle.asking.proofs.Same.{Alike, steps-alike}
+use Rattle.obeying.specs.Step.{Steps}
+use Rattle.alike.proofs.Same.{Alike, steps-alike}
 use Rattle.trace.specs.Steps.{Ran, noLine, oneMore}
 
 module _ (s : List ℕ) (start : Replay) where

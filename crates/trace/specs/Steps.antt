@@ -1,23 +1,18 @@
 -- What the lines of a text do one after the other.
 use Prim.Native.Nat.{ℕ, _-_, _≤_}
 use mathlib.Core.Path.{_≡_}
-use mathlib.Core.Bool.{false}
 use mathlib.Core.List.{List, [], _++_}
 use lib.ListN.{length}
 use lib.Seq.{sets}
 use Rattle.text.specs.declared.Progress.{Progress}
 use Rattle.text.specs.declared.Progress.the-variants.{Next, Counting, TooShort}
-use Rattle.cabinet.specs.Fresh.{zeroCabinet, voidHead}
 use Rattle.words.specs.declared.Spoken.{Spoken}
 use Rattle.words.specs.declared.Heard.the-variants.{Line, End}
 use Rattle.words.specs.Calls.{heardAt}
 use Rattle.text.specs.Put.{greatest, placeAfter, Whole}
 use Rattle.asking.specs.declared.Replay.{Replay}
-use Rattle.asking.specs.Step.{Steps}
-
--- before the first cabinet
-abbrev pub nothingYet : Replay
-nothingYet = record { cabinet = zeroCabinet voidHead; begun = false }
+use Rattle.obeying.specs.Step.{Steps}
+use Rattle.stepping.specs.Obeyed.{nothingYet}
 
 -- those before a place, from the first on: the replay after them, and the texts of their answers, joined
 pub data Ran (s : List ℕ) (start : Replay) : ℕ → Replay → List ℕ → Type 0 where

@@ -1,40 +1,14 @@
 // Lists of calls as text, over slices: text in, answers out.
-ghost use mathlib.Core.Path.{_≡_};
-ghost use Rattle.text.specs.declared.Progress.the-variants.{Next};
-ghost use Rattle.words.specs.Calls.{saysLine};
-ghost use Rattle.asking.specs.Step.{Obeyed};
-ghost use Rattle.trace.specs.Steps.{nothingYet, Passed, Replayed, Counted};
-use asking::Replay;
-use asking::Stepped;
-use cabinet::Cabinet;
+ghost use Rattle.stepping.specs.Obeyed.{nothingYet};
+ghost use Rattle.trace.specs.Steps.{Passed, Replayed, Counted};
 use text::Progress;
 use words::Heard;
-
-// Before the first cabinet.
-pub fn begin() -> Replay
-    ensures { λ r. ⌜ r ≡ nothingYet ⌝ }
-{
-    let a = Cabinet::fresh(0);
-    let cabinet = a.cabinet;
-    Replay {
-        cabinet,
-        begun: false,
-    }
-}
-
-// One line, its byte 10 left out: the answer goes to the front of the buffer, and nothing is done where it has no room there.
-pub fn step(r: Replay, line: &[u8], out: &mut [u8]) -> Stepped
-    ensures { λ s. ⌜ Obeyed (saysLine (now (line .entry))) r (now (out .entry)) (Next 0) (s .replay) (s .written) (now (out .exit)) ⌝ }
-{
-    let said = words::says(line);
-    asking::obey(r, said, out, Progress::Next(0))
-}
 
 // All lines of a list, their answers written or counted from a place on.
 fn pass(text: &[u8], out: &mut [u8], from: Progress) -> Progress
     ensures { λ w. ⌜ Passed (now (text .entry)) nothingYet (now (out .entry)) from w (now (out .exit)) ⌝ }
 {
-    let mut r = begin();
+    let mut r = stepping::begin();
     let mut w = from;
     let mut at = 0;
     loop {
@@ -44,7 +18,7 @@ fn pass(text: &[u8], out: &mut [u8], from: Progress) -> Progress
                 return w;
             }
             Heard::Line(said, next) => {
-                let s = asking::done(r, said, out, w);
+                let s = obeying::done(r, said, out, w);
                 let n = s.replay;
                 r = n;
                 w = s.written;

@@ -1,16 +1,19 @@
 // The answers to a list of calls, each written whole or not at all: it is counted first, and written where the buffer has room for all of it.
 ghost use lib.ListN.{take};
+ghost use Rattle.verdicts.specs.Shape.{limits16, modelOf};
 ghost use Rattle.verdicts.specs.Answers.{replyOf, openReplyOf, safeReplyOf};
 ghost use Rattle.recovery.specs.Fix.{fixReplyOf};
 ghost use Rattle.card_sheet.specs.Card.{sheetReplyOf};
 ghost use Rattle.text.specs.Put.{Whole};
 ghost use Rattle.answers.specs.Texts.{refusedText, replyText, noneText, unreadableText};
-ghost use Rattle.answers.specs.Show.{showText};
+ghost use Rattle.answer_show.specs.Show.{showText};
+ghost use Rattle.answer_frames.specs.Frames.{framesAnswer};
 use limits::Limits;
 use recovery::FixReply;
 use refusal::Refusal;
 use refusal::Reply;
 use text::Progress;
+use verdicts::Core;
 use verdicts::Head;
 use verdicts::OpenReply;
 use verdicts::SafeReply;
@@ -83,7 +86,7 @@ pub fn put_fix(
 ) -> Progress
     ensures { λ x. ⌜ Whole (now (b .entry)) w (replyText (fixReplyOf cards stored line (take places list) r)) x (now (b .exit)) ⌝ }
 {
-    let counted = answers::put_fix(
+    let counted = answer_lists::put_fix(
         b,
         Progress::Counting(0),
         cards,
@@ -94,7 +97,7 @@ pub fn put_fix(
         r,
     );
     let from = text::fitting(b.len(), w, counted);
-    answers::put_fix(b, from, cards, stored, line, list, places, r)
+    answer_lists::put_fix(b, from, cards, stored, line, list, places, r)
 }
 
 // The answer of sheet writing.
@@ -107,9 +110,9 @@ pub fn put_sheet(
 ) -> Progress
     ensures { λ x. ⌜ Whole (now (b .entry)) w (replyText (sheetReplyOf (take places (now (sheet .entry))) r)) x (now (b .exit)) ⌝ }
 {
-    let counted = answers::put_sheet(b, Progress::Counting(0), sheet, places, r);
+    let counted = answer_lists::put_sheet(b, Progress::Counting(0), sheet, places, r);
     let from = text::fitting(b.len(), w, counted);
-    answers::put_sheet(b, from, sheet, places, r)
+    answer_lists::put_sheet(b, from, sheet, places, r)
 }
 
 // What a cabinet is.
@@ -124,7 +127,31 @@ pub fn put_show(
 ) -> Progress
     ensures { λ x. ⌜ Whole (now (b .entry)) w (showText head base stored held reached) x (now (b .exit)) ⌝ }
 {
-    let counted = answers::put_show(b, Progress::Counting(0), head, base, stored, held, reached);
+    let counted = answer_show::put_show(
+        b,
+        Progress::Counting(0),
+        head,
+        base,
+        stored,
+        held,
+        reached,
+    );
     let from = text::fitting(b.len(), w, counted);
-    answers::put_show(b, from, head, base, stored, held, reached)
+    answer_show::put_show(b, from, head, base, stored, held, reached)
+}
+
+// What the states in hand of a card hang on.
+pub fn put_frames<'a, 'b>(
+    b: &'a mut [u8],
+    w: Progress,
+    entries: &'b [u32; Limits::ENTRIES],
+    makers: &'b [u32; Limits::FRAMES],
+    core: Core,
+    card: u32,
+) -> Progress
+    ensures { λ x. ⌜ Whole (now (b .entry)) w (framesAnswer limits16 (modelOf (now (entries .entry)) (now (makers .entry)) core) card) x (now (b .exit)) ⌝ }
+{
+    let counted = answer_frames::put_frames(b, Progress::Counting(0), entries, makers, core, card);
+    let from = text::fitting(b.len(), w, counted);
+    answer_frames::put_frames(b, from, entries, makers, core, card)
 }

@@ -4,9 +4,9 @@ use mathlib.Core.Path.{_≡_, refl}
 use mathlib.Core.Bool.{true}
 use mathlib.Core.List.{List, [], _∷_, _++_}
 use Rattle.words.specs.declared.Spoken.the-variants.{Asks, Unreadable}
-use Rattle.words.specs.declared.Request.the-variants.{Open, Vote, Trim, Fix}
+use Rattle.words.specs.declared.Request.the-variants.{Open, Vote, Trim, Fix, Frames}
 use Rattle.words.specs.declared.Heard.the-variants.{Line, End}
-use Rattle.words.specs.Calls.{openName, voteName, trimName, fixName, saysLine, heardAt}
+use Rattle.words.specs.Calls.{openName, voteName, trimName, fixName, framesName, saysLine, heardAt}
 
 -- "open 01 0" is an opening that reads card 0, since leading zeros are digits; "open  1 0", "open 1" and "open 1 0 " are none
 open-zeros : saysLine (openName ++ (32 ∷ 48 ∷ 49 ∷ 32 ∷ 48 ∷ [])) ≡ Asks (Open 1 0)
@@ -41,6 +41,13 @@ fix-most = refl
 
 fix-over : saysLine (fixName ++ (32 ∷ 49 ∷ 55 ∷ 32 ∷ 48 ∷ [])) ≡ Unreadable
 fix-over = refl
+
+-- "frames 3" looks at card 3, and "frames" at none
+frames-of : saysLine (framesName ++ (32 ∷ 51 ∷ [])) ≡ Asks (Frames 3)
+frames-of = refl
+
+frames-bare : saysLine framesName ≡ Unreadable
+frames-bare = refl
 
 -- two lines, the last with no byte 10
 abbrev two : List ℕ

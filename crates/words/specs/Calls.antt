@@ -7,7 +7,7 @@ use lib.ListN.{length, drop}
 use Rattle.limits.specs.Document.{mostCards, longestLost, longestInput}
 use Rattle.words.specs.declared.Spoken.{Spoken}
 use Rattle.words.specs.declared.Spoken.the-variants.{Fresh, Asks, Unreadable}
-use Rattle.words.specs.declared.Request.the-variants.{Open, Vote, Take, Withdraw, Store, Trim, Safe, Lose, Fix, Roll, Sheet, Restart, Show}
+use Rattle.words.specs.declared.Request.the-variants.{Open, Vote, Take, Withdraw, Store, Trim, Safe, Lose, Fix, Roll, Sheet, Restart, Show, Frames}
 use Rattle.words.specs.declared.Heard.{Heard}
 use Rattle.words.specs.declared.Heard.the-variants.{Line, End}
 use Rattle.words.specs.declared.Figures.{Figures}
@@ -58,6 +58,9 @@ restartName = 114 ∷ 101 ∷ 115 ∷ 116 ∷ 97 ∷ 114 ∷ 116 ∷ []
 abbrev pub showName : List ℕ
 showName = 115 ∷ 104 ∷ 111 ∷ 119 ∷ []
 
+abbrev pub framesName : List ℕ
+framesName = 102 ∷ 114 ∷ 97 ∷ 109 ∷ 101 ∷ 115 ∷ []
+
 -- ---- the calls, by how many numbers they have
 
 abbrev pub sayBare : List ℕ → Spoken
@@ -69,7 +72,8 @@ sayOne w a =
     (cond (same w withdrawName) (Asks (Withdraw a))
     (cond (same w safeName) (Asks (Safe a))
     (cond (same w loseName) (Asks (Lose a))
-    (cond (same w rollName) (Asks (Roll a)) Unreadable))))
+    (cond (same w rollName) (Asks (Roll a))
+    (cond (same w framesName) (Asks (Frames a)) Unreadable)))))
 
 -- fix, with at most 16 card records and 776 change numbers
 abbrev pub asFix : (records numbers : ℕ) → Spoken

@@ -41,6 +41,7 @@ pub enum Request {
     },
     Restart,
     Show,
+    Frames(u32),
 }
 
 // What a line says: a fresh cabinet of so many cards, a call on the present one, or neither.
@@ -201,6 +202,9 @@ fn say_one(word: &[u8], a: u32) -> Spoken
     }
     if is_same(word, b"roll") {
         return Spoken::Asks(Request::Roll(a));
+    }
+    if is_same(word, b"frames") {
+        return Spoken::Asks(Request::Frames(a));
     }
     Spoken::Unreadable
 }
