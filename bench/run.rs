@@ -20,8 +20,6 @@ extern "C" {
     fn bench_roll(cards: u32, states: u32, reads: bool, at: u32) -> u32;
     fn bench_sheet(cards: u32, states: u32, at: u32, buffer: *mut u8, n: usize) -> u32;
     fn bench_restart(bytes: *const u8, n: usize, at: u32) -> u32;
-    fn bench_read_readout(bytes: *const u8, n: usize) -> u32;
-    fn bench_read_sheet(bytes: *const u8, n: usize, at: u32) -> u32;
     fn bench_write_sheet(buffer: *mut u8, n: usize, changes: *const u32, entries: *const u32, cards: u32, count: u32) -> usize;
     fn bench_fix_all_lost(list: *mut u32, n: usize, changes: *const u32, entries: *const u32) -> usize;
 }
@@ -68,18 +66,15 @@ fn main() {
     let bytes = readout(cards, states);
     let restarted = port_restart(&bytes, at);
     same("restart", unsafe { bench_restart(bytes.as_ptr(), bytes.len(), at) }, restarted, restarted);
-    parts(cards, states, at, &bytes);
+    parts(cards, states, &bytes);
 }
 
-/// The readers, the writer and the core of fix by themselves; the sheets are the port's.
-fn parts(cards: u32, states: u32, at: u32, bytes: &[u8]) {
+/// The writer of one sheet and the core of fix by themselves; the sheets are the port's.
+fn parts(cards: u32, states: u32, bytes: &[u8]) {
     let ring = ring(cards, states);
     let (changes, entries) = (ring.makers.as_ptr(), ring.entries.as_ptr());
     let length = bytes.len() / cards as usize;
     let mut buffer = [0u8; 4096];
-    assert!(unsafe { bench_read_readout(bytes.as_ptr(), bytes.len()) } == 0);
-    let change = if at < states + 1 { ring.makers[at as usize] } else { 0 };
-    assert!(unsafe { bench_read_sheet(bytes.as_ptr(), length, at) } == change);
     let written = unsafe { bench_write_sheet(buffer.as_mut_ptr(), buffer.len(), changes, entries, cards, states) };
     assert!(written == length && buffer[..length] == bytes[..length]);
     if cards == 16 && states == 48 {

@@ -5,7 +5,6 @@ use frame::Header;
 use limits::Limits;
 use records::CardRecord;
 use recovery::FixReply;
-use refusal::Reply;
 use verdicts::OpenReply;
 use verdicts::Phase;
 use verdicts::Place;
@@ -347,34 +346,6 @@ pub extern "C" fn bench_restart(bytes: &[u8], at: u32) -> u32 {
     let c = a.cabinet;
     let e = looked(c, at);
     seen(e, done(r))
-}
-
-// The readers by themselves: 0 where the bytes are accepted, else the number of the refusal.
-fn verdict(v: Reply) -> u32 {
-    match v {
-        Reply::Done => 0,
-        Reply::Refused(r) => refusal::number(r),
-    }
-}
-
-#[no_mangle]
-pub extern "C" fn bench_read_readout(bytes: &[u8]) -> u32 {
-    let read = readout::read_readout(bytes);
-    let v = read.verdict;
-    verdict(v)
-}
-
-fn change_at(changes: &[u32; Limits::FRAMES], at: u32) -> u32 {
-    changes[(at % 768) as usize]
-}
-
-// A change number of the sheet of card 0 is looked at where it stands.
-#[no_mangle]
-pub extern "C" fn bench_read_sheet(bytes: &[u8], at: u32) -> u32 {
-    let read = sheet_reader::read_sheet(bytes, card(at));
-    let v = read.verdict;
-    let change = change_at(&read.readout.changes, at);
-    seen(change, verdict(v))
 }
 
 // The writer by itself, lent a ring: the length of the sheet of card 0, or 0.
