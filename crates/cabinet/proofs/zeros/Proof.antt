@@ -1,20 +1,39 @@
-use mathlib.Core.Path.{ap}
+use Prim.Native.Nat.{ℕ}
+use mathlib.Core.Path.{_≡_, refl, _∙_}
+use mathlib.Core.List.{List}
 use lib.ListN.{replicate}
-use borrow.Author.Needs.{needs}
-use Rattle.verdicts.specs.declared.Place.{Place}
-use Rattle.verdicts.specs.Shape.{blankCore, withPlaces}
+use Rattle.laws.specs.Below.{tabulate}
+use Rattle.history.specs.Vector.{noEntries}
+use Rattle.protocol.specs.Model.{freePlace}
+use Rattle.verdicts.specs.declared.Vector.{Vector}
+use Rattle.verdicts.specs.Shape.{limits16, vectorFor, placeFor, blankCore, withVectors, withPlaces}
 use Rattle.cabinet.specs.Apply.{withCore}
 use Rattle.cabinet.specs.Fresh.{zeroCabinet}
+use borrow.Author.Needs.{needs}
 use Rattle.cabinet.proofs.zeros.Statement.{statement}
 use Rattle.cabinet.proofs.zeros.Tie as tie
 
-free-place-requires : tie.Need-free-place-requires
-free-place-requires c κs = search needs
+vectors-none : tabulate (limits16 .width) (λ c. vectorFor noEntries) ≡ replicate 16 (record { entries = replicate 16 0 })
+unfolding limits16
+vectors-none = refl
+
+places-none : tabulate (limits16 .places) (λ p. placeFor freePlace) ≡ replicate 8 (placeFor freePlace)
+unfolding limits16
+places-none = refl
+
+no-vectors-requires : tie.Need-no-vectors-requires
+no-vectors-requires c κs = search needs
+
+no-vectors-requires-2 : tie.Need-no-vectors-requires-2
+no-vectors-requires-2 c κs = search needs
+
+no-places-requires : tie.Need-no-places-requires
+no-places-requires c κs = search needs
 
 returns : tie.Need-returns
 returns c =
-    let h : _ = c .before .args .head in
-    ap (λ (p : Place). withCore (zeroCabinet h) (withPlaces (blankCore h) (replicate 8 p) (replicate 8 0))) (c .free-place .ensures)
+    let h : _ = c .before .before .before .args .head in
+    λ i. withCore (zeroCabinet h) (withPlaces (withVectors (blankCore h) ((c .before .before .no-vectors .ensures ∙ vectors-none) i) ((c .before .no-vectors2 .ensures ∙ vectors-none) i)) ((c .no-places .ensures ∙ places-none) i) (replicate 8 0))
 
 pub zeros-spec : {M : Type 1} → statement M
-zeros-spec = tie.close (tie.spec free-place-requires returns)
+zeros-spec = tie.close (tie.spec no-vectors-requires no-vectors-requires-2 no-places-requires returns)
