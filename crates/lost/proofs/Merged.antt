@@ -1,4 +1,4 @@
--- One turn of the merge that counts and writes the changes lost. What it met is right where the numbers rise; that it ends, and keeps
+-- One turn of the merge that lists the changes lost. What it met is right where the numbers rise; that it ends, and keeps
 -- the length of the list, asks nothing of them. Assumes nothing.
 use Prim.Native.Nat.{ℕ, _+_, _-_, _≤_, _<_, zero-le}
 use mathlib.Core.Path.{_≡_, refl, sym, _∙_, ap, subst}
@@ -8,9 +8,9 @@ use native.Mathlib.Omega.{arith}
 use lib.ListN.{length, set, length-set}
 use Rattle.merge.specs.Merge.{NextOf, Rises, Passed, headNumbers, allPast}
 use Rattle.merge.proofs.Walk.{walk-start}
-use Rattle.lost.specs.Lost.{Counted, Written, endsOf, nextLost, lostBy}
+use Rattle.lost.specs.Lost.{Listed, endsOf, nextLost, lostBy}
 use Rattle.lost.proofs.Next.{lostTo, lost-to, lost-next, lost-past}
-use Rattle.lost.proofs.Rise.{FoundSoFar, found-none, found-more, found-done, StoredSoFar, stored-none, stored-more, stored-done}
+use Rattle.lost.proofs.Rise.{StoredSoFar, stored-none, stored-more, stored-done}
 
 -- the merge stands behind the number k, of which n were met; x is the next
 pub record Behind (n k x : ℕ) : Type 0 where
@@ -19,12 +19,6 @@ pub record Behind (n k x : ℕ) : Type 0 where
 
 behind-more : {n k x y : ℕ} → Behind n k x → k < x → y < 4294967296 → Behind (n + 1) x y
 behind-more s h f = record { few = let l : _ = s .few in omega arith; fits = f }
-
-pub record Counting (makers line ends : List ℕ) (p : ℕ → Bool) (passed heads : List ℕ) (n k x : ℕ) : Type 0 where
-  pub stands : Behind n k x
-  pub heads-so : heads ≡ headNumbers makers passed ends
-  pub found : Rises makers line ends → FoundSoFar p n k x
-  pub walked : Rises makers line ends → Passed makers line ends passed k
 
 pub record Writing (makers line ends : List ℕ) (p : ℕ → Bool) (before now passed heads : List ℕ) (n k x : ℕ) : Type 0 where
   pub stands : Behind n k x
@@ -47,26 +41,6 @@ module _ (makers line ends ended : List ℕ) where
   first-next : {heads : List ℕ} {x : ℕ} → heads ≡ headNumbers makers line ends → x ≡ nextLost heads ended 0 → Rises makers line ends → NextOf lost 0 x
   first-next eh e r = subst (λ (a : ℕ). NextOf lost 0 a) (sym e) (lost-next makers line ends ended r (walk-start r) eh)
 
-  pub counting-none : {heads : List ℕ} {x : ℕ} → heads ≡ headNumbers makers line ends → x ≡ nextLost heads ended 0 → x < 4294967296 → Counting makers line ends lost line heads 0 0 x
-  counting-none eh e f =
-      record { stands = record { few = zero-le; fits = f }; heads-so = eh; found = λ r. found-none refl (first-next eh e r); walked = λ r. walk-start r }
-
-  pub counting-more : {passed heads later ahead : List ℕ} {n k x y : ℕ} → Counting makers line ends lost passed heads n k x → k < x → later ≡ allPast passed ends heads x → ahead ≡ headNumbers makers later ends
-      → y ≡ nextLost ahead ended x → y < 4294967296 → Counting makers line ends lost later ahead (n + 1) x y
-  counting-more {passed} {heads} {later} {ahead} {n} {k} {x} {y} s h e ea d f =
-      record {
-        stands = behind-more (s .stands) h f;
-        heads-so = ea;
-        found = λ r. found-more (s .found r) (λ (z : x ≡ 0). omega arith) (next-after r (s .walked r) (s .heads-so) (s .found r .next) h e ea d .1);
-        walked = λ r. next-after r (s .walked r) (s .heads-so) (s .found r .next) h e ea d .0;
-      }
-
-  pub counting-done : (reached : List ℕ) (cards : ℕ) {passed heads : List ℕ} {n k x : ℕ} → Counting makers line ends lost passed heads n k x → x ≤ k → ends ≡ endsOf reached cards → Rises makers line (endsOf reached cards)
-      → Counted (lostBy makers line reached ended cards) n
-  counting-done reached cards {n = n} s h es r =
-      subst (λ (p : ℕ → Bool). Counted p n) (ap (λ (l : List ℕ). lostTo makers line l ended) es ∙ lost-to makers line reached ended cards)
-      (found-done (s .found (subst (λ (l : List ℕ). Rises makers line l) (sym es) r)) h)
-
   pub writing-none : {before heads : List ℕ} {x : ℕ} → heads ≡ headNumbers makers line ends → x ≡ nextLost heads ended 0 → x < 4294967296 → Writing makers line ends lost before before line heads 0 0 x
   writing-none eh e f =
       record { stands = record { few = zero-le; fits = f }; heads-so = eh; long = refl; stored = λ r. stored-none refl (first-next eh e r); walked = λ r. walk-start r }
@@ -83,7 +57,7 @@ module _ (makers line ends ended : List ℕ) where
       }
 
   pub writing-done : (reached : List ℕ) (cards : ℕ) {before now passed heads : List ℕ} {n k x : ℕ} → Writing makers line ends lost before now passed heads n k x → x ≤ k → ends ≡ endsOf reached cards
-      → Rises makers line (endsOf reached cards) → Written (lostBy makers line reached ended cards) before now
-  writing-done reached cards {before} {now} s h es r =
-      subst (λ (p : ℕ → Bool). Written p before now) (ap (λ (l : List ℕ). lostTo makers line l ended) es ∙ lost-to makers line reached ended cards)
+      → Rises makers line (endsOf reached cards) → Listed (lostBy makers line reached ended cards) before now n
+  writing-done reached cards {before} {now} {n = n} s h es r =
+      subst (λ (p : ℕ → Bool). Listed p before now n) (ap (λ (l : List ℕ). lostTo makers line l ended) es ∙ lost-to makers line reached ended cards)
       (stored-done (s .stored (subst (λ (l : List ℕ). Rises makers line l) (sym es) r)) h)

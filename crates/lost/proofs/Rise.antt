@@ -15,7 +15,7 @@ use Rattle.laws.specs.Below.{selected, occurs, one-if}
 use Rattle.laws.proofs.Below.{occurs-append}
 use Rattle.laws.proofs.Fill.{sets-snoc}
 use Rattle.merge.specs.Merge.{NextOf}
-use Rattle.lost.specs.Lost.{Rising, Counted, Written}
+use Rattle.lost.specs.Lost.{Rising, Listed}
 
 -- the numbers below n that pass
 abbrev pub those : (ℕ → Bool) → ℕ → List ℕ
@@ -86,24 +86,21 @@ pub record FoundSoFar (p : ℕ → Bool) (n k x : ℕ) : Type 0 where
 those-first : (p : ℕ → Bool) → p 0 ≡ false → those p (suc 0) ≡ []
 those-first p e = let one : List ℕ = 0 ∷ [] in ap (λ (b : Bool). cond b one []) e
 
-pub found-none : {p : ℕ → Bool} {x : ℕ} → p 0 ≡ false → NextOf p 0 x → FoundSoFar p 0 0 x
+found-none : {p : ℕ → Bool} {x : ℕ} → p 0 ≡ false → NextOf p 0 x → FoundSoFar p 0 0 x
 found-none {p} {x} e r = record { next = r; count = ap length (sym (those-first p e)) }
 
-pub found-more : {p : ℕ → Bool} {n k x y : ℕ} → FoundSoFar p n k x → (x ≡ 0 → ⊥) → NextOf p x y → FoundSoFar p (n + 1) x y
+found-more : {p : ℕ → Bool} {n k x y : ℕ} → FoundSoFar p n k x → (x ≡ 0 → ⊥) → NextOf p x y → FoundSoFar p (n + 1) x y
 found-more {p} {n} {k} {x} {y} s h r =
     record {
       next = r;
       count = ap (λ (i : ℕ). i + 1) (s .count) ∙ sym (length-append (those p (suc k)) (x ∷ [])) ∙ ap length (sym (step p k x (s .next) h));
     }
 
-pub found-rising : {p : ℕ → Bool} {n k x : ℕ} → FoundSoFar p n k x → x ≤ k → Rising p (those p (suc k))
+found-rising : {p : ℕ → Bool} {n k x : ℕ} → FoundSoFar p n k x → x ≤ k → Rising p (those p (suc k))
 found-rising {p} {n} {k} {x} s e = record { top = k; so = refl; end = s .next .none (no-next (s .next .above)) }
   where
     no-next : ((x ≡ 0 → ⊥) → k < x) → x ≡ 0
     no-next a = by-cases (ℕ-discrete x 0) (λ (z : x ≡ 0). z) (λ (z : ¬ (x ≡ 0)). let l : k < x = a z in absurd (omega arith))
-
-pub found-done : {p : ℕ → Bool} {n k x : ℕ} → FoundSoFar p n k x → x ≤ k → Counted p n
-found-done {p} {n} {k} {x} s e = record { list = those p (suc k); rising = found-rising s e; count = s .count }
 
 -- ---- and they stand at the beginning of a list
 pub record StoredSoFar (p : ℕ → Bool) (before now : List ℕ) (n k x : ℕ) : Type 0 where
@@ -120,5 +117,5 @@ stored-more {p} {before} {now} {later} {n} {k} {x} {y} s h e r =
       so = e ∙ ap₂ (λ (l : List ℕ) (i : ℕ). set l i x) (s .so) (s .found .count ∙ (let z : length (those p (suc k)) ≡ 0 + length (those p (suc k)) = omega arith in z)) ∙ sym (sets-snoc (those p (suc k)) before 0 x) ∙ ap (sets before 0) (sym (step p k x (s .found .next) h));
     }
 
-pub stored-done : {p : ℕ → Bool} {before now : List ℕ} {n k x : ℕ} → StoredSoFar p before now n k x → x ≤ k → Written p before now
-stored-done {p} {before} {now} {n} {k} {x} s e = record { list = those p (suc k); rising = found-rising (s .found) e; stored = s .so }
+pub stored-done : {p : ℕ → Bool} {before now : List ℕ} {n k x : ℕ} → StoredSoFar p before now n k x → x ≤ k → Listed p before now n
+stored-done {p} {before} {now} {n} {k} {x} s e = record { list = those p (suc k); rising = found-rising (s .found) e; count = s .found .count; stored = s .so }

@@ -17,16 +17,11 @@ pub record Rising (p : ℕ → Bool) (xs : List ℕ) : Type 0 where
   pub so : xs ≡ selected (suc top) p (λ k. k)
   pub end : (j : ℕ) → top < j → p j ≡ false
 
--- how many pass
-pub record Counted (p : ℕ → Bool) (n : ℕ) : Type 0 where
+-- there are so many, and they stand at the beginning of a list, as far as it has places; the other places keep what they held
+pub record Listed (p : ℕ → Bool) (before after : List ℕ) (n : ℕ) : Type 0 where
   pub list : List ℕ
   pub rising : Rising p list
   pub count : n ≡ length list
-
--- they stand at the beginning of a list, and the other places keep what they held
-pub record Written (p : ℕ → Bool) (before after : List ℕ) : Type 0 where
-  pub list : List ℕ
-  pub rising : Rising p list
   pub stored : after ≡ sets before 0 list
 
 -- a number above k, and 0 for another

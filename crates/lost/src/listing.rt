@@ -4,7 +4,7 @@ ghost use mathlib.Core.Path.{_≡_};
 ghost use mathlib.Core.Bool.{cond};
 ghost use lib.ListN.{set};
 ghost use Rattle.merge.specs.Merge.{Rises};
-ghost use Rattle.lost.specs.Lost.{Counted, Written, numberAbove, leastEnded, endsOf, nextLost, lostBy};
+ghost use Rattle.lost.specs.Lost.{Listed, numberAbove, leastEnded, endsOf, nextLost, lostBy};
 use limits::Limits;
 
 // A number above k, and 0 for another.
@@ -59,35 +59,6 @@ fn next_lost(heads: [u32; Limits::CARDS], ended: [u32; Limits::PLACES], k: u32) 
     merge::lesser(head, e)
 }
 
-// How many changes are lost.
-pub fn count_lost(
-    makers: &[u32; Limits::FRAMES],
-    line: [u32; Limits::CARDS],
-    reached: [u32; Limits::CARDS],
-    ended: [u32; Limits::PLACES],
-    cards: u32,
-) -> usize
-    ensures { λ r. ⌜ (Rises (now (makers .entry)) line (endsOf reached cards) → Counted (lostBy (now (makers .entry)) line reached ended cards) r) ⌝ }
-{
-    let ends = ends_of(reached, cards);
-    let mut passed = line;
-    let mut heads = merge::heads(makers, passed, ends);
-    let mut count: usize = 0;
-    let mut k: u32 = 0;
-    let mut x = next_lost(heads, ended, 0);
-    while k < x {
-        count += 1;
-        k = x;
-        let p = merge::past(passed, ends, heads, k);
-        passed = p;
-        let h = merge::heads(makers, passed, ends);
-        heads = h;
-        let y = next_lost(heads, ended, k);
-        x = y;
-    }
-    count
-}
-
 // The number x at place n, where there is such a place.
 fn put(list: &mut [u32], n: usize, x: u32)
     ensures { λ r. ⌜ now (list .exit) ≡ set (now (list .entry)) n x ⌝ }
@@ -97,16 +68,16 @@ fn put(list: &mut [u32], n: usize, x: u32)
     }
 }
 
-// The numbers of the changes lost, in rising order; places beyond them keep what they held.
-pub fn write_lost<'a, 'b>(
+// The numbers of the changes lost, in rising order, as far as the list has places; places beyond them keep what they held. It answers how many are lost.
+pub fn list_lost<'a, 'b>(
     list: &'a mut [u32],
     makers: &'b [u32; Limits::FRAMES],
     line: [u32; Limits::CARDS],
     reached: [u32; Limits::CARDS],
     ended: [u32; Limits::PLACES],
     cards: u32,
-)
-    ensures { λ r. ⌜ (Rises (now (makers .entry)) line (endsOf reached cards) → Written (lostBy (now (makers .entry)) line reached ended cards) (now (list .entry)) (now (list .exit))) ⌝ }
+) -> usize
+    ensures { λ r. ⌜ (Rises (now (makers .entry)) line (endsOf reached cards) → Listed (lostBy (now (makers .entry)) line reached ended cards) (now (list .entry)) (now (list .exit)) r) ⌝ }
 {
     let ends = ends_of(reached, cards);
     let mut passed = line;
@@ -125,4 +96,5 @@ pub fn write_lost<'a, 'b>(
         let y = next_lost(heads, ended, k);
         x = y;
     }
+    n
 }

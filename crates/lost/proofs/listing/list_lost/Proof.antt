@@ -1,11 +1,11 @@
--- `lost::listing::write_lost` writes the changes lost. The invariant: those up to k are met and stand at the beginning of the list. Assumes nothing.
+-- `lost::listing::list_lost` lists the changes lost. The invariant: those up to k are met and stand at the beginning of the list. Assumes nothing.
 use Prim.Native.Nat.{_-_}
 use native.Mathlib.Omega.{arith}
 use Rattle.lost.proofs.Next.{lostTo}
 use Rattle.lost.proofs.Merged.{Writing, writing-none, writing-more, writing-done}
 use borrow.Author.Needs.{needs}
-use Rattle.lost.proofs.listing.write_lost.Statement.{statement}
-use Rattle.lost.proofs.listing.write_lost.Tie as tie
+use Rattle.lost.proofs.listing.list_lost.Statement.{statement}
+use Rattle.lost.proofs.listing.list_lost.Tie as tie
 
 abbrev Inv-loop : tie.InvT-loop
 Inv-loop list₀ makers ended cards ends passed₀ heads₀ n₀ k₀ x₀ list passed heads n k x = Writing makers passed₀ ends (lostTo makers passed₀ ends ended) list₀ list passed heads n k x
@@ -61,8 +61,8 @@ returns c =
     let e : _ = c .before .before .before .before .ends-of in
     writing-done (a .makers .now) (a .line) (e .result) (a .ended) (a .reached) (a .cards) (c .before .loop .inv) (c .loop-test .left) (e .ensures)
 
-pub write-lost-spec : {M : Type 1} → statement M
-write-lost-spec =
+pub list-lost-spec : {M : Type 1} → statement M
+list-lost-spec =
     tie.close
     (tie.spec
     Inv-loop
