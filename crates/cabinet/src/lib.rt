@@ -47,8 +47,8 @@ pub fn zeros(head: Head) -> Cabinet
     ensures { λ r. ⌜ r ≡ zeroCabinet head ⌝ }
 {
     let none = [0u32; Limits::CARDS];
-    let last = recovery::no_vectors();
-    let pending = recovery::no_vectors();
+    let last = rollback::no_vectors();
+    let pending = rollback::no_vectors();
     let places = parts::no_places();
     let entries = [0u32; Limits::ENTRIES];
     let makers = [0u32; Limits::FRAMES];

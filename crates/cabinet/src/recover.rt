@@ -72,16 +72,17 @@ impl Cabinet {
     }
 
     // Fix but for the card records, for which there are so many places.
-    fn fixed<'a>(mut self, places: usize, list: &'a mut [u32]) -> FixAnswer
+    fn fixed<'a>(self, places: usize, list: &'a mut [u32]) -> FixAnswer
         ensures { λ r. ⌜ FixCarried self places (now (list .entry)) (now (list .exit)) (r .reply) (r .cabinet) ⌝ }
     {
         let core = self.core;
         let out = fixing::fix(list, &self.entries, &self.makers, core, places);
         let r = out.reply;
-        let next = out.core;
-        self.core = next;
+        let after = out.core;
+        let mut next = self;
+        next.core = after;
         FixAnswer {
-            cabinet: self,
+            cabinet: next,
             reply: r,
         }
     }

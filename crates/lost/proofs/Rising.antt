@@ -14,7 +14,7 @@ use Rattle.protocol.specs.Sound.{sound}
 use Rattle.verdicts.specs.declared.Core.{Core}
 use Rattle.verdicts.specs.Shape.{limits16, at, ringMaker, makerInHand, modelOf}
 use Rattle.carried.proofs.Known.{sound-card}
-use Rattle.lost.specs.Lost.{endsOf}
+use Rattle.listing.specs.Lost.{endsOf}
 
 module _ (entries makers : List ℕ) (core : Core) where
   abbrev m : Model

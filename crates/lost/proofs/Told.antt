@@ -32,10 +32,10 @@ use Rattle.verdicts.proofs.Held.{at-list}
 use Rattle.verdicts.proofs.Checks.{done-plan, refused-plan}
 use Rattle.recovery.specs.declared.FixReply.the-variants.{Fixed, NotFixed}
 use Rattle.merge.specs.Merge.{maker, CardRises, Rises}
-use Rattle.lost.specs.Lost.{Rising, Listed, endsOf, framedBy, endedBy, lostBy}
+use Rattle.listing.specs.Lost.{Rising, Listed, endsOf, framedBy, endedBy, lostBy}
 use Rattle.recovery.specs.Fix.{rowsOf, listAfter, linesAfter, butLast, FixWorked}
 use Rattle.recovery.proofs.Rows.{length-selected, selected-same}
-use Rattle.lost.proofs.Rise.{those, rising-once, rising-one}
+use Rattle.listing.proofs.Rise.{those, rising-once, rising-one}
 use Rattle.lost.proofs.Rising.{sound-rises}
 
 -- ---- some list has each lost change once: none is above the greatest numbers that stand in the arrays

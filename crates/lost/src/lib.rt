@@ -21,8 +21,6 @@ use verdicts::Head;
 use verdicts::Reply;
 use verdicts::is_down;
 
-mod listing;
-
 // The checks before the last: 28, 20, 24.
 fn fix_reply(sound: bool, head: Head) -> Reply
     ensures { λ r. ⌜ r ≡ firstFailing (butLast (after28 (not sound) (fixChecks limits16 (headModel head) 0 0 []))) ⌝ }

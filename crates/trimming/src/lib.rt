@@ -23,7 +23,7 @@ pub fn trim<'a>(
     let stored = core.stored;
     let reached = core.reached;
     let head = core.head;
-    let r = recovery::trim_reply(sound, head);
+    let r = rollback::trim_reply(sound, head);
     match r {
         Reply::Done => {
             let lines = recovery::lines(entries, head, base, stored, reached);

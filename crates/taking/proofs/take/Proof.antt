@@ -108,17 +108,17 @@ mul-core-2 c = search needs
 element-write-core-2 : tie.Need-element-write-core-2
 element-write-core-2 c = facts (c .before .before .before .before .before .before .before) .card
 
-mul-q : tie.Need-mul-q
-mul-q c = search needs
+mul-raised : tie.Need-mul-raised
+mul-raised c = search needs
 
-array-copy-out-q : tie.Need-array-copy-out-q
-array-copy-out-q c = facts (c .before .before .before .before .before .before .before) .card
+array-copy-out-raised : tie.Need-array-copy-out-raised
+array-copy-out-raised c = facts (c .before .before .before .before .before .before .before) .card
 
 raised-requires : tie.Need-raised-requires
 raised-requires c κs = search needs
 
-mul-q-2 : tie.Need-mul-q-2
-mul-q-2 c = search needs
+mul-q : tie.Need-mul-q
+mul-q c = search needs
 
 element-set-from-q : tie.Need-element-set-from-q
 element-set-from-q c = facts (c .before .before .before .before .before .before .before .before .before) .card
@@ -160,10 +160,10 @@ take-spec =
     element-write-core
     mul-core-2
     element-write-core-2
-    mul-q
-    array-copy-out-q
+    mul-raised
+    array-copy-out-raised
     raised-requires
-    mul-q-2
+    mul-q
     element-set-from-q
     enum-told-2
     returns
