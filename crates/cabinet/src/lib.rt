@@ -8,6 +8,7 @@ use verdicts::Head;
 use verdicts::OpenReply;
 use verdicts::Reply;
 use verdicts::SafeReply;
+use verdicts::Vector;
 
 pub mod recover;
 pub mod sheets;
@@ -47,12 +48,14 @@ pub fn zeros(head: Head) -> Cabinet
     ensures { λ r. ⌜ r ≡ zeroCabinet head ⌝ }
 {
     let none = [0u32; Limits::CARDS];
-    let last = rollback::no_vectors();
-    let pending = rollback::no_vectors();
-    let places = parts::no_places();
+    let v = Vector { entries: none };
+    let last = [v; Limits::CARDS];
+    let pending = [v; Limits::CARDS];
+    let free = verdicts::free_place();
+    let places = [free; Limits::PLACES];
     let entries = [0u32; Limits::ENTRIES];
     let makers = [0u32; Limits::FRAMES];
-    // written out: a core that `verdicts::blank` hands over would be copied once more
+    // written out: a core or a list that another function hands over would be copied once more
     let core = Core {
         head: head,
         last: last,
