@@ -9,10 +9,10 @@ use Rattle.laws.proofs.Fill.{FilledSoFar, filled-none, filled-more, filled-done
 use Rattle.laws.proofs.Logic.{cond-true, cond-false}
 use Rattle.verdicts.proofs.Limits.{width16}
 use borrow.Author.Needs.{needs}
-use Rattle.restart.proofs.with_if.Statement.{statement}
-use Rattle.restart.proofs.with_if.Tie as tie
-use Rattle.restart.proofs.with_if.Reads as reads
-use Rattle.restart.proofs.with_if.Lts as lts
+use Rattle.recalling.proofs.with_if.Statement.{statement}
+use Rattle.recalling.proofs.with_if.Tie as tie
+use Rattle.recalling.proofs.with_if.Reads as reads
+use Rattle.recalling.proofs.with_if.Lts as lts
 use Rattle.bits.proofs.with.Reads as with-reads
 
 with-requires : tie.Need-with-requires

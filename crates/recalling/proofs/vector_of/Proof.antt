@@ -9,10 +9,10 @@ use Rattle.laws.proofs.Fill.{FilledSoFar, filled-none, filled-more, filled-done
 use Rattle.verdicts.specs.Shape.{at, ringFrame}
 use Rattle.verdicts.proofs.Limits.{width16}
 use borrow.Author.Needs.{needs}
-use Rattle.restart.proofs.vector_of.Statement.{statement}
-use Rattle.restart.proofs.vector_of.Tie as tie
-use Rattle.restart.proofs.vector_of.Reads as reads
-use Rattle.restart.proofs.vector_of.Lts as lts
+use Rattle.recalling.proofs.vector_of.Statement.{statement}
+use Rattle.recalling.proofs.vector_of.Tie as tie
+use Rattle.recalling.proofs.vector_of.Reads as reads
+use Rattle.recalling.proofs.vector_of.Lts as lts
 
 abbrev Inv-loop : tie.InvT-loop
 Inv-loop entries card x place out₀ j₀ out j = FilledSoFar 0 16 (ringFrame entries card x) out j

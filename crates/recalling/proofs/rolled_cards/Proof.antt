@@ -1,5 +1,5 @@
 -- `restart::rolled_cards` is the set of the cards ahead. Assumes nothing.
-use Rattle.restart.proofs.Rolled.{AheadSoFar, ahead-none, ahead-more, ahead-done}
+use Rattle.recalling.proofs.Rolled.{AheadSoFar, ahead-none, ahead-more, ahead-done}
 use Prim.Native.Nat.{ℕ, zero, suc, _+_, _*_, _-_, _%_, _≤_, _<_}
 use mathlib.Core.Path.{_≡_, refl, sym, _∙_, ap}
 use mathlib.Core.Bool.{Bool, true, false, cond}
@@ -10,11 +10,11 @@ use Rattle.laws.proofs.Fill.{FilledSoFar, filled-none, filled-more, filled-done
 use Rattle.verdicts.specs.Shape.{at, ringFrame}
 use Rattle.verdicts.proofs.Limits.{width16}
 use borrow.Author.Needs.{needs}
-use Rattle.restart.proofs.rolled_cards.Statement.{statement}
-use Rattle.restart.proofs.rolled_cards.Tie as tie
-use Rattle.restart.proofs.rolled_cards.Reads as reads
-use Rattle.restart.proofs.rolled_cards.Lts as lts
-use Rattle.restart.proofs.with_if.Reads as with-if-reads
+use Rattle.recalling.proofs.rolled_cards.Statement.{statement}
+use Rattle.recalling.proofs.rolled_cards.Tie as tie
+use Rattle.recalling.proofs.rolled_cards.Reads as reads
+use Rattle.recalling.proofs.rolled_cards.Lts as lts
+use Rattle.recalling.proofs.with_if.Reads as with-if-reads
 
 abbrev Inv-loop : tie.InvT-loop
 Inv-loop low sessions rolled₀ c₀ rolled c = AheadSoFar (λ k. ltb low (at sessions k)) rolled c

@@ -15,11 +15,11 @@ use Rattle.verdicts.specs.Shape.{at, listOf, vectorFor, ringFrame}
 use Rattle.verdicts.proofs.Limits.{width16}
 use Rattle.verdicts.proofs.Held.{zero-listed}
 use borrow.Author.Needs.{needs}
-use Rattle.restart.proofs.last_vectors.Statement.{statement}
-use Rattle.restart.proofs.last_vectors.Tie as tie
-use Rattle.restart.proofs.last_vectors.Reads as reads
-use Rattle.restart.proofs.last_vectors.Lts as lts
-use Rattle.restart.proofs.last_vector.Reads as last-vector-reads
+use Rattle.recalling.proofs.last_vectors.Statement.{statement}
+use Rattle.recalling.proofs.last_vectors.Tie as tie
+use Rattle.recalling.proofs.last_vectors.Reads as reads
+use Rattle.recalling.proofs.last_vectors.Lts as lts
+use Rattle.recalling.proofs.last_vector.Reads as last-vector-reads
 
 abbrev Inv-loop : tie.InvT-loop
 Inv-loop entries base stored out₀ c₀ out c = FilledSoFar (record { entries = [] }) 16 (λ k. vectorFor (cond (ltb (at base k) (at stored k)) (ringFrame entries k (at stored k)) noEntries)) out c

@@ -15,11 +15,11 @@ use Rattle.verdicts.specs.Shape.{at, listOf, vectorFor, ringFrame}
 use Rattle.verdicts.proofs.Limits.{width16}
 use Rattle.verdicts.proofs.Held.{zero-listed}
 use borrow.Author.Needs.{needs}
-use Rattle.restart.proofs.last_vector.Statement.{statement}
-use Rattle.restart.proofs.last_vector.Tie as tie
-use Rattle.restart.proofs.last_vector.Reads as reads
-use Rattle.restart.proofs.last_vector.Lts as lts
-use Rattle.restart.proofs.vector_of.Reads as vector-of-reads
+use Rattle.recalling.proofs.last_vector.Statement.{statement}
+use Rattle.recalling.proofs.last_vector.Tie as tie
+use Rattle.recalling.proofs.last_vector.Reads as reads
+use Rattle.recalling.proofs.last_vector.Lts as lts
+use Rattle.recalling.proofs.vector_of.Reads as vector-of-reads
 
 vector-of-requires : tie.Need-vector-of-requires
 vector-of-requires c κs = search needs
