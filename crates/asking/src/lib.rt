@@ -1,6 +1,5 @@
 // What a line of a list leaves behind.
 use cabinet::Cabinet;
-use refusal::Reply;
 use text::Progress;
 
 // The present cabinet, and whether there is one.

@@ -7,22 +7,14 @@ use Rattle.limits.specs.Document.{mostFrames, mostEntries}
 use Rattle.refusal.specs.declared.Refusal.the-variants.{CardCount}
 use Rattle.protocol.specs.Plan.{Reply, accepted, refused, done}
 use Rattle.protocol.specs.Calls.{freshRefused}
-use Rattle.verdicts.specs.declared.Phase.the-variants.{Up}
 use Rattle.verdicts.specs.declared.Head.{Head}
-use Rattle.verdicts.specs.Shape.{limits16, headOf, blankCore}
+use Rattle.verdicts.specs.Shape.{limits16, blankCore}
+pub use Rattle.parts.specs.Fresh.{freshHead, voidHead}
 use Rattle.cabinet.specs.declared.Cabinet.{Cabinet}
 
 -- "all state numbers 0, all entries none"
 abbrev pub zeroCabinet : Head → Cabinet
 zeroCabinet h = record { entries = replicate mostEntries 0; makers = replicate mostFrames 0; core = blankCore h }
-
--- "A fresh cabinet has session 1, phase up"
-abbrev pub freshHead : ℕ → Head
-freshHead n = headOf 1 n Up
-
--- session 0: every call is 28
-abbrev pub voidHead : Head
-voidHead = headOf 0 0 Up
 
 -- refusal 1, or a fresh cabinet of n cards
 pub record Freshly (n : ℕ) (reply : Reply) (next : Cabinet) : Type 0 where

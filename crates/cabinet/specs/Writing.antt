@@ -3,7 +3,6 @@ use Prim.Native.Nat.{ℕ}
 use mathlib.Core.Path.{_≡_}
 use mathlib.Core.List.{List}
 use lib.ListN.{length}
-use Rattle.frame.specs.Format.{formats}
 use Rattle.protocol.specs.Codec.{sheetPlan}
 use Rattle.codec.specs.Sheets.{codec}
 use Rattle.verdicts.specs.Shape.{limits16}

@@ -4,18 +4,17 @@ ghost use mathlib.Core.Path.{_≡_};
 ghost use Rattle.protocol.specs.Calls.{trimPlan, rollPlan};
 ghost use Rattle.verdicts.specs.Shape.{limits16};
 ghost use Rattle.verdicts.specs.Answers.{replyOf};
+ghost use Rattle.fixing.specs.Fixed.{numbersOf};
 ghost use Rattle.cabinet.specs.View.{view};
 ghost use Rattle.cabinet.specs.Apply.{Carried};
 ghost use Rattle.cabinet.specs.Fixing.{FixCarried};
-ghost use Rattle.cabinet.specs.Lent.{numbersOf, FixLent, FixPart};
+ghost use Rattle.cabinet.specs.Lent.{FixLent, FixPart};
 use crate::Answer;
 use crate::Cabinet;
 use limits::Limits;
 use records::CardNumbers;
 use records::CardRecord;
 use recovery::FixReply;
-use refusal::Reply;
-use verdicts::Phase;
 
 // What fix hands back: an accepted one answers the stored numbers and the line of the cabinet.
 pub struct FixAnswer {
@@ -29,26 +28,13 @@ pub struct RecordsAnswer {
     pub records: [CardRecord; Limits::CARDS],
 }
 
-// What there is to put into the list of card records: the numbers of every card, and of none where fix is refused.
+// What there is to put into the list of card records.
 fn numbers_of(answer: FixAnswer) -> CardNumbers
-    ensures { λ r. ⌜ r ≡ numbersOf answer ⌝ }
+    ensures { λ r. ⌜ r ≡ numbersOf (answer .reply) (answer .cabinet .core) ⌝ }
 {
-    let cards = answer.cabinet.core.head.cards;
-    let stored = answer.cabinet.core.stored;
-    let line = answer.cabinet.core.line;
+    let core = answer.cabinet.core;
     let reply = answer.reply;
-    match reply {
-        FixReply::Fixed(_) => CardNumbers {
-            cards: cards as usize,
-            first: stored,
-            second: line,
-        },
-        FixReply::NotFixed(_) => CardNumbers {
-            cards: 0,
-            first: stored,
-            second: line,
-        },
-    }
+    fixing::numbers_of(reply, core)
 }
 
 // How many places of an array of 16 card records are lent.
@@ -74,21 +60,11 @@ impl Cabinet {
     pub fn trim(mut self) -> Answer
         ensures { λ r. ⌜ Carried self (trimPlan limits16 (view self)) (replyOf (r .reply)) (r .cabinet) ⌝ }
     {
-        let mut core = self.core;
-        let sound = soundness::cabinet_sound(&self.entries, &self.makers, core);
-        let base = core.base;
-        let stored = core.stored;
-        let reached = core.reached;
-        let head = core.head;
-        let r = recovery::trim_reply(sound, head);
-        match r {
-            Reply::Done => {
-                let lines = recovery::lines(&self.entries, head, base, stored, reached);
-                core.base = lines;
-                self.core = core;
-            }
-            Reply::Refused(_) => {}
-        }
+        let core = self.core;
+        let out = trimming::trim(&self.entries, &self.makers, core);
+        let r = out.reply;
+        let next = out.core;
+        self.core = next;
         Answer {
             cabinet: self,
             reply: r,
@@ -100,23 +76,11 @@ impl Cabinet {
         ensures { λ r. ⌜ FixCarried self places (now (list .entry)) (now (list .exit)) (r .reply) (r .cabinet) ⌝ }
     {
         let core = self.core;
-        let head = core.head;
-        let out = lost::fix(list, &self.entries, &self.makers, core, places);
+        let out = fixing::fix(list, &self.entries, &self.makers, core, places);
         let r = out.reply;
-        let lines = out.line;
+        let after = out.core;
         let mut next = self;
-        match r {
-            FixReply::Fixed(_) => {
-                let mut after = core;
-                after.line = lines;
-                after.ended = [0u32; Limits::PLACES];
-                after.rolled = 0;
-                let rolling = verdicts::in_phase(head, Phase::Rolling);
-                after.head = rolling;
-                next.core = after;
-            }
-            FixReply::NotFixed(_) => {}
-        }
+        next.core = after;
         FixAnswer {
             cabinet: next,
             reply: r,

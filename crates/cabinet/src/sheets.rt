@@ -15,23 +15,7 @@ impl Cabinet {
         ensures { λ r. ⌜ SheetCarried self card (now (buffer .entry)) (now (buffer .exit)) (r .reply) (r .cabinet) ⌝ }
     {
         let core = self.core;
-        let sound = soundness::cabinet_sound(&self.entries, &self.makers, core);
-        let base = core.base;
-        let head = core.head;
-        let rolled = core.rolled;
-        // "Frames run from base + 1 to stored."
-        let top = core.stored;
-        let r = card_sheet::write_card(
-            buffer,
-            &self.entries,
-            &self.makers,
-            sound,
-            head,
-            rolled,
-            base,
-            top,
-            card,
-        );
+        let r = card_sheet::sheet(buffer, &self.entries, &self.makers, core, card);
         SheetAnswer {
             cabinet: self,
             reply: r,

@@ -31,22 +31,7 @@ impl Cabinet {
         ensures { λ r. ⌜ Carried self (safePlan limits16 (view self) change) (safeReplyOf (r .reply)) (r .cabinet) ⌝ }
     {
         let core = self.core;
-        let sound = soundness::cabinet_sound(&self.entries, &self.makers, core);
-        let places = core.places;
-        let base = core.base;
-        let stored = core.stored;
-        let reached = core.reached;
-        let head = core.head;
-        let r = safety::safe_reply(
-            sound,
-            &self.makers,
-            head,
-            places,
-            base,
-            stored,
-            reached,
-            change,
-        );
+        let r = trimming::safe(&self.entries, &self.makers, core, change);
         SafeAnswer {
             cabinet: self,
             reply: r,

@@ -50,15 +50,12 @@ impl Cabinet {
         let out = taking::take(sound, core, change, card);
         let r = out.reply;
         let x = out.state;
-        if x != 0 {
-            let c = card as usize;
-            let k = out.maker;
-            let w = out.vector;
-            parts::put_maker(&mut self.makers, c, x, k);
-            parts::put_vector(&mut self.entries, c, x, w);
-        }
-        let next = out.core;
-        self.core = next;
+        let k = out.maker;
+        let w = out.vector;
+        frames::put_maker(&mut self.makers, card, x, k);
+        frames::put_vector(&mut self.entries, card, x, w);
+        let after = out.core;
+        self.core = after;
         Answer {
             cabinet: self,
             reply: r,

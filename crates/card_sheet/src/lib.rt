@@ -4,12 +4,15 @@ ghost use mathlib.Core.Path.{_≡_};
 ghost use mathlib.Core.Bool.{true};
 ghost use lib.ListN.{length};
 ghost use Rattle.protocol.specs.Model.{isRolling};
-ghost use Rattle.verdicts.specs.Shape.{phaseOf};
+ghost use Rattle.protocol.specs.Codec.{sheetPlan};
+ghost use Rattle.codec.specs.Sheets.{codec};
+ghost use Rattle.verdicts.specs.Shape.{limits16, phaseOf, modelOf};
 ghost use Rattle.card_sheet.specs.Card.{sessionFor, cardHeader, Within, sheetModel, sheetPlanFor, SheetTold};
 use frame::Header;
 use limits::Limits;
 use refusal::Refusal;
 use replies::is_card;
+use verdicts::Core;
 use verdicts::Head;
 use verdicts::is_rolling;
 use write::Written;
@@ -45,7 +48,7 @@ fn header_of(head: Head, rolled: u16, base: u32, stored: u32, card: u32) -> Head
 }
 
 // Writes a card's sheet at the front of the lent buffer: 28, 2, 4, or its length. A refusal changes no byte.
-pub fn write_card<'a, 'b>(
+fn write_card<'a, 'b>(
     b: &'a mut [u8],
     entries: &'b [u32; Limits::ENTRIES],
     makers: &'b [u32; Limits::FRAMES],
@@ -70,4 +73,23 @@ pub fn write_card<'a, 'b>(
     let high = verdicts::at(stored, card);
     let h = header_of(head, rolled, low, high, card);
     write::write_page(b, makers, entries, h)
+}
+
+// "A card's sheet may be written in every phase; buffer bytes beyond it keep what they held." Out of lent frames and the core of a cabinet; 28 is worked out here.
+pub fn sheet<'a, 'b>(
+    b: &'a mut [u8],
+    entries: &'b [u32; Limits::ENTRIES],
+    makers: &'b [u32; Limits::FRAMES],
+    core: Core,
+    card: u32,
+) -> Written
+    ensures { λ r. ⌜ SheetTold (sheetPlan codec limits16 (modelOf (now (entries .entry)) (now (makers .entry)) core) card (length (now (b .entry)))) (now (b .entry)) (now (b .exit)) r ⌝ }
+{
+    let sound = soundness::cabinet_sound(entries, makers, core);
+    let base = core.base;
+    let head = core.head;
+    let rolled = core.rolled;
+    // "Frames run from base + 1 to stored."
+    let top = core.stored;
+    write_card(b, entries, makers, sound, head, rolled, base, top, card)
 }

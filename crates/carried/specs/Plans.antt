@@ -1,12 +1,12 @@
 -- The plans of the calls that look at no frame, over a core and what the check for 28 found. With what it finds of a cabinet they are the plans of document 01's calls on that cabinet.
-use Prim.Native.Nat.{ℕ, suc, _*_, _<_}
+use Prim.Native.Nat.{ℕ, suc, _*_}
 use mathlib.Core.Path.{_≡_}
-use mathlib.Core.Bool.{Bool, true, not, cond}
+use mathlib.Core.Bool.{Bool, true, not, _&&_, cond}
 use mathlib.Core.List.{List, [], _∷_}
-use lib.Dec.{eqb}
+use lib.Dec.{eqb, ltb}
 use lib.ListN.{set}
 use lib.Seq.{sets}
-use Rattle.limits.specs.Document.{mostCards}
+use Rattle.limits.specs.Document.{mostCards, mostFrames}
 use Rattle.laws.specs.Below.{anyBelow, firstBelow}
 use Rattle.bits.specs.Member.{member}
 use Rattle.history.specs.Change.{CardSet}
@@ -55,12 +55,15 @@ takeOn whole s k c =
     judged whole (takeChecks limits16 (alone s) k c) done
     (shareEdit (alone s .place (placeOf limits16 (alone s) k)) c ∷ place (placeOf limits16 (alone s) k) (tookShare limits16 (alone s .place (placeOf limits16 (alone s) k)) c) ∷ [])
 
--- take: besides the core the frame that the card has made, state 0 for none
+-- the card has made that state: 0 for none, and the ring has a place for it
+abbrev pub isMade : (card state : ℕ) → Bool
+isMade c x = not (eqb x 0) && ltb (ringPlace c x) mostFrames
+
+-- take: besides the core the frame that the card has made
 pub record TakeCarriedOn (whole : Bool) (s : Core) (change card : ℕ) (vector : List ℕ) (state maker : ℕ) (reply : Reply) (next : Core) : Type 0 where
   pub carried : CoreCarried s (takeOn whole s change card) reply next
-  pub below : (state ≡ 0 → ⊥) → card < mostCards
-  pub entries : (l : List ℕ) → cond (eqb state 0) l (sets l (ringPlace card state * mostCards) (listOf (at vector))) ≡ entriesAll (takeOn whole s change card .edits) s l
-  pub makers : (l : List ℕ) → cond (eqb state 0) l (set l (ringPlace card state) maker) ≡ makersAll (takeOn whole s change card .edits) s l
+  pub entries : (l : List ℕ) → cond (isMade card state) (sets l (ringPlace card state * mostCards) (listOf (at vector))) l ≡ entriesAll (takeOn whole s change card .edits) s l
+  pub makers : (l : List ℕ) → cond (isMade card state) (set l (ringPlace card state) maker) l ≡ makersAll (takeOn whole s change card .edits) s l
 
 abbrev pub withdrawOn : Bool → Core → (change : ℕ) → Plan
 withdrawOn whole s k = judged whole (withdrawChecks limits16 (alone s) k) done (place (placeOf limits16 (alone s) k) freePlace ∷ [])

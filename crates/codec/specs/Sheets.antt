@@ -15,7 +15,9 @@ use Rattle.readout.specs.Joint.{lowestSession, pagesRead}
 use Rattle.history.specs.Change.{Numbers}
 use Rattle.history.specs.Vector.{Vector}
 use Rattle.history.specs.Line.{lineFrom}
-use Rattle.protocol.specs.Model.{Limits, rolling, Model, hasRolled, freePlace}
+use Rattle.protocol.specs.Model.{Limits, rolling, Model, hasRolled}
+use Rattle.protocol.specs.Edit.{withHead, withNumbers, withLine}
+use Rattle.protocol.specs.Calls.{freshModel}
 use Rattle.protocol.specs.Codec.{Codec}
 
 -- ---- writing
@@ -82,24 +84,17 @@ storedOn ps c = pageStored (pageAt ps c)
 -- last and pending are those of the card's last frame or all none, no change is open and the last change number is 0."
 abbrev pub restarted : Limits → List Page → Model
 restarted L ps =
-    record {
-      session = lowestSession ps;
-      phase = rolling;
-      count = 0;
-      present = λ c. ltb c (length ps);
-      numbers = record { base = λ c. pageAt ps c .header .base; stored = storedOn ps; held = storedOn ps; reached = storedOn ps };
-      memory =
-          record {
-            last = λ c. vectorOn (pageAt ps c) (storedOn ps c);
-            pending = λ c. vectorOn (pageAt ps c) (storedOn ps c);
-            maker = λ c. makerOn (pageAt ps c);
-            frame = λ c. vectorOn (pageAt ps c);
-          };
-      place = λ p. freePlace;
-      ended = λ p. 0;
-      line = λ c. lineFrom (L .width) (storedOn ps) (vectorOn (pageAt ps c)) (pageAt ps c .header .base) (storedOn ps c);
-      rolled = λ c. ltb (lowestSession ps) (pageAt ps c .header .session);
-    }
+    withLine
+    (withNumbers (withHead (freshModel (λ c. ltb c (length ps))) (lowestSession ps) rolling 0)
+    (record { base = λ c. pageAt ps c .header .base; stored = storedOn ps; held = storedOn ps; reached = storedOn ps })
+    (record {
+      last = λ c. vectorOn (pageAt ps c) (storedOn ps c);
+      pending = λ c. vectorOn (pageAt ps c) (storedOn ps c);
+      maker = λ c. makerOn (pageAt ps c);
+      frame = λ c. vectorOn (pageAt ps c);
+    }))
+    (λ c. lineFrom (L .width) (storedOn ps) (vectorOn (pageAt ps c)) (pageAt ps c .header .base) (storedOn ps c))
+    (λ c. ltb (lowestSession ps) (pageAt ps c .header .session))
 
 -- what a restart answers to any bytes, and the cabinet that it gives; refused, there is none
 abbrev pub restartReply : List ℕ → Reply

@@ -17,7 +17,8 @@ use Rattle.history.specs.Vector.{Vector, Tracked, share, vectorOf}
 use Rattle.history.specs.Line.{orphan}
 use Rattle.history.proofs.Climb.{climbed}
 use Rattle.protocol.specs.Model.{OpenChange, Model, freePlace, isUp, isCard, isOpen, decided, closed, toWrite, withCard, placeOf, freeAt, isKnown, tracked, withYes, withTaken}
-use Rattle.protocol.specs.Sound.{sound, numbersSound, roomToWrite}
+use Rattle.protocol.specs.Sound.{sound, roomToWrite}
+use Rattle.protocol.proofs.Passed.{NumbersPassed}
 use Rattle.protocol.specs.Edit.{Edit}
 use Rattle.protocol.specs.Edit as edit
 use Rattle.protocol.specs.Plan.{Plan, Check, Passed}
@@ -31,7 +32,7 @@ use Rattle.cabinet.specs.View.{view}
 use Rattle.cabinet.specs.Apply.{apply}
 use Rattle.verdicts.proofs.Held.{Fits, free-fits}
 use Rattle.cabinet.proofs.Laws.{beyond}
-use Rattle.carried.proofs.Known.{sound-places, sound-numbers, room-known}
+use Rattle.carried.proofs.Known.{sound-places, sound-card, room-known}
 use Rattle.demands.specs.Lists.{Sized}
 use Rattle.demands.proofs.Narrow.{Short, Narrow, with-narrow}
 use Rattle.demands.proofs.Laws.{EditFits, EditsFit}
@@ -70,16 +71,8 @@ took-fits o c f l =
 -- "base ≤ stored ≤ held ≤ reached"
 low-reached : (m : Model) → sound limits16 m ≡ true → (c : ℕ) → c < 16 → m .present c ≡ true → m .numbers .base c ≤ m .numbers .reached c
 low-reached m e c h p =
-    let n : numbersSound limits16 (m .numbers) c ≡ true = sound-numbers m e c h p in
-    let bs : Bool = leb (m .numbers .base c) (m .numbers .stored c) in
-    let sh : Bool = leb (m .numbers .stored c) (m .numbers .held c) in
-    let hr : Bool = leb (m .numbers .held c) (m .numbers .reached c) in
-    let rb : Bool = leb (m .numbers .reached c) (m .numbers .base c + limits16 .inHand) in
-    let three : bs && sh && hr ≡ true = and-left (bs && sh && hr) rb (and-left (bs && sh && hr && rb) (leb (m .numbers .reached c) (limits16 .greatestState)) n) in
-    let x : m .numbers .base c ≤ m .numbers .stored c = leb-true (m .numbers .base c) (m .numbers .stored c) (and-left bs sh (and-left (bs && sh) hr three)) in
-    let y : m .numbers .stored c ≤ m .numbers .held c = leb-true (m .numbers .stored c) (m .numbers .held c) (and-right bs sh (and-left (bs && sh) hr three)) in
-    let u : m .numbers .held c ≤ m .numbers .reached c = leb-true (m .numbers .held c) (m .numbers .reached c) (and-right (bs && sh) hr three) in
-    omega (arith, x, y, u)
+    let n : NumbersPassed limits16 m c = sound-card m e c h p .numbers in
+    omega (arith, n .base-stored, n .stored-held, n .held-reached)
 
 -- a card beyond the width is not in the cabinet, and its line is its base, 0
 lines-beyond : (s : Cabinet) → Sized s → (k : ℕ) → 16 ≤ k → lines limits16 (view s) k ≡ 0

@@ -23,10 +23,9 @@ use Rattle.protocol.specs.Sound.{sound}
 use Rattle.codec.specs.Sheets.{cardCount, sheetFrame, sheetOf}
 use Rattle.verdicts.specs.Shape.{limits16, at, presentOf}
 use Rattle.verdicts.proofs.Limits.{width16}
-use Rattle.card_sheet.specs.Card.{Within}
 use Rattle.cabinet.specs.declared.Cabinet.{Cabinet}
 use Rattle.cabinet.specs.View.{view}
-use Rattle.cabinet.proofs.Pages.{within}
+use Rattle.card_sheet.proofs.Pages.{within}
 
 entries-total : (n : ℕ) → total (replicate n 4) ≡ n * 4
 entries-total zero = refl
@@ -66,7 +65,7 @@ frames-few start n state f few e (suc count) =
 
 module _ (s : Cabinet) (e : sound limits16 (view s) ≡ true) where
   pub few-cards : s .core .head .cards ≤ 16
-  few-cards = within s 0 e .cards
+  few-cards = within (s .entries) (s .makers) (s .core) 0 e .cards
 
   cards-counted : cardCount limits16 (view s) ≡ s .core .head .cards
   cards-counted = count-first (presentOf (s .core .head .cards)) (limits16 .width) (s .core .head .cards) (omega (arith, few-cards, width16)) (λ k h. lt-ltb k (s .core .head .cards) h) (λ k h l. le-ltb k (s .core .head .cards) h)
@@ -84,5 +83,5 @@ module _ (s : Cabinet) (e : sound limits16 (view s) ≡ true) where
         length-append (headerLine format (p .header)) (framesBytes format (startOf format (p .header)) n (base + 1) (tabulate count frames)),
         header-line-length format (p .header),
         frames-few (startOf format (p .header)) n (base + 1) frames (omega (arith, cards-counted, few-cards)) (λ k. length-tabulate n (view s .memory .frame c (suc (base + k)))) count,
-        within s c e .high h,
+        within (s .entries) (s .makers) (s .core) c e .high h,
       )

@@ -32,10 +32,10 @@ use Rattle.verdicts.proofs.Held.{at-list}
 use Rattle.verdicts.proofs.Checks.{done-plan, refused-plan}
 use Rattle.recovery.specs.declared.FixReply.the-variants.{Fixed, NotFixed}
 use Rattle.merge.specs.Merge.{maker, CardRises, Rises}
-use Rattle.lost.specs.Lost.{Rising, Counted, Written, endsOf, framedBy, endedBy, lostBy}
+use Rattle.listing.specs.Lost.{Rising, Listed, endsOf, framedBy, endedBy, lostBy}
 use Rattle.recovery.specs.Fix.{rowsOf, listAfter, linesAfter, butLast, FixWorked}
 use Rattle.recovery.proofs.Rows.{length-selected, selected-same}
-use Rattle.lost.proofs.Rise.{those, rising-once, rising-one}
+use Rattle.listing.proofs.Rise.{those, rising-once, rising-one}
 use Rattle.lost.proofs.Rising.{sound-rises}
 
 -- ---- some list has each lost change once: none is above the greatest numbers that stand in the arrays
@@ -226,22 +226,25 @@ module _ (entries makers : List ℕ) (core : Core) where
       pub early-told : (q : Refusal) → first ≡ Refused q → FixWorked found thePlan (core .head .cards) (core .stored) z before before (NotFixed q)
       early-told q e = subst (λ (l : List ℕ). FixWorked found thePlan (core .head .cards) (core .stored) l before before (NotFixed q)) (sym ez) (told-early q e)
 
-      counted : (n : ℕ) → Counted (lostBy makers line (core .reached) (core .ended) (core .head .cards)) n → Counted (lostBy makers foundLine (core .reached) (core .ended) (core .head .cards)) n
-      counted n r = subst (λ (l : List ℕ). Counted (lostBy makers l (core .reached) (core .ended) (core .head .cards)) n) el r
+      -- what the walk over the changes lost told, at the line as it is
+      listed : (u v : List ℕ) (n : ℕ) → Listed (lostBy makers line (core .reached) (core .ended) (core .head .cards)) u v n → Listed (lostBy makers foundLine (core .reached) (core .ended) (core .head .cards)) u v n
+      listed u v n r = subst (λ (l : List ℕ). Listed (lostBy makers l (core .reached) (core .ended) (core .head .cards)) u v n) el r
 
-      pub short-told : (n : ℕ) → Counted (lostBy makers line (core .reached) (core .ended) (core .head .cards)) n → first ≡ Done → ltb cp (countBelow (limits16 .width) (presentOf (core .head .cards))) || ltb (length before) n ≡ true
-          → FixWorked found thePlan (core .head .cards) (core .stored) z before before (NotFixed TooShort)
-      short-told n r e s =
-          let r′ : Counted (lostBy makers foundLine (core .reached) (core .ended) (core .head .cards)) n = counted n r in
-          subst (λ (l : List ℕ). FixWorked found thePlan (core .head .cards) (core .stored) l before before (NotFixed TooShort)) (sym ez)
-          (told-short (r′ .list) e (r′ .rising) (ap (λ (k : ℕ). ltb cp (countBelow (limits16 .width) (presentOf (core .head .cards))) || ltb (length before) k) (sym (r′ .count)) ∙ s))
+      module _ (u v : List ℕ) (n : ℕ) (r : Listed (lostBy makers line (core .reached) (core .ended) (core .head .cards)) u v n) (e : first ≡ Done) where
+        abbrev all : List ℕ
+        all = listed u v n r .list
 
-      pub fixed-told : (n : ℕ) (after : List ℕ) → Counted (lostBy makers line (core .reached) (core .ended) (core .head .cards)) n → Written (lostBy makers line (core .reached) (core .ended) (core .head .cards)) before after → first ≡ Done → ltb cp (countBelow (limits16 .width) (presentOf (core .head .cards))) || ltb (length before) n ≡ false
-          → FixWorked found thePlan (core .head .cards) (core .stored) line before after (Fixed n)
-      fixed-told n after r w e s =
-          let r′ : Counted (lostBy makers foundLine (core .reached) (core .ended) (core .head .cards)) n = counted n r in
-          let w′ : Written (lostBy makers foundLine (core .reached) (core .ended) (core .head .cards)) before after = subst (λ (l : List ℕ). Written (lostBy makers l (core .reached) (core .ended) (core .head .cards)) before after) el w in
-          let s′ : ltb cp (countBelow (limits16 .width) (presentOf (core .head .cards))) || ltb (length before) (length (r′ .list)) ≡ false = ap (λ (k : ℕ). ltb cp (countBelow (limits16 .width) (presentOf (core .head .cards))) || ltb (length before) k) (sym (r′ .count)) ∙ s in
-          let l : length (r′ .list) ≤ length before = ltb-false (length before) (length (r′ .list)) (or-out (ltb cp (countBelow (limits16 .width) (presentOf (core .head .cards)))) (ltb (length before) (length (r′ .list))) s′) in
-          let t : FixWorked found thePlan (core .head .cards) (core .stored) foundLine before after (Fixed (length (r′ .list))) = told-fixed (r′ .list) after e (r′ .rising) s′ l (w′ .stored ∙ ap (sets before 0) (rising-one (w′ .rising) (r′ .rising))) in
-          subst (λ (k : ℕ). FixWorked found thePlan (core .head .cards) (core .stored) line before after (Fixed k)) (sym (r′ .count)) (subst (λ (x : List ℕ). FixWorked found thePlan (core .head .cards) (core .stored) x before after (Fixed (length (r′ .list)))) (sym el) t)
+        -- the last check, of the list itself
+        room : (b : Bool) → ltb cp (countBelow (limits16 .width) (presentOf (core .head .cards))) || ltb (length before) n ≡ b → ltb cp (countBelow (limits16 .width) (presentOf (core .head .cards))) || ltb (length before) (length all) ≡ b
+        room b s = ap (λ (k : ℕ). ltb cp (countBelow (limits16 .width) (presentOf (core .head .cards))) || ltb (length before) k) (sym (listed u v n r .count)) ∙ s
+
+        pub short-told : ltb cp (countBelow (limits16 .width) (presentOf (core .head .cards))) || ltb (length before) n ≡ true → FixWorked found thePlan (core .head .cards) (core .stored) z before before (NotFixed TooShort)
+        short-told s =
+            subst (λ (l : List ℕ). FixWorked found thePlan (core .head .cards) (core .stored) l before before (NotFixed TooShort)) (sym ez) (told-short all e (listed u v n r .rising) (room true s))
+
+        pub fixed-told : (after : List ℕ) (k : ℕ) → Listed (lostBy makers line (core .reached) (core .ended) (core .head .cards)) before after k → ltb cp (countBelow (limits16 .width) (presentOf (core .head .cards))) || ltb (length before) n ≡ false
+            → FixWorked found thePlan (core .head .cards) (core .stored) line before after (Fixed n)
+        fixed-told after k w s =
+            let l : length all ≤ length before = ltb-false (length before) (length all) (or-out (ltb cp (countBelow (limits16 .width) (presentOf (core .head .cards)))) (ltb (length before) (length all)) (room false s)) in
+            let t : FixWorked found thePlan (core .head .cards) (core .stored) foundLine before after (Fixed (length all)) = told-fixed all after e (listed u v n r .rising) (room false s) l (listed before after k w .stored ∙ ap (sets before 0) (rising-one (listed before after k w .rising) (listed u v n r .rising))) in
+            subst (λ (k : ℕ). FixWorked found thePlan (core .head .cards) (core .stored) line before after (Fixed k)) (sym (listed u v n r .count)) (subst (λ (x : List ℕ). FixWorked found thePlan (core .head .cards) (core .stored) x before after (Fixed (length all))) (sym el) t)

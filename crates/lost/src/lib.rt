@@ -7,12 +7,11 @@ ghost use lib.Dec.{ltb};
 ghost use lib.ListN.{length};
 ghost use Rattle.laws.specs.Below.{countBelow};
 ghost use Rattle.protocol.specs.Calls.{fixChecks, fixPlan};
-ghost use Rattle.verdicts.specs.Shape.{limits16, presentOf, headModel, modelOf};
+ghost use Rattle.verdicts.specs.Shape.{limits16, listOf, presentOf, headModel, modelOf};
 ghost use Rattle.verdicts.specs.Answers.{firstFailing, after28};
 ghost use Rattle.recovery.specs.Fix.{butLast, FixWorked};
 use limits::Limits;
-use listing::count_lost;
-use listing::write_lost;
+use listing::list_lost;
 use recovery::FixReply;
 use recovery::Outcome;
 use refusal::Refusal;
@@ -21,8 +20,6 @@ use replies::next;
 use verdicts::Core;
 use verdicts::Head;
 use verdicts::is_down;
-
-mod listing;
 
 // The checks before the last: 28, 20, 24.
 fn fix_reply(sound: bool, head: Head) -> Reply
@@ -48,6 +45,16 @@ fn is_short(head: Head, places: usize, room: usize, lost: usize) -> bool
     (places < rows as usize) | (room < lost)
 }
 
+// Nothing is worked out where fix is refused.
+fn not_fixed(q: Refusal) -> Outcome
+    ensures { λ r. ⌜ (r .line ≡ listOf (λ c. 0)) × (r .reply ≡ FixReply.NotFixed q) ⌝ }
+{
+    Outcome {
+        line: [0u32; Limits::CARDS],
+        reply: FixReply::NotFixed(q),
+    }
+}
+
 // 9. fix: the line of each card, and the numbers of the changes lost in the lent list; nothing where it is refused.
 // `places` are the places for card records.
 pub fn fix<'a, 'b>(
@@ -69,24 +76,20 @@ pub fn fix<'a, 'b>(
     match first {
         Reply::Done => {
             let lines = recovery::lines(entries, head, base, stored, reached);
-            let n = count_lost(makers, lines, reached, ended, head.cards);
+            // counted first, in a list of its own
+            let mut aside = [0u32; 1];
+            let n = list_lost(&mut aside, makers, lines, reached, ended, head.cards);
             let short = is_short(head, places, list.len(), n);
             if short {
-                Outcome {
-                    line: [0u32; Limits::CARDS],
-                    reply: FixReply::NotFixed(Refusal::TooShort),
-                }
+                not_fixed(Refusal::TooShort)
             } else {
-                write_lost(list, makers, lines, reached, ended, head.cards);
+                list_lost(list, makers, lines, reached, ended, head.cards);
                 Outcome {
                     line: lines,
                     reply: FixReply::Fixed(n),
                 }
             }
         }
-        Reply::Refused(q) => Outcome {
-            line: [0u32; Limits::CARDS],
-            reply: FixReply::NotFixed(q),
-        },
+        Reply::Refused(q) => not_fixed(q),
     }
 }

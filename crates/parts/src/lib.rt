@@ -1,33 +1,28 @@
-// What the calls write into a cabinet's lists, and what an opening answers.
-ghost use Prim.Native.Nat.{ℕ, _+_, _*_, _≤_, _<_};
+// What the calls write into a cabinet's lists, what an opening answers, and how a cabinet begins.
+ghost use Prim.Native.Nat.{ℕ, _<_};
 ghost use mathlib.Core.Path.{_≡_};
-ghost use mathlib.Core.Bool.{cond};
-ghost use lib.ListN.{set};
-ghost use lib.Seq.{sets};
+ghost use mathlib.Core.Bool.{_&&_, cond};
+ghost use lib.Dec.{leb};
+ghost use Rattle.refusal.specs.declared.Refusal.the-variants.{CardCount};
 ghost use Rattle.laws.specs.Below.{tabulate};
 ghost use Rattle.bits.specs.Member.{member};
 ghost use Rattle.history.specs.Vector.{joined};
 ghost use Rattle.protocol.specs.Edit.{remembered};
 ghost use Rattle.protocol.specs.Model.{freePlace};
-ghost use Rattle.verdicts.specs.Shape.{limits16, at, ringPlace, listOf, vectorFor, openAt, placeFor};
+ghost use Rattle.protocol.specs.Plan.{accepted, refused, done};
+ghost use Rattle.protocol.specs.Calls.{freshRefused};
+ghost use Rattle.verdicts.specs.Shape.{limits16, at, listOf, vectorFor, openAt, placeFor};
+ghost use Rattle.verdicts.specs.Answers.{replyOf};
 ghost use Rattle.parts.specs.Opening.{openAnswer};
+ghost use Rattle.parts.specs.Fresh.{freshHead, voidHead};
 use limits::Limits;
 use refusal::Reply;
+use refusal::Refusal;
+use verdicts::Head;
 use verdicts::OpenReply;
+use verdicts::Phase;
 use verdicts::Place;
 use verdicts::Vector;
-
-// The vector of a frame, at its place in the ring.
-fn put_frame(entries: &mut [u32; Limits::ENTRIES], from: usize, v: [u32; Limits::CARDS])
-    requires { ⌜ from + 16 ≤ 12288 ⌝ }
-    ensures { λ r. ⌜ now (entries .exit) ≡ sets (now (entries .entry)) from (listOf (at v)) ⌝ }
-{
-    let mut j: usize = 0;
-    while j < Limits::CARDS {
-        entries[from + j] = v[j];
-        j += 1;
-    }
-}
 
 // The vector of a decided change, as a card keeps it.
 pub fn vector_of(o: Place) -> Vector
@@ -46,25 +41,6 @@ pub fn raised(pending: Vector, v: Vector) -> Vector
     let w = v.entries;
     let j = vectors::join(q, w);
     Vector { entries: j }
-}
-
-// The vector of state x of card c, at its place in the ring.
-pub fn put_vector(entries: &mut [u32; Limits::ENTRIES], c: usize, x: u32, v: Vector)
-    requires { ⌜ c < 16 ⌝ }
-    ensures { λ r. ⌜ now (entries .exit) ≡ sets (now (entries .entry)) (ringPlace c x * 16) (listOf (at (v .entries))) ⌝ }
-{
-    let place = c * Limits::IN_HAND + (x % Limits::IN_HAND_U32) as usize;
-    let w = v.entries;
-    put_frame(entries, place * Limits::CARDS, w);
-}
-
-// The change that made state x of card c, at its place in the ring.
-pub fn put_maker(makers: &mut [u32; Limits::FRAMES], c: usize, x: u32, maker: u32)
-    requires { ⌜ c < 16 ⌝ }
-    ensures { λ r. ⌜ now (makers .exit) ≡ set (now (makers .entry)) (ringPlace c x) maker ⌝ }
-{
-    let place = c * Limits::IN_HAND + (x % Limits::IN_HAND_U32) as usize;
-    makers[place] = maker;
 }
 
 // The first number where the test passes, and the second where it fails.
@@ -123,5 +99,36 @@ pub fn open_answer(r: Reply, count: u32) -> OpenReply
     match r {
         Reply::Done => OpenReply::Opened(count + 1),
         Reply::Refused(q) => OpenReply::NotOpened(q),
+    }
+}
+
+// A cabinet has 1 to 16 cards.
+fn cards_fit(cards: u32) -> bool
+    ensures { λ r. ⌜ r ≡ (leb 1 cards && leb cards (limits16 .width)) ⌝ }
+{
+    (1 <= cards) & (cards <= Limits::CARDS_U32)
+}
+
+// What fresh answers: 1, "number of cards not 1 to 16", or acceptance.
+pub fn fresh_reply(cards: u32) -> Reply
+    ensures { λ r. ⌜ replyOf r ≡ cond (freshRefused limits16 cards) (refused CardCount) (accepted done) ⌝ }
+{
+    let good = cards_fit(cards);
+    if good {
+        Reply::Done
+    } else {
+        Reply::Refused(Refusal::CardCount)
+    }
+}
+
+// "A fresh cabinet has session 1, phase up"; with refusal 1, the void head.
+pub fn fresh_head(cards: u32) -> Head
+    ensures { λ r. ⌜ r ≡ cond (freshRefused limits16 cards) voidHead (freshHead cards) ⌝ }
+{
+    let good = cards_fit(cards);
+    if good {
+        verdicts::head_of(1, cards, Phase::Up)
+    } else {
+        verdicts::head_of(0, 0, Phase::Up)
     }
 }

@@ -1,3 +1,2 @@
-pub mod Rolled
 pub mod Ring
 pub mod Shows

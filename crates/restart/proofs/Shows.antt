@@ -46,7 +46,7 @@ use Rattle.verdicts.proofs.Held.{list-known, list-same, at-list, at-list-all, m
 use Rattle.cabinet.specs.declared.Cabinet.{Cabinet}
 use Rattle.cabinet.specs.View.{view}
 use Rattle.cabinet.proofs.Laws.{beyond, places-by}
-use Rattle.cabinet.proofs.Told.{none-ended}
+use Rattle.fixing.proofs.Told.{none-ended}
 use Rattle.readout.proofs.Accepted.{accepted-pages, readout-pages}
 use Rattle.readback.proofs.Again.{writes-the-same}
 use Rattle.readback.proofs.Whole.{never-refused-28}

@@ -16,7 +16,7 @@ pub fn roll(sound: bool, mut core: Core, card: u32) -> CoreAnswer
 {
     let rolled = core.rolled;
     let head = core.head;
-    let r = recovery::roll_reply(sound, head, rolled, card);
+    let r = rollback::roll_reply(sound, head, rolled, card);
     match r {
         Reply::Done => {
             let c = card as usize;
@@ -25,11 +25,11 @@ pub fn roll(sound: bool, mut core: Core, card: u32) -> CoreAnswer
             core.stored[c] = x;
             core.held[c] = x;
             core.reached[c] = x;
-            let more = recovery::rolled_with(rolled, card);
+            let more = rollback::rolled_with(rolled, card);
             core.rolled = more;
-            let done = recovery::is_last(head, rolled, card);
+            let done = rollback::is_last(head, rolled, card);
             if done {
-                let none = recovery::no_vectors();
+                let none = rollback::no_vectors();
                 core.last = none;
                 core.pending = none;
                 core.rolled = 0;

@@ -33,7 +33,7 @@ use Rattle.verdicts.specs.Shape.{limits16, phaseOf, ringPlace, inHand, presentO
 use Rattle.verdicts.proofs.Limits.{width16, inHand48, greatest60000, greatestNumber32}
 use Rattle.cabinet.specs.declared.Cabinet.{Cabinet}
 use Rattle.cabinet.specs.View.{view}
-use Rattle.cabinet.proofs.Pages.{within}
+use Rattle.card_sheet.proofs.Pages.{within}
 use Rattle.sound_cabinet.specs.Back.{Held, SheetReadsBack, SheetsReadBack, WrittenReadsBack}
 
 -- ---- a sheet of n cards, written and read by itself
@@ -59,7 +59,7 @@ limits = record { width = width16; inHand = inHand48; greatestState = greatest60
 session-small : (s : Cabinet) → Held s → sound limits16 (view s) ≡ true → (c : ℕ) → sheetSession (view s) c < 16 ^ 8
 session-small s held e c =
     cond-case (λ (k : ℕ). k < 16 ^ 8) (isRolling (phaseOf (s .core .head .phase)) && member (s .core .rolled) c)
-    (λ r. let other : ¬ (s .core .head .session ≡ 4294967295) = within s c e .next (and-left (isRolling (phaseOf (s .core .head .phase))) (member (s .core .rolled) c) r) in omega (arith, held .session, other))
+    (λ r. let other : ¬ (s .core .head .session ≡ 4294967295) = within (s .entries) (s .makers) (s .core) c e .next (and-left (isRolling (phaseOf (s .core .head .phase))) (member (s .core .rolled) c) r) in omega (arith, held .session, other))
     (λ r. held .session)
 
 maker-small : (s : Cabinet) → Held s → (c x : ℕ) → view s .memory .maker c x < 16 ^ 8
@@ -73,7 +73,7 @@ sheets-read-back s held e c here =
     }
   where
     few : s .core .head .cards ≤ 16
-    few = within s c e .cards
+    few = within (s .entries) (s .makers) (s .core) c e .cards
 
     is-sheet : SheetOf format (s .core .head .cards) c (sheetOf limits16 (view s) c)
     is-sheet = sheet-of limits16 limits (s .core .head .cards) (view s) (omega (arith, few, width16)) (λ d. refl) e c here (session-small s held e c) (λ x a b. maker-small s held c x)

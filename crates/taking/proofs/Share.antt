@@ -4,10 +4,10 @@ use mathlib.Core.Path.{_≡_, refl, sym, _∙_, ap, ap₂}
 use mathlib.Core.Bool.{Bool, true, false, not, cond}
 use mathlib.Core.List.{List, [], _∷_}
 use native.Mathlib.Omega.{arith}
-use lib.Dec.{eqb}
 use lib.ListN.{set}
 use lib.Seq.{sets}
-use borrow.Author.Tests.{ne-eqb}
+use borrow.Author.Tests.{ne-eqb, lt-ltb}
+use Rattle.laws.proofs.Logic.{and-intro, not-intro}
 use Rattle.bits.specs.Member.{member}
 use Rattle.refusal.specs.declared.Refusal.{Refusal}
 use Rattle.protocol.specs.Model.{placeOf}
@@ -25,7 +25,7 @@ use Rattle.verdicts.specs.Answers.{replyOf, firstFailing, after28}
 use Rattle.verdicts.specs.Shape.{limits16, at, listOf, vectorAt, vectorFor, ringPlace, openOf, openAt, placeFor, withVectors, withNumbers, withPlaces}
 use Rattle.verdicts.specs.Applied.{appliedAll, entriesAll, makersAll}
 use Rattle.verdicts.proofs.Checks.{done-plan, refused-plan}
-use Rattle.carried.specs.Plans.{alone, TakeCarriedOn}
+use Rattle.carried.specs.Plans.{alone, isMade, TakeCarriedOn}
 use Rattle.carried.proofs.Call.{core-done, core-refused}
 
 -- the edits of a share, where the card is written and where it is only read
@@ -51,24 +51,30 @@ share-grown s c x p w q sh ew ex ev el es =
     (λ i. withVectors (withNumbers (withPlaces s (set (s .places) p (es i)) (s .ended)) (s .base) (s .stored) (set (s .held) c (ex i)) (set (s .reached) c (ex i))) (set (s .last) c (l i)) (set (s .pending) c (l i)))
     ∙ ap (λ (b : Bool). appliedAll (chosen b q p c) s) (sym ew)
 
+-- a card that is there and has made a state
+made-known : (c x r : ℕ) → c < 16 → x ≡ suc r → isMade c x ≡ true
+made-known c x r h e = and-intro (not-intro (ne-eqb x 0 (λ (z : x ≡ 0). absurd (omega (arith, e, z))))) (lt-ltb (ringPlace c x) 768 (omega arith))
+
 pub grown-entries : (s : Core) (c x p : ℕ) (w : Vector) (q : Place)
+    → c < 16
     → member (q .writes) c ≡ true
     → x ≡ suc (at (s .reached) c)
     → w .entries ≡ q .vector
     → (l : List ℕ)
-    → cond (eqb x 0) l (sets l (ringPlace c x * 16) (listOf (at (w .entries)))) ≡ entriesAll (shareEdits q p c) s l
-grown-entries s c x p w q ew ex ev l =
-    ap (λ (b : Bool). cond b l (sets l (ringPlace c x * 16) (listOf (at (w .entries))))) (ne-eqb x 0 (λ (z : x ≡ 0). absurd (omega (arith, ex, z))))
+    → cond (isMade c x) (sets l (ringPlace c x * 16) (listOf (at (w .entries)))) l ≡ entriesAll (shareEdits q p c) s l
+grown-entries s c x p w q h ew ex ev l =
+    ap (λ (b : Bool). cond b (sets l (ringPlace c x * 16) (listOf (at (w .entries)))) l) (made-known c x (at (s .reached) c) h ex)
     ∙ ap₂ (λ (y : ℕ) (v : List ℕ). sets l (ringPlace c y * 16) (listOf (at v))) ex ev
     ∙ ap (λ (b : Bool). entriesAll (chosen b q p c) s l) (sym ew)
 
 pub grown-makers : (s : Core) (c x p : ℕ) (q : Place)
+    → c < 16
     → member (q .writes) c ≡ true
     → x ≡ suc (at (s .reached) c)
     → (l : List ℕ)
-    → cond (eqb x 0) l (set l (ringPlace c x) (q .number)) ≡ makersAll (shareEdits q p c) s l
-grown-makers s c x p q ew ex l =
-    ap (λ (b : Bool). cond b l (set l (ringPlace c x) (q .number))) (ne-eqb x 0 (λ (z : x ≡ 0). absurd (omega (arith, ex, z))))
+    → cond (isMade c x) (set l (ringPlace c x) (q .number)) l ≡ makersAll (shareEdits q p c) s l
+grown-makers s c x p q h ew ex l =
+    ap (λ (b : Bool). cond b (set l (ringPlace c x) (q .number)) l) (made-known c x (at (s .reached) c) h ex)
     ∙ ap (λ (y : ℕ). set l (ringPlace c y) (q .number)) ex
     ∙ ap (λ (b : Bool). makersAll (chosen b q p c) s l) (sym ew)
 
@@ -100,18 +106,16 @@ module _ (whole : Bool) (s : Core) (k c : ℕ) where
   pub take-done : (p : ℕ) (vector : List ℕ) (state maker : ℕ) (r : Reply) (next : Core)
       → r ≡ firstFailing checks
       → r ≡ Done
-      → c < 16
       → p ≡ placeOf limits16 (alone s) k
       → next ≡ appliedAll (those p) s
-      → ((l : List ℕ) → cond (eqb state 0) l (sets l (ringPlace c state * 16) (listOf (at vector))) ≡ entriesAll (those p) s l)
-      → ((l : List ℕ) → cond (eqb state 0) l (set l (ringPlace c state) maker) ≡ makersAll (those p) s l)
+      → ((l : List ℕ) → cond (isMade c state) (sets l (ringPlace c state * 16) (listOf (at vector))) l ≡ entriesAll (those p) s l)
+      → ((l : List ℕ) → cond (isMade c state) (set l (ringPlace c state) maker) l ≡ makersAll (those p) s l)
       → TakeCarriedOn whole s k c vector state maker (replyOf r) next
-  take-done p vector state maker r next e d b ep n fe fm =
+  take-done p vector state maker r next e d ep n fe fm =
       let P : ℕ = placeOf limits16 (alone s) k in
       let pl : checked checks done (those P) ≡ record { reply = accepted done; edits = those P } = done-plan checks done (those P) (sym e ∙ d) in
       record {
         carried = core-done s next checks (those P) r e d (n ∙ ap (λ (i : ℕ). appliedAll (those i) s) ep);
-        below = λ z. b;
         entries = λ l. fe l ∙ ap (λ (i : ℕ). entriesAll (those i) s l) ep ∙ sym (ap (λ (x : Plan). entriesAll (x .edits) s l) pl);
         makers = λ l. fm l ∙ ap (λ (i : ℕ). makersAll (those i) s l) ep ∙ sym (ap (λ (x : Plan). makersAll (x .edits) s l) pl);
       }
@@ -123,7 +127,6 @@ module _ (whole : Bool) (s : Core) (k c : ℕ) where
       let pl : checked checks done (those P) ≡ record { reply = refused q; edits = [] } = refused-plan checks done (those P) q (sym e ∙ d) in
       record {
         carried = core-refused s next checks (those P) r q e d n;
-        below = λ z. absurd (z refl);
         entries = λ l. sym (ap (λ (x : Plan). entriesAll (x .edits) s l) pl);
         makers = λ l. sym (ap (λ (x : Plan). makersAll (x .edits) s l) pl);
       }

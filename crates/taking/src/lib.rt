@@ -38,8 +38,7 @@ pub fn take(sound: bool, mut core: Core, change: u32, card: u32) -> TakenCore
             core.places[at] = shared;
             let w = parts::vector_of(o);
             let c = card as usize;
-            let written = bits::has(o.writes, card);
-            if written {
+            if bits::has(o.writes, card) {
                 let x = core.reached[c] + 1;
                 core.last[c] = w;
                 core.pending[c] = w;
@@ -50,8 +49,7 @@ pub fn take(sound: bool, mut core: Core, change: u32, card: u32) -> TakenCore
                 maker = o.number;
             } else {
                 let pending = core.pending;
-                let q = pending[c];
-                let q = parts::raised(q, w);
+                let q = parts::raised(pending[c], w);
                 core.pending[c] = q;
             }
         }

@@ -1,11 +1,23 @@
 -- `lost::fix` answers what the plan of fix says: the checks refuse, or the list is too short, or the lines and the changes lost are told. Assumes nothing.
-use mathlib.Core.Path.{refl, sym, _∙_}
+use Prim.Native.Nat.{ℕ}
+use mathlib.Core.Path.{_≡_, refl, sym, _∙_, subst}
+use mathlib.Core.List.{List}
 use lib.ListN.{replicate}
+use Rattle.refusal.specs.declared.Refusal.{Refusal}
+use Rattle.protocol.specs.Model.{Model}
+use Rattle.protocol.specs.Plan.{Plan}
+use Rattle.recovery.specs.declared.FixReply.{FixReply}
+use Rattle.recovery.specs.declared.FixReply.the-variants.{NotFixed}
+use Rattle.recovery.specs.Fix.{FixWorked}
 use Rattle.verdicts.proofs.Held.{zero-listed}
 use Rattle.lost.proofs.Told.{foundLine, first-told, line-rises, early-told, short-told, fixed-told}
 use borrow.Author.Needs.{needs}
 use Rattle.lost.proofs.fix.Statement.{statement}
 use Rattle.lost.proofs.fix.Tie as tie
+
+-- a refusal, as it is answered
+answered : {m : Model} {p : List ℕ → Plan} {n : ℕ} {stored line before : List ℕ} {q : Refusal} (y : FixReply) → y ≡ NotFixed q → FixWorked m p n stored line before before (NotFixed q) → FixWorked m p n stored line before before y
+answered {m} {p} {n} {stored} {line} {before} y e t = subst (FixWorked m p n stored line before before) (sym e) t
 
 cabinet-sound-requires : tie.Need-cabinet-sound-requires
 cabinet-sound-requires c κs = search needs
@@ -19,44 +31,57 @@ enum-told c = search needs
 lines-requires : tie.Need-lines-requires
 lines-requires c κs = search needs
 
-count-lost-requires : tie.Need-count-lost-requires
-count-lost-requires c κs = search needs
+slice-aggregate-list-lost : tie.Need-slice-aggregate-list-lost
+slice-aggregate-list-lost c = search needs
+
+list-lost-requires : tie.Need-list-lost-requires
+list-lost-requires c κs = search needs
 
 is-short-requires : tie.Need-is-short-requires
 is-short-requires c κs = search needs
 
-write-lost-requires : tie.Need-write-lost-requires
-write-lost-requires c κs = search needs
+not-fixed-requires : tie.Need-not-fixed-requires
+not-fixed-requires c κs = search needs
+
+list-lost-requires-2 : tie.Need-list-lost-requires-2
+list-lost-requires-2 c κs = search needs
 
 enum-known-first : tie.Need-enum-known-first
 enum-known-first c = search needs
 
+not-fixed-requires-2 : tie.Need-not-fixed-requires-2
+not-fixed-requires-2 c κs = search needs
+
 returns : tie.Need-returns
 returns c =
-    let a : _ = c .before .before .before .before .before .before .before .before .before .before .before .before .before .before .args in
-    let line : _ = c .before .before .before .lines in
-    let done : _ = first-told (a .entries .now) (a .makers .now) (a .core) (a .places) (a .list .now) (c .before .before .before .before .before .before .before .cabinet-sound .result) (c .before .before .before .before .before .before .fix-reply .result) (c .before .before .before .before .before .before .before .cabinet-sound .ensures) (c .before .before .before .before .before .before .fix-reply .ensures) ∙ c .before .before .before .before .enum-told .given .1 in
-    short-told (a .entries .now) (a .makers .now) (a .core) (a .places) (a .list .now) (line .result) (line .ensures) (replicate 16 0) zero-listed (c .before .before .count-lost .result)
-    (c .before .before .count-lost .ensures (line-rises (a .entries .now) (a .makers .now) (a .core) (a .places) (a .list .now) (line .result) (line .ensures) (replicate 16 0) zero-listed done))
-    done (sym (c .before .is-short .ensures) ∙ c .if1 .taken)
+    let a : _ = c .before .before .before .before .before .before .before .before .before .before .before .before .before .before .before .before .before .args in
+    let line : _ = c .before .before .before .before .before .before .lines in
+    let count : _ = c .before .before .before .before .list-lost in
+    let none : _ = c .not-fixed in
+    let done : _ = first-told (a .entries .now) (a .makers .now) (a .core) (a .places) (a .list .now) (c .before .before .before .before .before .before .before .before .before .before .cabinet-sound .result) (c .before .before .before .before .before .before .before .before .before .fix-reply .result) (c .before .before .before .before .before .before .before .before .before .before .cabinet-sound .ensures) (c .before .before .before .before .before .before .before .before .before .fix-reply .ensures) ∙ c .before .before .before .before .before .before .before .enum-told .given .1 in
+    let rises : _ = line-rises (a .entries .now) (a .makers .now) (a .core) (a .places) (a .list .now) (line .result) (line .ensures) (none .result .line) (none .ensures .0) done in
+    answered (none .result .reply) (none .ensures .1)
+    (short-told (a .entries .now) (a .makers .now) (a .core) (a .places) (a .list .now) (line .result) (line .ensures) (none .result .line) (none .ensures .0) _ _ (count .result) (count .ensures rises) done (sym (c .before .before .is-short .ensures) ∙ c .before .if1 .taken))
 
 same-length : tie.Need-same-length
 same-length c = search needs
 
 returns-2 : tie.Need-returns-2
 returns-2 c =
-    let a : _ = c .before .before .before .before .before .before .before .before .before .before .before .before .before .before .before .before .before .before .args in
-    let line : _ = c .before .before .before .before .before .before .before .lines in
-    let count : _ = c .before .before .before .before .before .before .count-lost in
-    let done : _ = first-told (a .entries .now) (a .makers .now) (a .core) (a .places) (a .list .now) (c .before .before .before .before .before .before .before .before .before .before .before .cabinet-sound .result) (c .before .before .before .before .before .before .before .before .before .before .fix-reply .result) (c .before .before .before .before .before .before .before .before .before .before .before .cabinet-sound .ensures) (c .before .before .before .before .before .before .before .before .before .before .fix-reply .ensures) ∙ c .before .before .before .before .before .before .before .before .enum-told .given .1 in
+    let a : _ = c .before .before .before .before .before .before .before .before .before .before .before .before .before .before .before .before .before .before .before .before .args in
+    let line : _ = c .before .before .before .before .before .before .before .before .before .lines in
+    let count : _ = c .before .before .before .before .before .before .before .list-lost in
+    let told : _ = c .before .before .list-lost2 in
+    let done : _ = first-told (a .entries .now) (a .makers .now) (a .core) (a .places) (a .list .now) (c .before .before .before .before .before .before .before .before .before .before .before .before .before .cabinet-sound .result) (c .before .before .before .before .before .before .before .before .before .before .before .before .fix-reply .result) (c .before .before .before .before .before .before .before .before .before .before .before .before .before .cabinet-sound .ensures) (c .before .before .before .before .before .before .before .before .before .before .before .before .fix-reply .ensures) ∙ c .before .before .before .before .before .before .before .before .before .before .enum-told .given .1 in
     let rises : _ = line-rises (a .entries .now) (a .makers .now) (a .core) (a .places) (a .list .now) (line .result) (line .ensures) (replicate 16 0) zero-listed done in
-    fixed-told (a .entries .now) (a .makers .now) (a .core) (a .places) (a .list .now) (line .result) (line .ensures) (replicate 16 0) zero-listed (count .result) _ (count .ensures rises) (c .before .before .write-lost .ensures rises)
-    done (sym (c .before .before .before .before .before .is-short .ensures) ∙ c .before .before .before .before .if1 .left)
+    fixed-told (a .entries .now) (a .makers .now) (a .core) (a .places) (a .list .now) (line .result) (line .ensures) (replicate 16 0) zero-listed _ _ (count .result) (count .ensures rises) done _ (told .result) (told .ensures rises) (sym (c .before .before .before .before .before .is-short .ensures) ∙ c .before .before .before .before .if1 .left)
 
 returns-3 : tie.Need-returns-3
 returns-3 c =
-    let a : _ = c .before .before .before .before .before .before .before .before .before .before .before .args in
-    early-told (a .entries .now) (a .makers .now) (a .core) (a .places) (a .list .now) (foundLine (a .entries .now) (a .makers .now) (a .core)) refl (replicate 16 0) zero-listed _ (first-told (a .entries .now) (a .makers .now) (a .core) (a .places) (a .list .now) (c .before .before .before .before .cabinet-sound .result) (c .before .before .before .fix-reply .result) (c .before .before .before .before .cabinet-sound .ensures) (c .before .before .before .fix-reply .ensures) ∙ c .before .first .given .1)
+    let a : _ = c .before .before .before .before .before .before .before .before .before .before .before .before .args in
+    let none : _ = c .not-fixed2 in
+    answered (none .result .reply) (none .ensures .1)
+    (early-told (a .entries .now) (a .makers .now) (a .core) (a .places) (a .list .now) (foundLine (a .entries .now) (a .makers .now) (a .core)) refl (none .result .line) (none .ensures .0) _ (first-told (a .entries .now) (a .makers .now) (a .core) (a .places) (a .list .now) (c .before .before .before .before .before .cabinet-sound .result) (c .before .before .before .before .fix-reply .result) (c .before .before .before .before .before .cabinet-sound .ensures) (c .before .before .before .before .fix-reply .ensures) ∙ c .before .before .first .given .1))
 
 pub fix-spec : {M : Type 1} → statement M
 fix-spec =
@@ -66,10 +91,13 @@ fix-spec =
     fix-reply-requires
     enum-told
     lines-requires
-    count-lost-requires
+    slice-aggregate-list-lost
+    list-lost-requires
     is-short-requires
-    write-lost-requires
+    not-fixed-requires
+    list-lost-requires-2
     enum-known-first
+    not-fixed-requires-2
     returns
     same-length
     returns-2

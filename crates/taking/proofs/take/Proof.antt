@@ -108,17 +108,17 @@ mul-core-2 c = search needs
 element-write-core-2 : tie.Need-element-write-core-2
 element-write-core-2 c = facts (c .before .before .before .before .before .before .before) .card
 
-mul-q : tie.Need-mul-q
-mul-q c = search needs
+mul-raised : tie.Need-mul-raised
+mul-raised c = search needs
 
-array-copy-out-q : tie.Need-array-copy-out-q
-array-copy-out-q c = facts (c .before .before .before .before .before .before .before) .card
+array-copy-out-raised : tie.Need-array-copy-out-raised
+array-copy-out-raised c = facts (c .before .before .before .before .before .before .before) .card
 
 raised-requires : tie.Need-raised-requires
 raised-requires c κs = search needs
 
-mul-q-2 : tie.Need-mul-q-2
-mul-q-2 c = search needs
+mul-q : tie.Need-mul-q
+mul-q c = search needs
 
 element-set-from-q : tie.Need-element-set-from-q
 element-set-from-q c = facts (c .before .before .before .before .before .before .before .before .before) .card
@@ -127,10 +127,10 @@ enum-told-2 : tie.Need-enum-told-2
 enum-told-2 c = search needs
 
 returns : tie.Need-returns
-returns c = let a : _ = c .before .before .before .before .before .before .before .before .before .before .before .before .args in let s : _ = a .t2 in let z : Place = getD (s .places) (c .before .before .before .before .before .before .place-of .result) emptyPlace in let x : ℕ = at (s .reached) (a .card) + 1 in let w : member (z .writes) (a .card) ≡ true = sym (c .before .before .has .ensures) ∙ c .before .if1 .taken in take-done (a .sound) s (a .change) (a .card) (c .before .before .before .before .before .before .place-of .result) (c .before .before .before .vector-of .result .entries) x (z .number) _ _ (first (c .before .before .before .before .before .before .before .before .before)) (c .before .before .before .before .before .before .before .enum-told .given .1) (facts (c .before .before .before .before .before .before .before) .card) (c .before .before .before .before .before .before .place-of .ensures) (share-grown s (a .card) x (c .before .before .before .before .before .before .place-of .result) (c .before .before .before .vector-of .result) z (c .before .before .before .before .took .result) w (add-one (at (s .reached) (a .card))) (c .before .before .before .vector-of .ensures .0) (c .before .before .before .vector-of .ensures .1) (c .before .before .before .before .took .ensures)) (grown-entries s (a .card) x (c .before .before .before .before .before .before .place-of .result) (c .before .before .before .vector-of .result) z w (add-one (at (s .reached) (a .card))) (c .before .before .before .vector-of .ensures .0)) (grown-makers s (a .card) x (c .before .before .before .before .before .before .place-of .result) z w (add-one (at (s .reached) (a .card))))
+returns c = let a : _ = c .before .before .before .before .before .before .before .before .before .before .before .before .args in let s : _ = a .t2 in let z : Place = getD (s .places) (c .before .before .before .before .before .before .place-of .result) emptyPlace in let x : ℕ = at (s .reached) (a .card) + 1 in let w : member (z .writes) (a .card) ≡ true = sym (c .before .before .has .ensures) ∙ c .before .if1 .taken in take-done (a .sound) s (a .change) (a .card) (c .before .before .before .before .before .before .place-of .result) (c .before .before .before .vector-of .result .entries) x (z .number) _ _ (first (c .before .before .before .before .before .before .before .before .before)) (c .before .before .before .before .before .before .before .enum-told .given .1) (c .before .before .before .before .before .before .place-of .ensures) (share-grown s (a .card) x (c .before .before .before .before .before .before .place-of .result) (c .before .before .before .vector-of .result) z (c .before .before .before .before .took .result) w (add-one (at (s .reached) (a .card))) (c .before .before .before .vector-of .ensures .0) (c .before .before .before .vector-of .ensures .1) (c .before .before .before .before .took .ensures)) (grown-entries s (a .card) x (c .before .before .before .before .before .before .place-of .result) (c .before .before .before .vector-of .result) z (facts (c .before .before .before .before .before .before .before) .card) w (add-one (at (s .reached) (a .card))) (c .before .before .before .vector-of .ensures .0)) (grown-makers s (a .card) x (c .before .before .before .before .before .before .place-of .result) z (facts (c .before .before .before .before .before .before .before) .card) w (add-one (at (s .reached) (a .card))))
 
 returns-2 : tie.Need-returns-2
-returns-2 c = let a : _ = c .before .before .before .before .before .before .before .before .before .before .before .before .before .before .args in let s : _ = a .t2 in let z : Place = getD (s .places) (c .before .before .before .before .before .before .before .before .place-of .result) emptyPlace in let w : _ = sym (c .before .before .before .before .has .ensures) ∙ c .before .before .before .if1 .left in take-done (a .sound) s (a .change) (a .card) (c .before .before .before .before .before .before .before .before .place-of .result) _ 0 0 _ _ (first (c .before .before .before .before .before .before .before .before .before .before .before)) (c .before .before .before .before .before .before .before .before .before .enum-told .given .1) (facts (c .before .before .before .before .before .before .before .before .before) .card) (c .before .before .before .before .before .before .before .before .place-of .ensures) (share-raised s (a .card) (c .before .before .before .before .before .before .before .before .place-of .result) (c .before .before .before .before .before .vector-of .result) (c .raised .result) z (c .before .before .before .before .before .before .took .result) w (c .before .before .before .before .before .vector-of .ensures .0) (c .raised .ensures) (c .before .before .before .before .before .before .took .ensures)) (raised-entries s (a .card) (c .before .before .before .before .before .before .before .before .place-of .result) z w) (raised-makers s (a .card) (c .before .before .before .before .before .before .before .before .place-of .result) z w)
+returns-2 c = let a : _ = c .before .before .before .before .before .before .before .before .before .before .before .before .before .before .args in let s : _ = a .t2 in let z : Place = getD (s .places) (c .before .before .before .before .before .before .before .before .place-of .result) emptyPlace in let w : _ = sym (c .before .before .before .before .has .ensures) ∙ c .before .before .before .if1 .left in take-done (a .sound) s (a .change) (a .card) (c .before .before .before .before .before .before .before .before .place-of .result) _ 0 0 _ _ (first (c .before .before .before .before .before .before .before .before .before .before .before)) (c .before .before .before .before .before .before .before .before .before .enum-told .given .1) (c .before .before .before .before .before .before .before .before .place-of .ensures) (share-raised s (a .card) (c .before .before .before .before .before .before .before .before .place-of .result) (c .before .before .before .before .before .vector-of .result) (c .raised .result) z (c .before .before .before .before .before .before .took .result) w (c .before .before .before .before .before .vector-of .ensures .0) (c .raised .ensures) (c .before .before .before .before .before .before .took .ensures)) (raised-entries s (a .card) (c .before .before .before .before .before .before .before .before .place-of .result) z w) (raised-makers s (a .card) (c .before .before .before .before .before .before .before .before .place-of .result) z w)
 
 returns-3 : tie.Need-returns-3
 returns-3 c = let a : _ = c .before .before .before .before .before .args in take-refused (a .sound) (a .t2) (a .change) (a .card) _ _ _ _ (first (c .before .before)) (c .enum-told2 .given .1) refl
@@ -160,10 +160,10 @@ take-spec =
     element-write-core
     mul-core-2
     element-write-core-2
-    mul-q
-    array-copy-out-q
+    mul-raised
+    array-copy-out-raised
     raised-requires
-    mul-q-2
+    mul-q
     element-set-from-q
     enum-told-2
     returns

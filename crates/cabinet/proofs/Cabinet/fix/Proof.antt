@@ -42,7 +42,8 @@ use Rattle.cabinet.specs.Fixing.{FixCarried}
 use Rattle.records.specs.declared.CardRecord.{CardRecord}
 use Rattle.records.specs.declared.CardNumbers.{CardNumbers}
 use Rattle.records.specs.Records.{filled}
-use Rattle.cabinet.specs.Lent.{numbersOf, FixLent}
+use Rattle.fixing.specs.Fixed.{numbersOf}
+use Rattle.cabinet.specs.Lent.{FixLent}
 use Rattle.cabinet.proofs.Lent.{lends}
 use Rattle.cabinet.proofs.Cabinet as B
 use Rattle.cabinet.proofs.Cabinet.Laws as B′
@@ -83,8 +84,8 @@ module _ {M : Type 1} (𝓤 : URA M) (H : Heap 𝓤) (A : Atoms 𝓤) (mem : Mem
   Fill = tripleOf 𝓤 H A fill.signature (fill.spec 𝓤 H A mem run)
 
   -- of `numbers_of`'s `ensured`, the clause alone: it has no last value
-  numbers-told : (a : FixAnswer) (m : CardNumbers) → ent 𝓤 (ensured 𝓤 H A numbers-of.ended (numbers-of.clauses 𝓤 H A mem run) tt (a, tt) tt m) (fact 𝓤 (m ≡ numbersOf a))
-  numbers-told a m = exE 𝓤 _ (λ ws. snd∗ 𝓤 (sem 𝓤 H A (lasts numbers-of.ended tt (a, tt) ws)) (fact 𝓤 (m ≡ numbersOf a)))
+  numbers-told : (a : FixAnswer) (m : CardNumbers) → ent 𝓤 (ensured 𝓤 H A numbers-of.ended (numbers-of.clauses 𝓤 H A mem run) tt (a, tt) tt m) (fact 𝓤 (m ≡ numbersOf (a .reply) (a .cabinet .core)))
+  numbers-told a m = exE 𝓤 _ (λ ws. snd∗ 𝓤 (sem 𝓤 H A (lasts numbers-of.ended tt (a, tt) ws)) (fact 𝓤 (m ≡ numbersOf (a .reply) (a .cabinet .core))))
 
 module _ {M : Type 1} (𝓤 : URA M) (H : Heap 𝓤) (A : Atoms 𝓤) (W : Given 𝓤 H A) (mem : Memory → SProp 𝓤) (run : Routine → Fun 𝓤) (κ κ′ : Lft) (q q′ : Share) (b o : ℕ) (γ : GName) (b′ o′ : ℕ) (γ′ : GName) (s : Cabinet) (ys : List CardRecord) (xs : List ℕ) where
   -- the lists lent, and the machine values of the three parameters
@@ -175,7 +176,7 @@ module _ {M : Type 1} (𝓤 : URA M) (H : Heap 𝓤) (A : Atoms 𝓤) (W : Given
         use0 W (raw (NumbersOf 𝓤 H A mem run .pre (to-numbers r w))) (goes-numbers r w is) $
         calls-at ! fm (NumbersOf 𝓤 H A mem run) known-numbers (to-numbers r w) (and-then ! (load ! (from ! (stop !)) (look ! 19 refl)) (no-more !)) (λ w₂.
         use1 W (later (some (λ (m : CardNumbers). (‵ ftrue ⊛ ‵ (N.the-row .own m (w₂ ∷ []))) ⊛ raw (ensured 𝓤 H A numbers-of.ended (numbers-of.clauses 𝓤 H A mem run) tt (r, tt) tt m)))) (id⊢ 𝓤 _) $ await ! tt $ pick ! (λ m.
-        split ! $ move ! (1 ∷ []) $ use1 W (raw (fact 𝓤 (m ≡ numbersOf r))) (numbers-told 𝓤 H A mem run r m) $ heard ! (m ≡ numbersOf r) (λ e₂.
+        split ! $ move ! (1 ∷ []) $ use1 W (raw (fact 𝓤 (m ≡ numbersOf (r .reply) (r .cabinet .core)))) (numbers-told 𝓤 H A mem run r m) $ heard ! (m ≡ numbersOf (r .reply) (r .cabinet .core)) (λ e₂.
         split ! $ drop ! $ facts ! N.the-row (Is N.the-row) (shows 𝓤 H A N.the-row) m (w₂ ∷ []) (λ is₂.
         land ! (from ! (stop !)) (init ! 16 refl (LL.lawful N.the-type N′.the-laws 𝓤 H A W .typed m _ is₂ .0)) $
         assigns ! (addr ! (from ! (fld ! refl (hop ! (look-in ! 22 (sub ! 0 refl (whole !))) (stop !))))) (from ! (stop !)) (init ! 6 refl (tt, tt)) $

@@ -1,21 +1,32 @@
-use Rattle.cabinet.proofs.Pages.{within, sheet-carried}
-use mathlib.Core.Path.{sym, _∙_}
+use mathlib.Core.Path.{sym, ap}
+use mathlib.Core.List.{List}
+use lib.ListN.{length}
+use Rattle.protocol.specs.Edit.{Edit}
+use Rattle.protocol.specs.Plan.{written}
+use Rattle.protocol.specs.Codec.{sheetChecks}
+use Rattle.codec.specs.Sheets.{codec}
+use Rattle.verdicts.specs.Shape.{limits16}
+use Rattle.cabinet.specs.View.{view}
+use Rattle.cabinet.specs.Apply.{applyAll}
+use Rattle.cabinet.proofs.Call.{no-edits}
 use borrow.Author.Needs.{needs}
 use Rattle.cabinet.proofs.Cabinet.sheet.Statement.{statement}
 use Rattle.cabinet.proofs.Cabinet.sheet.Tie as tie
 
-cabinet-sound-requires : tie.Need-cabinet-sound-requires
-cabinet-sound-requires c κs = search needs
-
-write-card-requires : tie.Need-write-card-requires
-write-card-requires c κs = λ t. let a : _ = c .before .before .before .before .before .before .before .before .before .before .before .before .before .args in within (a .t1) (a .card) (sym (c .before .before .before .before .before .before .before .cabinet-sound .ensures) ∙ t)
+sheet-requires : tie.Need-sheet-requires
+sheet-requires c κs = search needs
 
 same-length : tie.Need-same-length
 same-length c = search needs
 
 returns : tie.Need-returns
-returns c = let a : _ = c .before .before .before .before .before .before .before .before .before .before .before .before .before .before .before .before .args in sheet-carried (a .t1) (a .card) (a .buffer .now) (c .before .before .write-card .last .0) (c .before .before .before .before .before .before .before .before .before .before .cabinet-sound .result) (c .before .before .write-card .result) (c .before .before .before .before .before .before .before .before .before .before .cabinet-sound .ensures) (c .before .before .write-card .ensures)
+returns c =
+    let a : _ = c .before .before .before .before .before .before .before .before .before .args in
+    let s : _ = a .t1 in
+    record {
+      told = c .before .before .sheet .ensures;
+      cabinet = sym (ap (λ (es : List Edit). applyAll es s) (no-edits (sheetChecks codec limits16 (view s) (a .card) (length (a .buffer .now))) (written (codec .sheet limits16 (view s) (a .card)))));
+    }
 
 pub sheet-spec : {M : Type 1} → statement M
-sheet-spec =
-    tie.close (tie.spec cabinet-sound-requires write-card-requires same-length returns)
+sheet-spec = tie.close (tie.spec sheet-requires same-length returns)
