@@ -50,7 +50,7 @@ fn head_of_kind(k: u32) -> Head {
         2 => head(0, Phase::Rolling, 1),
         3 => head(LAST, Phase::Rolling, 1),
         4 => verdicts::head_of(1, 0, Phase::Up),
-        _ => verdicts::head_of(1, 17, Phase::Up),
+        _ => verdicts::head_of(1, Limits::CARDS_U32 + 1, Phase::Up),
     }
 }
 
@@ -61,7 +61,7 @@ fn with_number(core: Core, k: u32) -> Core {
         6 => c.base[0] = 1,
         7 => c.stored[0] = 2,
         8 => c.held[0] = 2,
-        9 => c.reached[0] = 49,
+        9 => c.reached[0] = Limits::IN_HAND_U32 + 1,
         _ => c.reached[0] = HIGHEST + 1,
     }
     c

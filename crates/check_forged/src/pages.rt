@@ -103,9 +103,9 @@ fn heads() {
     head(1, 16, 16, 0, 0);
     head(1, Limits::GREATEST_NUMBER, 16, 0, 0);
     head(1, 0, 0, 0, 0);
-    head(1, 0, 17, 0, 0);
-    head(1, 0, 1, 0, 49);
-    head(1, 0, 1, 60001, 0);
+    head(1, 0, Limits::CARDS_U32 + 1, 0, 0);
+    head(1, 0, 1, 0, Limits::IN_HAND_U32 + 1);
+    head(1, 0, 1, Limits::GREATEST_STATE + 1, 0);
     head(1, 0, 1, Limits::GREATEST_STATE, 1);
     head(1, 0, 1, Limits::GREATEST_NUMBER, 1);
     head(1, 0, 1, Limits::GREATEST_NUMBER, Limits::GREATEST_NUMBER);

@@ -28,7 +28,9 @@ fn entry(s: &[u32], i: usize) -> u32 {
 
 // The place of a card's frame k.
 fn place_of(card: u32, base: u32, k: usize) -> usize {
-    (card % 16) as usize * 48 + ((base % 48) as usize + 1 + k % 48) % 48
+    let first = (base % Limits::IN_HAND_U32) as usize + 1;
+    (card % Limits::CARDS_U32) as usize * Limits::IN_HAND
+        + (first + k % Limits::IN_HAND) % Limits::IN_HAND
 }
 
 fn say(b: &[u8]) {
@@ -58,7 +60,10 @@ fn say_entry(e: u32) {
 fn say_row(entries: &[u32], place: usize, n: usize) {
     let mut j = 0;
     while j < n {
-        say_entry(entry(entries, place % 768 * 16 + j % 16));
+        say_entry(entry(
+            entries,
+            place % Limits::FRAMES * Limits::CARDS + j % Limits::CARDS,
+        ));
         j += 1;
     }
     say(b"\n");
@@ -239,8 +244,8 @@ fn fill(input: &mut [u8], n: usize) {
 }
 
 // An input of digits 0, longer than any that is read.
-fn zeros() -> [u8; 65540] {
-    [48u8; 65540]
+fn zeros() -> [u8; Limits::LONGEST + 4] {
+    [48u8; Limits::LONGEST + 4]
 }
 
 // Reads one record and runs it; false where there is none left.
