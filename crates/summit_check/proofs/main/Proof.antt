@@ -9,7 +9,7 @@ use Rattle.summit_check.proofs.above.Reads as above-reads
 use Rattle.summit_check.proofs.renew.Reads as renew-reads
 use Rattle.summit_check.proofs.session.Reads as session-reads
 use Rattle.summit_check.proofs.told.Reads as told-reads
-use Rattle.trace.proofs.begin.Reads as begin-reads
+use Rattle.stepping.proofs.begin.Reads as begin-reads
 
 abbrev Inv-loop : tie.InvT-loop
 Inv-loop r₀ from₀ r from = Unit {0}
