@@ -20,7 +20,6 @@ use Rattle.verdicts.specs.Answers.{replyOf, firstFailing, after28}
 use Rattle.verdicts.specs.Shape.{limits16, modelOf}
 use Rattle.verdicts.proofs.Limits.{width16, places8}
 use Rattle.verdicts.proofs.Checks.{passes, done-plan, refused-plan}
-use Rattle.laws.proofs.Below.{first-passes as first-at}
 use Rattle.verdicts.specs.declared.Core.{Core}
 use Rattle.verdicts.specs.Applied.{appliedAll, CoreCarried}
 use Rattle.carried.specs.Plans.{Stands}
