@@ -3,9 +3,11 @@ ghost use mathlib.Core.Path.{_≡_};
 ghost use Rattle.verdicts.specs.Answers.{replyOf};
 ghost use Rattle.cabinet.specs.Fresh.{Freshly, zeroCabinet};
 use limits::Limits;
+use refusal::Refusal;
 use verdicts::Core;
 use verdicts::Head;
 use verdicts::OpenReply;
+use verdicts::Phase;
 use verdicts::Reply;
 use verdicts::SafeReply;
 use verdicts::Vector;
@@ -81,12 +83,21 @@ impl Cabinet {
     pub fn fresh(cards: u32) -> Answer
         ensures { λ r. ⌜ Freshly cards (replyOf (r .reply)) (r .cabinet) ⌝ }
     {
-        let r = parts::fresh_reply(cards);
-        let head = parts::fresh_head(cards);
-        let c = zeros(head);
-        Answer {
-            cabinet: c,
-            reply: r,
+        let good = parts::cards_fit(cards);
+        if good {
+            let head = parts::fresh_head(cards);
+            let c = zeros(head);
+            Answer {
+                cabinet: c,
+                reply: Reply::Done,
+            }
+        } else {
+            let head = verdicts::head_of(0, 0, Phase::Up);
+            let c = zeros(head);
+            Answer {
+                cabinet: c,
+                reply: Reply::Refused(Refusal::CardCount),
+            }
         }
     }
 }
