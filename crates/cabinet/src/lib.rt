@@ -1,12 +1,16 @@
 // The cabinet of 16 cards: its struct, and calls 1 to 10 as methods that hand it back, in the modules below.
+ghost use mathlib.Core.List.{[], _∷_};
 ghost use mathlib.Core.Path.{_≡_};
+ghost use Rattle.limits.specs.Document.{mostCards, mostInHand, mostOpen, lastState};
 ghost use Rattle.verdicts.specs.Answers.{replyOf};
 ghost use Rattle.cabinet.specs.Fresh.{Freshly, zeroCabinet};
 use limits::Limits;
+use refusal::Refusal;
 use refusal::Reply;
 use verdicts::Core;
 use verdicts::Head;
 use verdicts::OpenReply;
+use verdicts::Phase;
 use verdicts::SafeReply;
 use verdicts::Vector;
 
@@ -77,16 +81,46 @@ pub fn zeros(head: Head) -> Cabinet
 }
 
 impl Cabinet {
+    // "the limits 16, 48, 8 and 60,000"
+    pub const WIDTH: u32 = Limits::CARDS_U32;
+
+    pub const IN_HAND: u32 = Limits::IN_HAND_U32;
+
+    pub const PLACES: u32 = Limits::PLACES as u32;
+
+    pub const GREATEST_STATE: u32 = Limits::GREATEST_STATE;
+
+    // These four are the definitions' limits.
+    pub fn limits() -> [u32; 4]
+        ensures { λ r. ⌜ r ≡ mostCards ∷ mostInHand ∷ mostOpen ∷ lastState ∷ [] ⌝ }
+    {
+        [
+            Cabinet::WIDTH,
+            Cabinet::IN_HAND,
+            Cabinet::PLACES,
+            Cabinet::GREATEST_STATE,
+        ]
+    }
+
     // "A fresh cabinet has session 1, phase up, all state numbers 0, all entries none"; refusal 1 hands back the void cabinet.
     pub fn fresh(cards: u32) -> Answer
         ensures { λ r. ⌜ Freshly cards (replyOf (r .reply)) (r .cabinet) ⌝ }
     {
-        let r = parts::fresh_reply(cards);
-        let head = parts::fresh_head(cards);
-        let c = zeros(head);
-        Answer {
-            cabinet: c,
-            reply: r,
+        let good = parts::cards_fit(cards);
+        if good {
+            let head = parts::fresh_head(cards);
+            let c = zeros(head);
+            Answer {
+                cabinet: c,
+                reply: Reply::Done,
+            }
+        } else {
+            let head = verdicts::head_of(0, 0, Phase::Up);
+            let c = zeros(head);
+            Answer {
+                cabinet: c,
+                reply: Reply::Refused(Refusal::CardCount),
+            }
         }
     }
 }

@@ -1,23 +1,18 @@
 // What the calls write into a cabinet's lists, what an opening answers, and how a cabinet begins.
 ghost use Prim.Native.Nat.{ℕ, _<_};
 ghost use mathlib.Core.Path.{_≡_};
-ghost use mathlib.Core.Bool.{_&&_, cond};
-ghost use lib.Dec.{leb};
-ghost use Rattle.refusal.specs.declared.Refusal.the-variants.{CardCount};
+ghost use mathlib.Core.Bool.{not, cond};
 ghost use Rattle.laws.specs.Below.{tabulate};
 ghost use Rattle.bits.specs.Member.{member};
 ghost use Rattle.history.specs.Vector.{joined};
 ghost use Rattle.protocol.specs.Edit.{remembered};
 ghost use Rattle.protocol.specs.Model.{freePlace};
-ghost use Rattle.protocol.specs.Plan.{accepted, refused, done};
 ghost use Rattle.protocol.specs.Calls.{freshRefused};
 ghost use Rattle.verdicts.specs.Shape.{limits16, at, listOf, vectorFor, openAt, placeFor};
-ghost use Rattle.verdicts.specs.Answers.{replyOf};
 ghost use Rattle.parts.specs.Opening.{openAnswer};
-ghost use Rattle.parts.specs.Fresh.{freshHead, voidHead};
+ghost use Rattle.parts.specs.Fresh.{freshHead};
 use limits::Limits;
 use refusal::Reply;
-use refusal::Refusal;
 use verdicts::Head;
 use verdicts::OpenReply;
 use verdicts::Phase;
@@ -102,33 +97,16 @@ pub fn open_answer(r: Reply, count: u32) -> OpenReply
     }
 }
 
-// A cabinet has 1 to 16 cards.
-fn cards_fit(cards: u32) -> bool
-    ensures { λ r. ⌜ r ≡ (leb 1 cards && leb cards (limits16 .width)) ⌝ }
+// "number of cards not 1 to 16" does not hold.
+pub fn cards_fit(cards: u32) -> bool
+    ensures { λ r. ⌜ r ≡ not (freshRefused limits16 cards) ⌝ }
 {
     (1 <= cards) & (cards <= Limits::CARDS_U32)
 }
 
-// What fresh answers: 1, "number of cards not 1 to 16", or acceptance.
-pub fn fresh_reply(cards: u32) -> Reply
-    ensures { λ r. ⌜ replyOf r ≡ cond (freshRefused limits16 cards) (refused CardCount) (accepted done) ⌝ }
-{
-    let good = cards_fit(cards);
-    if good {
-        Reply::Done
-    } else {
-        Reply::Refused(Refusal::CardCount)
-    }
-}
-
-// "A fresh cabinet has session 1, phase up"; with refusal 1, the void head.
+// "A fresh cabinet has session 1, phase up".
 pub fn fresh_head(cards: u32) -> Head
-    ensures { λ r. ⌜ r ≡ cond (freshRefused limits16 cards) voidHead (freshHead cards) ⌝ }
+    ensures { λ r. ⌜ r ≡ freshHead cards ⌝ }
 {
-    let good = cards_fit(cards);
-    if good {
-        verdicts::head_of(1, cards, Phase::Up)
-    } else {
-        verdicts::head_of(0, 0, Phase::Up)
-    }
+    verdicts::head_of(1, cards, Phase::Up)
 }
