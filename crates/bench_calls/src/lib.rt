@@ -1,16 +1,16 @@
 // What bench/run.sh measures, exported to Rust: each call once, on a cabinet that was forged for it, and parts by themselves.
 // A cabinet has so many cards, and on each so many states in hand, each made by a change of its own.
 use cabinet::Cabinet;
-use frame::Header;
-use limits::Limits;
-use records::CardRecord;
-use recovery::FixReply;
-use verdicts::OpenReply;
-use verdicts::Phase;
-use verdicts::Place;
-use refusal::Reply;
-use verdicts::SafeReply;
-use write::Written;
+use sheet_lines::Header;
+use base_limits::Limits;
+use cabinet_records::CardRecord;
+use cabinet_recovery::FixReply;
+use cabinet_layout::OpenReply;
+use cabinet_layout::Phase;
+use cabinet_layout::Slot;
+use base_refusal::Reply;
+use cabinet_layout::SafeReply;
+use sheet_page_writer::Written;
 
 // The number where the state is there, and 0 where it is not.
 fn kept(there: bool, n: u32) -> u32 {
@@ -18,7 +18,7 @@ fn kept(there: bool, n: u32) -> u32 {
 }
 
 // The changes that made the states: state x of card c was made by change 16 * x + c.
-fn makers(cards: u32, states: u32) -> [u32; 768] {
+fn changes(cards: u32, states: u32) -> [u32; 768] {
     let mut out = [0u32; 768];
     let mut p: u32 = 0;
     while p < 768 {
@@ -56,24 +56,24 @@ fn numbers(cards: u32, n: u32) -> [u32; 16] {
 
 // The cabinet in that phase, with that stored number on each card and with that change in its first place. While rolling
 // the card 0 alone is not rolled.
-fn forged(cards: u32, states: u32, stored: u32, first: Place, phase: Phase) -> Cabinet {
+fn forged(cards: u32, states: u32, stored: u32, first: Slot, phase: Phase) -> Cabinet {
     let a = Cabinet::fresh(cards);
     let mut c = a.cabinet;
     let e = entries(cards, states);
     c.entries = e;
-    let m = makers(cards, states);
-    c.makers = m;
+    let m = changes(cards, states);
+    c.changes = m;
     let reached = numbers(cards, states);
     let mut core = c.core;
     core.held = reached;
     core.reached = reached;
     let s = numbers(cards, stored);
     core.stored = s;
-    core.places[0] = first;
-    let h = verdicts::head_of(1, cards, phase);
-    let h = verdicts::counted(h, 1000);
+    core.slots[0] = first;
+    let h = cabinet_layout::head_of(1, cards, phase);
+    let h = cabinet_layout::counted(h, 1000);
     core.head = h;
-    core.rolled = bits::without(bits::all_below(cards), 0);
+    core.rolled = base_bits::without(base_bits::all_below(cards), 0);
     c.core = core;
     c
 }
@@ -84,9 +84,9 @@ fn card(at: u32) -> u32 {
 }
 
 // A change that reads every card, or writes every card, with those votes.
-fn change(number: u32, cards: u32, reads: bool, yes: u16) -> Place {
-    let all = bits::all_below(cards);
-    let mut o = verdicts::free_place();
+fn change(number: u32, cards: u32, reads: bool, yes: u16) -> Slot {
+    let all = base_bits::all_below(cards);
+    let mut o = cabinet_layout::free_slot();
     o.number = number;
     o.reads = if reads { all } else { 0 };
     o.writes = if reads { 0 } else { all };
@@ -113,10 +113,10 @@ fn looked(c: Cabinet, at: u32) -> u32 {
     let core = c.core;
     let l = core.last[i];
     let p = core.pending[i];
-    let o = core.places[k];
+    let o = core.slots[k];
     let h = core.head;
     let phase = h.phase;
-    let frames = c.entries[(at % 12288) as usize] ^ c.makers[(at % 768) as usize];
+    let frames = c.entries[(at % 12288) as usize] ^ c.changes[(at % 768) as usize];
     let vectors = l.entries[i] ^ p.entries[i] ^ o.vector[i];
     let sets = wide(o.reads) ^ wide(o.writes) ^ wide(o.yes) ^ wide(o.taken) ^ wide(core.rolled);
     let numbers = core.base[i]
@@ -137,14 +137,14 @@ fn seen(number: u32, refused: u32) -> u32 {
 fn done(r: Reply) -> u32 {
     match r {
         Reply::Done => 0,
-        Reply::Refused(q) => refusal::number(q),
+        Reply::Refused(q) => base_refusal::number(q),
     }
 }
 
 // Nothing but the making of the cabinet.
 #[no_mangle]
 pub extern "C" fn bench_nothing(cards: u32, states: u32, reads: bool, at: u32) -> u32 {
-    let c = forged(cards, states, states, verdicts::free_place(), Phase::Up);
+    let c = forged(cards, states, states, cabinet_layout::free_slot(), Phase::Up);
     let e = looked(c, at);
     seen(e, 0)
 }
@@ -160,7 +160,7 @@ pub extern "C" fn bench_fresh(cards: u32, at: u32) -> u32 {
 
 #[no_mangle]
 pub extern "C" fn bench_open(cards: u32, states: u32, reads: bool, at: u32) -> u32 {
-    let c = forged(cards, states, states, verdicts::free_place(), Phase::Up);
+    let c = forged(cards, states, states, cabinet_layout::free_slot(), Phase::Up);
     let o = change(0, cards, reads, 0);
     let a = c.open(o.reads, o.writes);
     let r = a.reply;
@@ -168,7 +168,7 @@ pub extern "C" fn bench_open(cards: u32, states: u32, reads: bool, at: u32) -> u
     let e = looked(c, at);
     let n = match r {
         OpenReply::Opened(_) => 0,
-        OpenReply::NotOpened(q) => refusal::number(q),
+        OpenReply::NotOpened(q) => base_refusal::number(q),
     };
     seen(e, n)
 }
@@ -176,7 +176,7 @@ pub extern "C" fn bench_open(cards: u32, states: u32, reads: bool, at: u32) -> u
 // The vote that decides a change of all cards.
 #[no_mangle]
 pub extern "C" fn bench_vote(cards: u32, states: u32, reads: bool, at: u32) -> u32 {
-    let others = bits::without(bits::all_below(cards), 0);
+    let others = base_bits::without(base_bits::all_below(cards), 0);
     let c = forged(
         cards,
         states,
@@ -193,7 +193,7 @@ pub extern "C" fn bench_vote(cards: u32, states: u32, reads: bool, at: u32) -> u
 
 #[no_mangle]
 pub extern "C" fn bench_take(cards: u32, states: u32, reads: bool, at: u32) -> u32 {
-    let all = bits::all_below(cards);
+    let all = base_bits::all_below(cards);
     let c = forged(
         cards,
         states,
@@ -226,7 +226,7 @@ pub extern "C" fn bench_withdraw(cards: u32, states: u32, reads: bool, at: u32) 
 
 #[no_mangle]
 pub extern "C" fn bench_store(cards: u32, states: u32, reads: bool, at: u32) -> u32 {
-    let c = forged(cards, states, 0, verdicts::free_place(), Phase::Up);
+    let c = forged(cards, states, 0, cabinet_layout::free_slot(), Phase::Up);
     let a = c.store(card(at), 0);
     let r = a.reply;
     let c = a.cabinet;
@@ -237,7 +237,7 @@ pub extern "C" fn bench_store(cards: u32, states: u32, reads: bool, at: u32) -> 
 // Every state is stored, so that each line is climbed to the end.
 #[no_mangle]
 pub extern "C" fn bench_trim(cards: u32, states: u32, reads: bool, at: u32) -> u32 {
-    let c = forged(cards, states, states, verdicts::free_place(), Phase::Up);
+    let c = forged(cards, states, states, cabinet_layout::free_slot(), Phase::Up);
     let a = c.trim();
     let r = a.reply;
     let c = a.cabinet;
@@ -248,7 +248,7 @@ pub extern "C" fn bench_trim(cards: u32, states: u32, reads: bool, at: u32) -> u
 // Of that change; there is none in an empty cabinet.
 #[no_mangle]
 pub extern "C" fn bench_safe(cards: u32, states: u32, change: u32, at: u32) -> u32 {
-    let c = forged(cards, states, states, verdicts::free_place(), Phase::Up);
+    let c = forged(cards, states, states, cabinet_layout::free_slot(), Phase::Up);
     let a = c.safe(change);
     let r = a.reply;
     let c = a.cabinet;
@@ -256,7 +256,7 @@ pub extern "C" fn bench_safe(cards: u32, states: u32, change: u32, at: u32) -> u
     let n = match r {
         SafeReply::Safe => 0,
         SafeReply::Unsafe => 0,
-        SafeReply::Unknown(q) => refusal::number(q),
+        SafeReply::Refused(q) => base_refusal::number(q),
     };
     seen(e, n)
 }
@@ -264,7 +264,7 @@ pub extern "C" fn bench_safe(cards: u32, states: u32, change: u32, at: u32) -> u
 // All cards, with a decided change open.
 #[no_mangle]
 pub extern "C" fn bench_lose(cards: u32, states: u32, reads: bool, at: u32) -> u32 {
-    let all = bits::all_below(cards);
+    let all = base_bits::all_below(cards);
     let c = forged(
         cards,
         states,
@@ -288,7 +288,7 @@ pub extern "C" fn bench_fix(
     at: u32,
     list: &mut [u32],
 ) -> u32 {
-    let c = forged(cards, states, stored, verdicts::free_place(), Phase::Down);
+    let c = forged(cards, states, stored, cabinet_layout::free_slot(), Phase::Down);
     let zero = CardRecord {
         card: 0,
         stored: 0,
@@ -301,7 +301,7 @@ pub extern "C" fn bench_fix(
     let e = looked(c, at);
     let n = match r {
         FixReply::Fixed(_) => 0,
-        FixReply::NotFixed(q) => refusal::number(q),
+        FixReply::NotFixed(q) => base_refusal::number(q),
     };
     seen(e, n)
 }
@@ -313,7 +313,7 @@ pub extern "C" fn bench_roll(cards: u32, states: u32, reads: bool, at: u32) -> u
         cards,
         states,
         states,
-        verdicts::free_place(),
+        cabinet_layout::free_slot(),
         Phase::Rolling,
     );
     let a = c.roll(card(at));
@@ -326,14 +326,14 @@ pub extern "C" fn bench_roll(cards: u32, states: u32, reads: bool, at: u32) -> u
 // The sheet of card 0.
 #[no_mangle]
 pub extern "C" fn bench_sheet(cards: u32, states: u32, at: u32, buffer: &mut [u8]) -> u32 {
-    let c = forged(cards, states, states, verdicts::free_place(), Phase::Up);
+    let c = forged(cards, states, states, cabinet_layout::free_slot(), Phase::Up);
     let a = c.sheet(card(at), buffer);
     let r = a.reply;
     let c = a.cabinet;
     let e = looked(c, at);
     let n = match r {
         Written::Length(_) => 0,
-        Written::Refused(q) => refusal::number(q),
+        Written::Refused(q) => base_refusal::number(q),
     };
     seen(e, n)
 }
@@ -341,7 +341,7 @@ pub extern "C" fn bench_sheet(cards: u32, states: u32, at: u32, buffer: &mut [u8
 // From the sheets of all cards, joined.
 #[no_mangle]
 pub extern "C" fn bench_restart(bytes: &[u8], at: u32) -> u32 {
-    let a = restart::restart(bytes);
+    let a = cabinet_restart::restart(bytes);
     let r = a.reply;
     let c = a.cabinet;
     let e = looked(c, at);
@@ -379,11 +379,11 @@ pub extern "C" fn bench_fix_all_lost<'a, 'b>(
     changes: &'b [u32; Limits::FRAMES],
     entries: &'b [u32; Limits::ENTRIES],
 ) -> usize {
-    let head = verdicts::head_of(1, Limits::CARDS_U32, Phase::Down);
-    let mut core = verdicts::blank(verdicts::counted(head, 1000));
+    let head = cabinet_layout::head_of(1, Limits::CARDS_U32, Phase::Down);
+    let mut core = cabinet_layout::blank(cabinet_layout::counted(head, 1000));
     core.reached = [Limits::IN_HAND_U32; Limits::CARDS];
     core.ended = [784u32, 785, 786, 787, 788, 789, 790, 791];
-    let out = lost::fix(list, entries, changes, core, Limits::CARDS);
+    let out = cabinet_lost::fix(list, entries, changes, core, Limits::CARDS);
     let r = out.reply;
     match r {
         FixReply::Fixed(n) => n,

@@ -10,16 +10,16 @@ use lib.Dec.{eqb, leb, ltb}
 use lib.ListN.{length, set}
 use lib.Seq.{getD-set-same, getD-set-other}
 use borrow.Author.Tests.{eq-eqb, ne-eqb, lt-ltb, le-ltb, lt-leb, ltb-true}
-use Rattle.laws.proofs.Logic.{test}
-use Rattle.bits.specs.Member.{member}
-use Rattle.bits.proofs.Members.{member-above}
-use Rattle.history.specs.Change.{Numbers}
-use Rattle.history.specs.Vector.{noEntries}
-use Rattle.protocol.specs.Model.{withCard}
-use Rattle.protocol.specs.Edit.{put, edited}
-use Rattle.protocol.specs.Edit as edit
-use Rattle.verdicts.specs.Shape.{limits16, at, ringMaker, ringFrame, cut, inHand, listOf}
-use Rattle.verdicts.proofs.Held.{at-list-all, member-set}
+use Rattle.base_laws.proofs.Logic.{test}
+use Rattle.base_bits.specs.Member.{member}
+use Rattle.base_bits.proofs.Members.{member-above}
+use Rattle.theory_history.specs.Change.{Numbers}
+use Rattle.theory_history.specs.Vector.{noEntries}
+use Rattle.theory_protocol.specs.Model.{withCard}
+use Rattle.theory_protocol.specs.Edit.{put, edited}
+use Rattle.theory_protocol.specs.Edit as edit
+use Rattle.cabinet_layout.specs.Shape.{limits16, at, ringChange, ringFrame, truncate, inHand, listOf}
+use Rattle.cabinet_layout.proofs.Held.{at-list-all, member-set}
 use Rattle.cabinet.specs.declared.Cabinet.{Cabinet}
 use Rattle.cabinet.specs.View.{view}
 use Rattle.cabinet.specs.Apply.{apply}
@@ -47,8 +47,8 @@ rebase-law s bases none up =
     (record {
       last = view s .memory .last;
       pending = view s .memory .pending;
-      maker = λ c x. (ap (λ (f : Numbers). cond (ltb (f c) x && leb x (at (s .core .reached) c)) (ringMaker (s .makers) c x) 0) e ∙ still-in-hand (ringMaker (s .makers) c x) 0 (at (s .core .base) c) (bases c) (at (s .core .reached) c) x (up c)) i;
-      frame = λ c x. (ap (λ (f : Numbers). cond (ltb (f c) x && leb x (at (s .core .reached) c)) (cut (ringFrame (s .entries) c x)) noEntries) e ∙ still-in-hand (cut (ringFrame (s .entries) c x)) noEntries (at (s .core .base) c) (bases c) (at (s .core .reached) c) x (up c)) i;
+      change = λ c x. (ap (λ (f : Numbers). cond (ltb (f c) x && leb x (at (s .core .reached) c)) (ringChange (s .changes) c x) 0) e ∙ still-in-hand (ringChange (s .changes) c x) 0 (at (s .core .base) c) (bases c) (at (s .core .reached) c) x (up c)) i;
+      frame = λ c x. (ap (λ (f : Numbers). cond (ltb (f c) x && leb x (at (s .core .reached) c)) (truncate (ringFrame (s .entries) c x)) noEntries) e ∙ still-in-hand (truncate (ringFrame (s .entries) c x)) noEntries (at (s .core .base) c) (bases c) (at (s .core .reached) c) x (up c)) i;
     })
 
 -- ---- one card goes to its line
@@ -94,8 +94,8 @@ lower-law s c g =
     (record {
       last = view s .memory .last;
       pending = view s .memory .pending;
-      maker = lowered-hand (s .core .base) (s .core .reached) c l (omega (arith, g .base, g .card)) (omega (arith, g .reached, g .card)) (ringMaker (s .makers)) 0 i;
-      frame = lowered-hand (s .core .base) (s .core .reached) c l (omega (arith, g .base, g .card)) (omega (arith, g .reached, g .card)) (λ d x. cut (ringFrame (s .entries) d x)) noEntries i;
+      change = lowered-hand (s .core .base) (s .core .reached) c l (omega (arith, g .base, g .card)) (omega (arith, g .reached, g .card)) (ringChange (s .changes)) 0 i;
+      frame = lowered-hand (s .core .base) (s .core .reached) c l (omega (arith, g .base, g .card)) (omega (arith, g .reached, g .card)) (λ d x. truncate (ringFrame (s .entries) d x)) noEntries i;
     }))
     (view s .line)
     (member-set (withCard (member (s .core .rolled)) c) beyond i)

@@ -10,16 +10,16 @@ use lib.Dec.{eqb, leb, ltb}
 use lib.ListN.{length, getD, set, length-set}
 use lib.Seq.{sets, getD-set-same, getD-set-other}
 use borrow.Author.Tests.{eq-eqb, ne-eqb, lt-ltb, le-ltb, le-leb, ltb-true, leb-true}
-use Rattle.laws.proofs.Logic.{test, and-left, and-right, and-intro, same-test}
-use Rattle.laws.proofs.Fill.{length-tabulate}
-use Rattle.history.specs.Vector.{noEntries}
-use Rattle.history.specs.Vector as history
-use Rattle.protocol.specs.Edit.{put, edited}
-use Rattle.protocol.specs.Edit as edit
-use Rattle.verdicts.specs.declared.Vector.{Vector}
-use Rattle.verdicts.specs.Shape.{limits16, at, vectorAt, ringPlace, ringMaker, ringFrame, cut, inHand, makerInHand, frameInHand, vectorFor, listOf}
-use Rattle.verdicts.proofs.Limits.{width16}
-use Rattle.verdicts.proofs.Held.{at-list, at-list-all}
+use Rattle.base_laws.proofs.Logic.{test, and-left, and-right, and-intro, same-test}
+use Rattle.base_laws.proofs.Fill.{length-tabulate}
+use Rattle.theory_history.specs.Vector.{noEntries}
+use Rattle.theory_history.specs.Vector as history
+use Rattle.theory_protocol.specs.Edit.{put, edited}
+use Rattle.theory_protocol.specs.Edit as edit
+use Rattle.cabinet_layout.specs.declared.Vector.{Vector}
+use Rattle.cabinet_layout.specs.Shape.{limits16, at, vectorAt, ringPlace, ringChange, ringFrame, truncate, inHand, changeInHand, frameInHand, vectorFor, listOf}
+use Rattle.cabinet_layout.proofs.Limits.{width16}
+use Rattle.cabinet_layout.proofs.Held.{at-list, at-list-all}
 use Rattle.cabinet.specs.declared.Cabinet.{Cabinet}
 use Rattle.cabinet.specs.View.{view}
 use Rattle.cabinet.specs.Apply.{apply}
@@ -123,7 +123,7 @@ module _ {A : Type 0} (base reached : List ℕ) (c : ℕ) (long : c < length rea
 pub record Grows (s : Cabinet) (c : ℕ) (v : history.Vector) : Type 0 where
   pub card : c < 16
   pub entries : length (s .entries) ≡ 12288
-  pub makers : length (s .makers) ≡ 768
+  pub changes : length (s .changes) ≡ 768
   pub last : length (s .core .last) ≡ 16
   pub pending : length (s .core .pending) ≡ 16
   pub held : length (s .core .held) ≡ 16
@@ -142,21 +142,21 @@ module _ (s : Cabinet) (c k : ℕ) (v : history.Vector) (g : Grows s c v) where
   listed : length (listOf v) ≡ 16
   listed = length-tabulate (limits16 .width) v ∙ width16
 
-  frame-here : cut (ringFrame (sets (s .entries) from (listOf v)) c x) ≡ v
+  frame-here : truncate (ringFrame (sets (s .entries) from (listOf v)) c x) ≡ v
   frame-here = λ i j. by-cases (decLt j 16) (inside j) (outside j) i
     where
-      inside : (j : ℕ) → j < 16 → cut (ringFrame (sets (s .entries) from (listOf v)) c x) j ≡ v j
+      inside : (j : ℕ) → j < 16 → truncate (ringFrame (sets (s .entries) from (listOf v)) c x) j ≡ v j
       inside j h =
           ap (λ (b : Bool). cond b (at (sets (s .entries) from (listOf v)) (from + j)) 0) (lt-ltb j (limits16 .width) (omega (arith, width16)))
           ∙ getD-sets-in (listOf v) (s .entries) from j 0 (omega (arith, listed, g .entries, g .card)) (omega (arith, listed)) ∙ at-list v j h
 
-      outside : (j : ℕ) → ¬ (j < 16) → cut (ringFrame (sets (s .entries) from (listOf v)) c x) j ≡ v j
+      outside : (j : ℕ) → ¬ (j < 16) → truncate (ringFrame (sets (s .entries) from (listOf v)) c x) j ≡ v j
       outside j h =
           ap (λ (b : Bool). cond b (at (sets (s .entries) from (listOf v)) (from + j)) 0) (le-ltb j (limits16 .width) (omega (arith, width16, h)))
           ∙ sym (g .vector j (omega (arith, h)))
 
   frame-other : (d y : ℕ) → ¬ (ringPlace d y ≡ ringPlace c x)
-      → cut (ringFrame (sets (s .entries) from (listOf v)) d y) ≡ cut (ringFrame (s .entries) d y)
+      → truncate (ringFrame (sets (s .entries) from (listOf v)) d y) ≡ truncate (ringFrame (s .entries) d y)
   frame-other d y h = λ i j. by-cases (decLt j 16) (inside j) (outside j) i
     where
       apart : (j : ℕ) → j < 16 → (ringPlace d y * 16 + j < from) ⊎ (from + length (listOf v) ≤ ringPlace d y * 16 + j)
@@ -164,10 +164,10 @@ module _ (s : Cabinet) (c k : ℕ) (v : history.Vector) (g : Grows s c v) where
           by-cases (decLt (ringPlace d y) (ringPlace c x)) (λ b. inl (omega arith))
           (λ b. by-cases (decLt (ringPlace c x) (ringPlace d y)) (λ b′. inr (omega (arith, listed))) (λ b′. absurd (h (omega (arith, b, b′)))))
 
-      inside : (j : ℕ) → j < 16 → cut (ringFrame (sets (s .entries) from (listOf v)) d y) j ≡ cut (ringFrame (s .entries) d y) j
+      inside : (j : ℕ) → j < 16 → truncate (ringFrame (sets (s .entries) from (listOf v)) d y) j ≡ truncate (ringFrame (s .entries) d y) j
       inside j l = ap (λ (e : ℕ). cond (ltb j (limits16 .width)) e 0) (getD-sets-out (listOf v) (s .entries) from (ringPlace d y * 16 + j) 0 (apart j l))
 
-      outside : (j : ℕ) → ¬ (j < 16) → cut (ringFrame (sets (s .entries) from (listOf v)) d y) j ≡ cut (ringFrame (s .entries) d y) j
+      outside : (j : ℕ) → ¬ (j < 16) → truncate (ringFrame (sets (s .entries) from (listOf v)) d y) j ≡ truncate (ringFrame (s .entries) d y) j
       outside j l =
           ap (λ (b : Bool). cond b (at (sets (s .entries) from (listOf v)) (ringPlace d y * 16 + j)) 0) (le-ltb j (limits16 .width) (omega (arith, width16, l)))
           ∙ sym (ap (λ (b : Bool). cond b (at (s .entries) (ringPlace d y * 16 + j)) 0) (le-ltb j (limits16 .width) (omega (arith, width16, l))))
@@ -176,15 +176,15 @@ module _ (s : Cabinet) (c k : ℕ) (v : history.Vector) (g : Grows s c v) where
       ≡ put (frameInHand (s .entries) (s .core .base) (s .core .reached)) c (put (frameInHand (s .entries) (s .core .base) (s .core .reached) c) x v)
   frames =
       in-hand-after (s .core .base) (s .core .reached) c (omega (arith, g .reached, g .card)) (g .low) (g .room)
-      (λ d y. cut (ringFrame (s .entries) d y)) (λ d y. cut (ringFrame (sets (s .entries) from (listOf v)) d y)) noEntries v frame-here frame-other
+      (λ d y. truncate (ringFrame (s .entries) d y)) (λ d y. truncate (ringFrame (sets (s .entries) from (listOf v)) d y)) noEntries v frame-here frame-other
 
-  makes : makerInHand (set (s .makers) (ringPlace c x) k) (s .core .base) (set (s .core .reached) c x)
-      ≡ put (makerInHand (s .makers) (s .core .base) (s .core .reached)) c (put (makerInHand (s .makers) (s .core .base) (s .core .reached) c) x k)
+  makes : changeInHand (set (s .changes) (ringPlace c x) k) (s .core .base) (set (s .core .reached) c x)
+      ≡ put (changeInHand (s .changes) (s .core .base) (s .core .reached)) c (put (changeInHand (s .changes) (s .core .base) (s .core .reached) c) x k)
   makes =
       in-hand-after (s .core .base) (s .core .reached) c (omega (arith, g .reached, g .card)) (g .low) (g .room)
-      (ringMaker (s .makers)) (ringMaker (set (s .makers) (ringPlace c x) k)) 0 k
-      (getD-set-same (s .makers) (ringPlace c x) k 0 (omega (arith, g .makers, g .card)))
-      (λ d y h. getD-set-other (s .makers) (ringPlace c x) (ringPlace d y) k 0 h)
+      (ringChange (s .changes)) (ringChange (set (s .changes) (ringPlace c x) k)) 0 k
+      (getD-set-same (s .changes) (ringPlace c x) k 0 (omega (arith, g .changes, g .card)))
+      (λ d y h. getD-set-other (s .changes) (ringPlace c x) (ringPlace d y) k 0 h)
 
   lists : (l : List Vector) → length l ≡ 16 → vectorAt (set l c (vectorFor v)) ≡ put (vectorAt l) c v
   lists l e =
@@ -200,4 +200,4 @@ module _ (s : Cabinet) (c k : ℕ) (v : history.Vector) (g : Grows s c v) where
         held = at-set (s .core .held) c x (omega (arith, g .held, g .card)) i;
         reached = at-set (s .core .reached) c x (omega (arith, g .reached, g .card)) i;
       })
-      (record { last = lists (s .core .last) (g .last) i; pending = lists (s .core .pending) (g .pending) i; maker = makes i; frame = frames i })
+      (record { last = lists (s .core .last) (g .last) i; pending = lists (s .core .pending) (g .pending) i; change = makes i; frame = frames i })

@@ -9,19 +9,19 @@ use native.Mathlib.Omega.{arith}
 use lib.ListN.{length, getD, set, List·getD-eq-default}
 use lib.Seq.{getD-set-same, getD-set-other}
 use borrow.Author.Tests.{eq-eqb, ne-eqb}
-use Rattle.laws.specs.Below.{tabulate}
-use Rattle.laws.proofs.Fill.{length-tabulate, getD-tabulate}
-use Rattle.history.specs.Change.{CardSet, Numbers}
-use Rattle.history.specs.Vector.{noEntries}
-use Rattle.history.specs.Vector as history
-use Rattle.protocol.specs.Model.{Model, OpenChange, freePlace, noCards}
-use Rattle.protocol.specs.Edit.{put, edited, remembered}
-use Rattle.protocol.specs.Edit as edit
-use Rattle.verdicts.specs.declared.Place.{Place}
-use Rattle.verdicts.specs.declared.Vector.{Vector}
-use Rattle.verdicts.specs.Shape.{limits16, at, vectorAt, openOf, openAt, placeFor, vectorFor, emptyPlace}
-use Rattle.verdicts.proofs.Limits.{width16, places8}
-use Rattle.verdicts.proofs.Held.{at-list-all, member-set, Fits, open-back, free-fits, no-place}
+use Rattle.base_laws.specs.Below.{tabulate}
+use Rattle.base_laws.proofs.Fill.{length-tabulate, getD-tabulate}
+use Rattle.theory_history.specs.Change.{CardSet, Numbers}
+use Rattle.theory_history.specs.Vector.{noEntries}
+use Rattle.theory_history.specs.Vector as history
+use Rattle.theory_protocol.specs.Model.{Model, OpenChange, freeSlot, noCards}
+use Rattle.theory_protocol.specs.Edit.{put, edited, remembered}
+use Rattle.theory_protocol.specs.Edit as edit
+use Rattle.cabinet_layout.specs.declared.Slot.{Slot}
+use Rattle.cabinet_layout.specs.declared.Vector.{Vector}
+use Rattle.cabinet_layout.specs.Shape.{limits16, at, vectorAt, openOf, openAt, slotFor, vectorFor, emptySlot}
+use Rattle.cabinet_layout.proofs.Limits.{width16, slots8}
+use Rattle.cabinet_layout.proofs.Held.{at-list-all, member-set, Fits, open-back, free-fits, no-slot}
 use Rattle.cabinet.specs.declared.Cabinet.{Cabinet}
 use Rattle.cabinet.specs.View.{view}
 use Rattle.cabinet.specs.Apply.{apply}
@@ -49,18 +49,18 @@ at-set l i v h = shown-set 0 (λ x. x) l i v h
 pub keep-law : (s : Cabinet) (c x : ℕ) → c < length (s .core .stored) → view (apply (edit.keep c x) s) ≡ edited limits16 (edit.keep c x) (view s)
 keep-law s c x h = ap (λ (f : Numbers). edit.withNumbers (view s) (record { base = at (s .core .base); stored = f; held = at (s .core .held); reached = at (s .core .reached) }) (view s .memory)) (at-set (s .core .stored) c x h)
 
-pub count-law : (s : Cabinet) (k : ℕ) → view (apply (edit.count k) s) ≡ edited limits16 (edit.count k) (view s)
+pub count-law : (s : Cabinet) (k : ℕ) → view (apply (edit.latest k) s) ≡ edited limits16 (edit.latest k) (view s)
 count-law s k = refl
 
-pub place-law : (s : Cabinet) (p : ℕ) (o : OpenChange) → p < length (s .core .places) → Fits o → view (apply (edit.place p o) s) ≡ edited limits16 (edit.place p o) (view s)
+pub place-law : (s : Cabinet) (p : ℕ) (o : OpenChange) → p < length (s .core .slots) → Fits o → view (apply (edit.place p o) s) ≡ edited limits16 (edit.place p o) (view s)
 place-law s p o h f =
-    ap (λ (g : ℕ → OpenChange). edit.withPlaces (view s) g (view s .ended)) (shown-set emptyPlace openOf (s .core .places) p (placeFor o) h ∙ ap (λ (q : OpenChange). put (openAt (s .core .places)) p q) (open-back o f))
+    ap (λ (g : ℕ → OpenChange). edit.withSlots (view s) g (view s .ended)) (shown-set emptySlot openOf (s .core .slots) p (slotFor o) h ∙ ap (λ (q : OpenChange). put (openAt (s .core .slots)) p q) (open-back o f))
 
 -- a vector read back from the list of 16 that holds it
 pub raise-law : (s : Cabinet) (c : ℕ) (v : history.Vector) → c < length (s .core .pending) → ((k : ℕ) → 16 ≤ k → history.joined (vectorAt (s .core .pending) c) v k ≡ 0)
     → view (apply (edit.raise c v) s) ≡ edited limits16 (edit.raise c v) (view s)
 raise-law s c v h z =
-    ap (λ (g : ℕ → history.Vector). edit.withMemory (view s) (record { last = view s .memory .last; pending = g; maker = view s .memory .maker; frame = view s .memory .frame }))
+    ap (λ (g : ℕ → history.Vector). edit.withMemory (view s) (record { last = view s .memory .last; pending = g; change = view s .memory .change; frame = view s .memory .frame }))
     (shown-set (record { entries = [] }) (λ (x : Vector). at (x .entries)) (s .core .pending) c (vectorFor (history.joined (vectorAt (s .core .pending) c) v)) h
     ∙ ap (λ (q : history.Vector). put (vectorAt (s .core .pending)) c q) (at-list-all (history.joined (vectorAt (s .core .pending) c) v) z))
 
@@ -82,38 +82,38 @@ fall-law s cards es eh =
 
 -- ---- the law of a halt
 -- a list of eight places, one by one, and what stands beyond them
-pub places-by : {A B : Type 0} (d : A) (f : A → B) (g : ℕ → A) (h : ℕ → B) → ((p : ℕ) → p < 8 → f (g p) ≡ h p) → ((p : ℕ) → 8 ≤ p → f d ≡ h p)
-    → (λ (p : ℕ). f (getD (tabulate (limits16 .places) g) p d)) ≡ h
-places-by d f g h below beyond′ = λ i p. by-cases (decLt p 8) (here p) (there p) i
+pub slots-by : {A B : Type 0} (d : A) (f : A → B) (g : ℕ → A) (h : ℕ → B) → ((p : ℕ) → p < 8 → f (g p) ≡ h p) → ((p : ℕ) → 8 ≤ p → f d ≡ h p)
+    → (λ (p : ℕ). f (getD (tabulate (limits16 .slots) g) p d)) ≡ h
+slots-by d f g h below beyond′ = λ i p. by-cases (decLt p 8) (here p) (there p) i
   where
-    here : (p : ℕ) → p < 8 → f (getD (tabulate (limits16 .places) g) p d) ≡ h p
-    here p l = ap f (getD-tabulate (limits16 .places) g d p (omega (arith, places8))) ∙ below p l
+    here : (p : ℕ) → p < 8 → f (getD (tabulate (limits16 .slots) g) p d) ≡ h p
+    here p l = ap f (getD-tabulate (limits16 .slots) g d p (omega (arith, slots8))) ∙ below p l
 
-    there : (p : ℕ) → ¬ (p < 8) → f (getD (tabulate (limits16 .places) g) p d) ≡ h p
-    there p l = ap f (List·getD-eq-default (tabulate (limits16 .places) g) d (omega (arith, l, length-tabulate (limits16 .places) g, places8))) ∙ beyond′ p (omega (arith, l))
+    there : (p : ℕ) → ¬ (p < 8) → f (getD (tabulate (limits16 .slots) g) p d) ≡ h p
+    there p l = ap f (List·getD-eq-default (tabulate (limits16 .slots) g) d (omega (arith, l, length-tabulate (limits16 .slots) g, slots8))) ∙ beyond′ p (omega (arith, l))
 
-pub halt-law : (s : Cabinet) → length (s .core .places) ≡ 8 → view (apply edit.halt s) ≡ edited limits16 edit.halt (view s)
+pub halt-law : (s : Cabinet) → length (s .core .slots) ≡ 8 → view (apply edit.halt s) ≡ edited limits16 edit.halt (view s)
 halt-law s e =
     λ i. edit.withHead
-    (edit.withPlaces (view s)
-    (places-by emptyPlace openOf (λ p. placeFor freePlace) (λ p. freePlace) (λ p l. open-back freePlace free-fits) (λ p l. no-place) i)
-    (places-by 0 (λ (x : ℕ). x) (λ p. remembered limits16 (openAt (s .core .places) p)) (λ p. remembered limits16 (openAt (s .core .places) p)) (λ p l. refl) gone i))
+    (edit.withSlots (view s)
+    (slots-by emptySlot openOf (λ p. slotFor freeSlot) (λ p. freeSlot) (λ p l. open-back freeSlot free-fits) (λ p l. no-slot) i)
+    (slots-by 0 (λ (x : ℕ). x) (λ p. remembered limits16 (openAt (s .core .slots) p)) (λ p. remembered limits16 (openAt (s .core .slots) p)) (λ p l. refl) gone i))
     (view s .session)
-    Rattle.protocol.specs.Model.down
-    (view s .count)
+    Rattle.theory_protocol.specs.Model.down
+    (view s .latest)
   where
-    gone : (p : ℕ) → 8 ≤ p → 0 ≡ remembered limits16 (openAt (s .core .places) p)
+    gone : (p : ℕ) → 8 ≤ p → 0 ≡ remembered limits16 (openAt (s .core .slots) p)
     gone p l =
-        sym (ap (λ (q : Place). remembered limits16 (openOf q)) (List·getD-eq-default (s .core .places) emptyPlace (omega (arith, e))))
+        sym (ap (λ (q : Slot). remembered limits16 (openOf q)) (List·getD-eq-default (s .core .slots) emptySlot (omega (arith, e))))
 
 -- ---- the laws of a trim, a fix, a roll and a new session
 pub fix-law : (s : Cabinet) (line : Numbers) → ((k : ℕ) → 16 ≤ k → line k ≡ 0) → view (apply (edit.fix line) s) ≡ edited limits16 (edit.fix line) (view s)
 fix-law s line z =
     λ i. edit.withHead
-    (edit.withLine (edit.withPlaces (view s) (view s .place) (places-by 0 (λ (x : ℕ). x) (λ p. 0) (λ p. 0) (λ p l. refl) (λ p l. refl) i)) (at-list-all line z i) (member-set noCards (λ k h. refl) i))
+    (edit.withLine (edit.withSlots (view s) (view s .slot) (slots-by 0 (λ (x : ℕ). x) (λ p. 0) (λ p. 0) (λ p l. refl) (λ p l. refl) i)) (at-list-all line z i) (member-set noCards (λ k h. refl) i))
     (view s .session)
-    Rattle.protocol.specs.Model.rolling
-    (view s .count)
+    Rattle.theory_protocol.specs.Model.rolling
+    (view s .latest)
 
 vectors-none : vectorAt (tabulate (limits16 .width) (λ c. vectorFor noEntries)) ≡ (λ c. noEntries)
 vectors-none = λ i c. by-cases (decLt c 16) (here c) (there c) i
@@ -131,7 +131,7 @@ vectors-none = λ i c. by-cases (decLt c 16) (here c) (there c) i
 pub renew-law : (s : Cabinet) → view (apply edit.renew s) ≡ edited limits16 edit.renew (view s)
 renew-law s =
     λ i. edit.withHead
-    (edit.withLine (edit.withMemory (view s) (record { last = vectors-none i; pending = vectors-none i; maker = view s .memory .maker; frame = view s .memory .frame })) (view s .line) (member-set noCards (λ k h. refl) i))
+    (edit.withLine (edit.withMemory (view s) (record { last = vectors-none i; pending = vectors-none i; change = view s .memory .change; frame = view s .memory .frame })) (view s .line) (member-set noCards (λ k h. refl) i))
     (suc (view s .session))
-    Rattle.protocol.specs.Model.up
+    Rattle.theory_protocol.specs.Model.up
     0

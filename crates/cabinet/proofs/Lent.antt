@@ -4,15 +4,15 @@ use mathlib.Core.Path.{_≡_, _∙_, ap, subst}
 use mathlib.Core.List.{List}
 use lib.ListN.{length}
 use lib.Seq.{length-take-le}
-use Rattle.protocol.specs.Edit.{Edit}
-use Rattle.protocol.specs.Calls.{fixPlan}
-use Rattle.verdicts.specs.Shape.{limits16}
-use Rattle.recovery.specs.declared.FixReply.{FixReply}
-use Rattle.records.specs.declared.CardRecord.{CardRecord}
-use Rattle.records.specs.declared.CardNumbers.{CardNumbers}
-use Rattle.records.specs.Records.{filled}
-use Rattle.fixing.specs.Fixed.{numbersOf}
-use Rattle.fixing.proofs.Lent.{lent}
+use Rattle.theory_protocol.specs.Edit.{Edit}
+use Rattle.theory_protocol.specs.Calls.{fixPlan}
+use Rattle.cabinet_layout.specs.Shape.{limits16}
+use Rattle.cabinet_recovery.specs.declared.FixReply.{FixReply}
+use Rattle.cabinet_records.specs.declared.CardRecord.{CardRecord}
+use Rattle.cabinet_records.specs.declared.CardNumbers.{CardNumbers}
+use Rattle.cabinet_records.specs.Records.{filled}
+use Rattle.cabinet_fixing.specs.Fixed.{numbersOf}
+use Rattle.cabinet_fixing.proofs.Lent.{lent}
 use Rattle.cabinet.specs.declared.Cabinet.{Cabinet}
 use Rattle.cabinet.specs.declared.recover.FixAnswer.{FixAnswer}
 use Rattle.cabinet.specs.View.{view}
@@ -28,7 +28,7 @@ lends s records list listNow a t numbers recordsNow e f =
     record {
       carried = t;
       filled = f ∙ ap (λ (h : CardNumbers). filled h records) e
-          ∙ lent (s .entries) (s .makers) (s .core) records list listNow (a .reply) (a .cabinet .core) (record { told = t .told; core = core-fixed s (a .cabinet) es (t .cabinet) });
+          ∙ lent (s .entries) (s .changes) (s .core) records list listNow (a .reply) (a .cabinet .core) (record { told = t .told; core = core-fixed s (a .cabinet) es (t .cabinet) });
     }
 
 -- where the first n places of an array are lent, fix has n places for card records

@@ -3,23 +3,23 @@ use Prim.Native.Nat.{ℕ}
 use mathlib.Core.Path.{_≡_}
 use mathlib.Core.Bool.{true}
 use mathlib.Core.List.{List, [], _∷_}
-use Rattle.laws.specs.Below.{anyBelow, firstBelow}
-use Rattle.bits.specs.Member.{member}
-use Rattle.protocol.specs.Edit.{Edit}
-use Rattle.protocol.specs.Plan.{Plan, Reply}
-use Rattle.protocol.specs.Calls.{barred, openPlan}
-use Rattle.verdicts.specs.declared.Core.{Core}
-use Rattle.verdicts.specs.Shape.{limits16}
-use Rattle.verdicts.specs.Applied.{applied, entriesAfter, makersAfter}
+use Rattle.base_laws.specs.Below.{anyBelow, firstBelow}
+use Rattle.base_bits.specs.Member.{member}
+use Rattle.theory_protocol.specs.Edit.{Edit}
+use Rattle.theory_protocol.specs.Plan.{Plan, Reply}
+use Rattle.theory_protocol.specs.Calls.{barred, openPlan}
+use Rattle.cabinet_layout.specs.declared.Core.{Core}
+use Rattle.cabinet_layout.specs.Shape.{limits16}
+use Rattle.cabinet_layout.specs.Applied.{applied, entriesAfter, changesAfter}
 use Rattle.cabinet.specs.declared.Cabinet.{Cabinet}
 use Rattle.cabinet.specs.View.{view}
 
 abbrev pub withCore : Cabinet → Core → Cabinet
-withCore s core = record { entries = s .entries; makers = s .makers; core = core }
+withCore s core = record { entries = s .entries; changes = s .changes; core = core }
 
 abbrev pub apply : Edit → Cabinet → Cabinet
 apply e s =
-    record { entries = entriesAfter e (s .core) (s .entries); makers = makersAfter e (s .core) (s .makers); core = applied e (s .core) }
+    record { entries = entriesAfter e (s .core) (s .entries); changes = changesAfter e (s .core) (s .changes); core = applied e (s .core) }
 
 abbrev pub applyAll : List Edit → Cabinet → Cabinet
 applyAll [] s = s

@@ -3,14 +3,14 @@ use Prim.Native.Nat.{ℕ}
 use mathlib.Core.Path.{_≡_}
 use mathlib.Core.List.{List}
 use lib.ListN.{length}
-use Rattle.protocol.specs.Calls.{fixPlan}
-use Rattle.verdicts.specs.Shape.{limits16}
-use Rattle.recovery.specs.declared.FixReply.{FixReply}
-use Rattle.recovery.specs.Fix.{FixTold}
+use Rattle.theory_protocol.specs.Calls.{fixPlan}
+use Rattle.cabinet_layout.specs.Shape.{limits16}
+use Rattle.cabinet_recovery.specs.declared.FixReply.{FixReply}
+use Rattle.cabinet_recovery.specs.Fix.{FixResult}
 use Rattle.cabinet.specs.declared.Cabinet.{Cabinet}
 use Rattle.cabinet.specs.View.{view}
 use Rattle.cabinet.specs.Apply.{applyAll}
 
 pub record FixCarried (s : Cabinet) (places : ℕ) (before after : List ℕ) (reply : FixReply) (next : Cabinet) : Type 0 where
-  pub told : FixTold (view s) (fixPlan limits16 (view s) places (length before)) (s .core .head .cards) (next .core .stored) (next .core .line) before after reply
+  pub told : FixResult (view s) (fixPlan limits16 (view s) places (length before)) (s .core .head .cards) (next .core .stored) (next .core .line) before after reply
   pub cabinet : next ≡ applyAll (fixPlan limits16 (view s) places (length before) (told .lost) .edits) s

@@ -3,11 +3,11 @@ use Prim.Native.Nat.{ℕ}
 use mathlib.Core.Path.{_≡_}
 use mathlib.Core.List.{List}
 use lib.ListN.{length, take, drop}
-use Rattle.protocol.specs.Calls.{fixPlan}
-use Rattle.verdicts.specs.Shape.{limits16}
-use Rattle.recovery.specs.declared.FixReply.{FixReply}
-use Rattle.records.specs.declared.CardRecord.{CardRecord}
-pub use Rattle.fixing.specs.Fixed.{recordsAfter}
+use Rattle.theory_protocol.specs.Calls.{fixPlan}
+use Rattle.cabinet_layout.specs.Shape.{limits16}
+use Rattle.cabinet_recovery.specs.declared.FixReply.{FixReply}
+use Rattle.cabinet_records.specs.declared.CardRecord.{CardRecord}
+pub use Rattle.cabinet_fixing.specs.Fixed.{recordsAfter}
 use Rattle.cabinet.specs.declared.Cabinet.{Cabinet}
 use Rattle.cabinet.specs.View.{view}
 use Rattle.cabinet.specs.Fixing.{FixCarried}

@@ -1,18 +1,18 @@
 // The cabinet of 16 cards: its struct, and calls 1 to 10 as methods that hand it back, in the modules below.
 ghost use mathlib.Core.List.{[], _∷_};
 ghost use mathlib.Core.Path.{_≡_};
-ghost use Rattle.limits.specs.Document.{mostCards, mostInHand, mostOpen, lastState};
-ghost use Rattle.verdicts.specs.Answers.{replyOf};
+ghost use Rattle.base_limits.specs.Document.{mostCards, mostInHand, mostOpen, lastState};
+ghost use Rattle.cabinet_layout.specs.Answers.{replyOf};
 ghost use Rattle.cabinet.specs.Fresh.{Freshly, zeroCabinet};
-use limits::Limits;
-use refusal::Refusal;
-use refusal::Reply;
-use verdicts::Core;
-use verdicts::Head;
-use verdicts::OpenReply;
-use verdicts::Phase;
-use verdicts::SafeReply;
-use verdicts::Vector;
+use base_limits::Limits;
+use base_refusal::Refusal;
+use base_refusal::Reply;
+use cabinet_layout::Core;
+use cabinet_layout::Head;
+use cabinet_layout::OpenReply;
+use cabinet_layout::Phase;
+use cabinet_layout::SafeReply;
+use cabinet_layout::Vector;
 
 pub mod recover;
 pub mod sheets;
@@ -24,7 +24,7 @@ pub struct Cabinet {
     // the vectors of the frames, 16 entries each
     pub entries: [u32; Limits::ENTRIES],
     // the changes that made the states of the frames
-    pub makers: [u32; Limits::FRAMES],
+    pub changes: [u32; Limits::FRAMES],
     // all but the frames; its head stands right after them, and they then are copied once
     pub core: Core,
 }
@@ -55,27 +55,27 @@ pub fn zeros(head: Head) -> Cabinet
     let v = Vector { entries: none };
     let last = [v; Limits::CARDS];
     let pending = [v; Limits::CARDS];
-    let free = verdicts::free_place();
-    let places = [free; Limits::PLACES];
+    let free = cabinet_layout::free_slot();
+    let places = [free; Limits::SLOTS];
     let entries = [0u32; Limits::ENTRIES];
-    let makers = [0u32; Limits::FRAMES];
+    let changes = [0u32; Limits::FRAMES];
     // written out: a core or a list that another function hands over would be copied once more
     let core = Core {
         head: head,
         last: last,
         pending: pending,
-        places: places,
+        slots: places,
         base: none,
         stored: none,
         held: none,
         reached: none,
         line: none,
-        ended: [0u32; Limits::PLACES],
+        ended: [0u32; Limits::SLOTS],
         rolled: 0,
     };
     Cabinet {
         entries: entries,
-        makers: makers,
+        changes: changes,
         core: core,
     }
 }
@@ -86,7 +86,7 @@ impl Cabinet {
 
     pub const IN_HAND: u32 = Limits::IN_HAND_U32;
 
-    pub const PLACES: u32 = Limits::PLACES as u32;
+    pub const SLOTS: u32 = Limits::SLOTS as u32;
 
     pub const GREATEST_STATE: u32 = Limits::GREATEST_STATE;
 
@@ -97,7 +97,7 @@ impl Cabinet {
         [
             Cabinet::WIDTH,
             Cabinet::IN_HAND,
-            Cabinet::PLACES,
+            Cabinet::SLOTS,
             Cabinet::GREATEST_STATE,
         ]
     }
@@ -106,16 +106,16 @@ impl Cabinet {
     pub fn fresh(cards: u32) -> Answer
         ensures { λ r. ⌜ Freshly cards (replyOf (r .reply)) (r .cabinet) ⌝ }
     {
-        let good = parts::cards_fit(cards);
+        let good = cabinet_parts::cards_fit(cards);
         if good {
-            let head = parts::fresh_head(cards);
+            let head = cabinet_parts::fresh_head(cards);
             let c = zeros(head);
             Answer {
                 cabinet: c,
                 reply: Reply::Done,
             }
         } else {
-            let head = verdicts::head_of(0, 0, Phase::Up);
+            let head = cabinet_layout::head_of(0, 0, Phase::Up);
             let c = zeros(head);
             Answer {
                 cabinet: c,

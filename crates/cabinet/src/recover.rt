@@ -1,20 +1,20 @@
 // Calls 6, 9 and 10 as methods: trim, fix, roll.
 ghost use Prim.Native.Nat.{min};
 ghost use mathlib.Core.Path.{_≡_};
-ghost use Rattle.protocol.specs.Calls.{trimPlan, rollPlan};
-ghost use Rattle.verdicts.specs.Shape.{limits16};
-ghost use Rattle.verdicts.specs.Answers.{replyOf};
-ghost use Rattle.fixing.specs.Fixed.{numbersOf};
+ghost use Rattle.theory_protocol.specs.Calls.{trimPlan, rollPlan};
+ghost use Rattle.cabinet_layout.specs.Shape.{limits16};
+ghost use Rattle.cabinet_layout.specs.Answers.{replyOf};
+ghost use Rattle.cabinet_fixing.specs.Fixed.{numbersOf};
 ghost use Rattle.cabinet.specs.View.{view};
 ghost use Rattle.cabinet.specs.Apply.{Carried};
 ghost use Rattle.cabinet.specs.Fixing.{FixCarried};
 ghost use Rattle.cabinet.specs.Lent.{FixLent, FixPart};
 use crate::Answer;
 use crate::Cabinet;
-use limits::Limits;
-use records::CardNumbers;
-use records::CardRecord;
-use recovery::FixReply;
+use base_limits::Limits;
+use cabinet_records::CardNumbers;
+use cabinet_records::CardRecord;
+use cabinet_recovery::FixReply;
 
 // What fix hands back: an accepted one answers the stored numbers and the line of the cabinet.
 pub struct FixAnswer {
@@ -34,7 +34,7 @@ fn numbers_of(answer: FixAnswer) -> CardNumbers
 {
     let core = answer.cabinet.core;
     let reply = answer.reply;
-    fixing::numbers_of(reply, core)
+    cabinet_fixing::numbers_of(reply, core)
 }
 
 // How many places of an array of 16 card records are lent.
@@ -61,7 +61,7 @@ impl Cabinet {
         ensures { λ r. ⌜ Carried self (trimPlan limits16 (view self)) (replyOf (r .reply)) (r .cabinet) ⌝ }
     {
         let core = self.core;
-        let out = trimming::trim(&self.entries, &self.makers, core);
+        let out = cabinet_trimming::trim(&self.entries, &self.changes, core);
         let r = out.reply;
         let next = out.core;
         self.core = next;
@@ -76,7 +76,7 @@ impl Cabinet {
         ensures { λ r. ⌜ FixCarried self places (now (list .entry)) (now (list .exit)) (r .reply) (r .cabinet) ⌝ }
     {
         let core = self.core;
-        let out = fixing::fix(list, &self.entries, &self.makers, core, places);
+        let out = cabinet_fixing::fix(list, &self.entries, &self.changes, core, places);
         let r = out.reply;
         let after = out.core;
         let mut next = self;
@@ -93,7 +93,7 @@ impl Cabinet {
     {
         let answer = self.fixed(records.len(), list);
         let numbers = numbers_of(answer);
-        records::fill(records, numbers);
+        cabinet_records::fill(records, numbers);
         answer
     }
 
@@ -116,8 +116,8 @@ impl Cabinet {
         ensures { λ r. ⌜ Carried self (rollPlan limits16 (view self) card) (replyOf (r .reply)) (r .cabinet) ⌝ }
     {
         let core = self.core;
-        let sound = soundness::cabinet_sound(&self.entries, &self.makers, core);
-        let out = rolling::roll(sound, core, card);
+        let valid = cabinet_valid::cabinet_valid(&self.entries, &self.changes, core);
+        let out = cabinet_rolling::roll(valid, core, card);
         let r = out.reply;
         let next = out.core;
         self.core = next;

@@ -1,7 +1,7 @@
 // A card's sheet, written in every phase.
 ghost use Rattle.cabinet.specs.Writing.{SheetCarried};
 use crate::Cabinet;
-use write::Written;
+use sheet_page_writer::Written;
 
 // What the writer of a sheet hands back: the length of the sheet, which stands at the front of the lent buffer.
 pub struct SheetAnswer {
@@ -15,7 +15,7 @@ impl Cabinet {
         ensures { λ r. ⌜ SheetCarried self card (now (buffer .entry)) (now (buffer .exit)) (r .reply) (r .cabinet) ⌝ }
     {
         let core = self.core;
-        let r = card_sheet::sheet(buffer, &self.entries, &self.makers, core, card);
+        let r = cabinet_sheet::sheet(buffer, &self.entries, &self.changes, core, card);
         SheetAnswer {
             cabinet: self,
             reply: r,

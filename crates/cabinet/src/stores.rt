@@ -1,8 +1,8 @@
 // Calls 5, 7 and 8 as methods: store, safe, lose.
-ghost use Rattle.bits.specs.Member.{member};
-ghost use Rattle.protocol.specs.Calls.{storePlan, safePlan, losePlan};
-ghost use Rattle.verdicts.specs.Shape.{limits16};
-ghost use Rattle.verdicts.specs.Answers.{replyOf, safeReplyOf};
+ghost use Rattle.base_bits.specs.Member.{member};
+ghost use Rattle.theory_protocol.specs.Calls.{storePlan, safePlan, losePlan};
+ghost use Rattle.cabinet_layout.specs.Shape.{limits16};
+ghost use Rattle.cabinet_layout.specs.Answers.{replyOf, safeReplyOf};
 ghost use Rattle.cabinet.specs.View.{view};
 ghost use Rattle.cabinet.specs.Apply.{Carried};
 use crate::Answer;
@@ -15,8 +15,8 @@ impl Cabinet {
         ensures { λ r. ⌜ Carried self (storePlan limits16 (view self) card state) (replyOf (r .reply)) (r .cabinet) ⌝ }
     {
         let core = self.core;
-        let sound = soundness::cabinet_sound(&self.entries, &self.makers, core);
-        let out = storing::store(sound, core, card, state);
+        let valid = cabinet_valid::cabinet_valid(&self.entries, &self.changes, core);
+        let out = cabinet_storing::store(valid, core, card, state);
         let r = out.reply;
         let next = out.core;
         self.core = next;
@@ -31,7 +31,7 @@ impl Cabinet {
         ensures { λ r. ⌜ Carried self (safePlan limits16 (view self) change) (safeReplyOf (r .reply)) (r .cabinet) ⌝ }
     {
         let core = self.core;
-        let r = trimming::safe(&self.entries, &self.makers, core, change);
+        let r = cabinet_trimming::safe(&self.entries, &self.changes, core, change);
         SafeAnswer {
             cabinet: self,
             reply: r,
@@ -43,9 +43,9 @@ impl Cabinet {
         ensures { λ r. ⌜ Carried self (losePlan limits16 (view self) (member cards)) (replyOf (r .reply)) (r .cabinet) ⌝ }
     {
         let core = self.core;
-        let makers = self.makers;
-        let sound = soundness::cabinet_sound(&self.entries, &makers, core);
-        let out = storing::lose(sound, core, cards);
+        let changes = self.changes;
+        let valid = cabinet_valid::cabinet_valid(&self.entries, &changes, core);
+        let out = cabinet_storing::lose(valid, core, cards);
         let r = out.reply;
         let after = out.core;
         let mut next = self;

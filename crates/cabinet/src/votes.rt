@@ -1,7 +1,7 @@
 // Calls 1 to 4 as methods: open, vote, take, withdraw.
-ghost use Rattle.protocol.specs.Calls.{takePlan, votePlan, withdrawPlan};
-ghost use Rattle.verdicts.specs.Shape.{limits16};
-ghost use Rattle.verdicts.specs.Answers.{replyOf, openReplyOf};
+ghost use Rattle.theory_protocol.specs.Calls.{takePlan, votePlan, withdrawPlan};
+ghost use Rattle.cabinet_layout.specs.Shape.{limits16};
+ghost use Rattle.cabinet_layout.specs.Answers.{replyOf, openReplyOf};
 ghost use Rattle.cabinet.specs.View.{view};
 ghost use Rattle.cabinet.specs.Apply.{Carried, OpenCarried};
 use crate::Answer;
@@ -14,8 +14,8 @@ impl Cabinet {
         ensures { λ r. ⌜ OpenCarried self reads writes (openReplyOf (r .reply)) (r .cabinet) ⌝ }
     {
         let core = self.core;
-        let sound = soundness::cabinet_sound(&self.entries, &self.makers, core);
-        let out = voting::open(sound, core, reads, writes);
+        let valid = cabinet_valid::cabinet_valid(&self.entries, &self.changes, core);
+        let out = cabinet_voting::open(valid, core, reads, writes);
         let r = out.reply;
         let next = out.core;
         self.core = next;
@@ -30,8 +30,8 @@ impl Cabinet {
         ensures { λ r. ⌜ Carried self (votePlan limits16 (view self) change card agrees) (replyOf (r .reply)) (r .cabinet) ⌝ }
     {
         let core = self.core;
-        let sound = soundness::cabinet_sound(&self.entries, &self.makers, core);
-        let out = voting::vote(sound, core, change, card, agrees);
+        let valid = cabinet_valid::cabinet_valid(&self.entries, &self.changes, core);
+        let out = cabinet_voting::vote(valid, core, change, card, agrees);
         let r = out.reply;
         let next = out.core;
         self.core = next;
@@ -46,14 +46,14 @@ impl Cabinet {
         ensures { λ r. ⌜ Carried self (takePlan limits16 (view self) change card) (replyOf (r .reply)) (r .cabinet) ⌝ }
     {
         let core = self.core;
-        let sound = soundness::cabinet_sound(&self.entries, &self.makers, core);
-        let out = taking::take(sound, core, change, card);
+        let valid = cabinet_valid::cabinet_valid(&self.entries, &self.changes, core);
+        let out = cabinet_taking::take(valid, core, change, card);
         let r = out.reply;
         let x = out.state;
-        let k = out.maker;
+        let k = out.change;
         let w = out.vector;
-        frames::put_maker(&mut self.makers, card, x, k);
-        frames::put_vector(&mut self.entries, card, x, w);
+        cabinet_frames::put_change(&mut self.changes, card, x, k);
+        cabinet_frames::put_vector(&mut self.entries, card, x, w);
         let after = out.core;
         self.core = after;
         Answer {
@@ -67,8 +67,8 @@ impl Cabinet {
         ensures { λ r. ⌜ Carried self (withdrawPlan limits16 (view self) change) (replyOf (r .reply)) (r .cabinet) ⌝ }
     {
         let core = self.core;
-        let sound = soundness::cabinet_sound(&self.entries, &self.makers, core);
-        let out = voting::withdraw(sound, core, change);
+        let valid = cabinet_valid::cabinet_valid(&self.entries, &self.changes, core);
+        let out = cabinet_voting::withdraw(valid, core, change);
         let r = out.reply;
         let next = out.core;
         self.core = next;

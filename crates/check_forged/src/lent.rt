@@ -4,36 +4,36 @@ use crate::lists::run;
 use cabinet::Cabinet;
 use cabinet::recover::RecordsAnswer;
 use libc::STDOUT_FILENO;
-use limits::Limits;
-use records::CardRecord;
-use recovery::FixReply;
-use write::Written;
+use base_limits::Limits;
+use cabinet_records::CardRecord;
+use cabinet_recovery::FixReply;
+use sheet_page_writer::Written;
 
 fn say(n: u32) {
     io::print_decimal(STDOUT_FILENO, n as u64);
-    streams::print(b" ");
+    base_streams::print(b" ");
 }
 
 fn say_record(r: CardRecord) {
     say(r.card);
     say(r.stored);
     say(r.line);
-    streams::print(b"\n");
+    base_streams::print(b"\n");
 }
 
 // How many changes are lost, or the refusal.
 fn say_reply(r: FixReply) {
     match r {
         FixReply::Fixed(n) => {
-            streams::print(b"fixed ");
+            base_streams::print(b"fixed ");
             io::print_decimal(STDOUT_FILENO, n as u64);
         }
         FixReply::NotFixed(q) => {
-            streams::print(b"refused ");
-            io::print_decimal(STDOUT_FILENO, refusal::number(q) as u64);
+            base_streams::print(b"refused ");
+            io::print_decimal(STDOUT_FILENO, base_refusal::number(q) as u64);
         }
     }
-    streams::print(b"\n");
+    base_streams::print(b"\n");
 }
 
 // The first three records and the last.
@@ -106,15 +106,15 @@ fn lists() {
 pub fn say_written(w: Written) {
     match w {
         Written::Length(n) => {
-            streams::print(b"wrote ");
+            base_streams::print(b"wrote ");
             io::print_decimal(STDOUT_FILENO, n as u64);
         }
         Written::Refused(q) => {
-            streams::print(b"refused ");
-            io::print_decimal(STDOUT_FILENO, refusal::number(q) as u64);
+            base_streams::print(b"refused ");
+            io::print_decimal(STDOUT_FILENO, base_refusal::number(q) as u64);
         }
     }
-    streams::print(b"\n");
+    base_streams::print(b"\n");
 }
 
 // A card's sheet into the first bytes of a buffer.
@@ -132,8 +132,8 @@ fn sheet(c: Cabinet, card: u32, room: usize) {
     let mut b = [46u8; 80];
     let w = sheet_within(c, card, &mut b, room);
     say_written(w);
-    streams::print(&b);
-    streams::print(b"\n");
+    base_streams::print(&b);
+    base_streams::print(b"\n");
 }
 
 fn buffers() {

@@ -1,15 +1,15 @@
 // A list of calls on a cabinet at hand, each answer printed.
 ghost use Prim.Native.Nat.{_≤_};
 ghost use lib.ListN.{length};
-use asking::Replay;
+use list_results::Replay;
 use cabinet::Cabinet;
-use text::Progress;
+use base_text::Progress;
 
 fn print(out: &[u8], w: Progress) {
     match w {
         Progress::Next(n) => {
             if n <= out.len() {
-                streams::print(&out[0..n]);
+                base_streams::print(&out[0..n]);
             }
         }
         Progress::Counting(_) => {}
@@ -20,7 +20,7 @@ fn print(out: &[u8], w: Progress) {
 // Does a line and prints its answer.
 fn told(r: Replay, line: &[u8]) -> Replay {
     let mut out = io::buffer();
-    let s = stepping::step(r, line, &mut out);
+    let s = list_step::step(r, line, &mut out);
     let w = s.written;
     print(&out, w);
     let next = s.replay;

@@ -1,11 +1,11 @@
 // What no list of calls from a fresh cabinet reaches: 28 of each kind, numbers at their limits, what is lent and kept beyond an
 // answer, and sheets of a ring with any numbers.
 use cabinet::Cabinet;
-use limits::Limits;
+use base_limits::Limits;
 use lists::run;
-use verdicts::Core;
-use verdicts::Head;
-use verdicts::Phase;
+use cabinet_layout::Core;
+use cabinet_layout::Head;
+use cabinet_layout::Phase;
 
 mod lent;
 mod lists;
@@ -17,7 +17,7 @@ const HIGHEST: u32 = Limits::GREATEST_STATE;
 
 // Two cards, with a last change number.
 fn head(session: u32, phase: Phase, last_change: u32) -> Head {
-    verdicts::counted(verdicts::head_of(session, 2, phase), last_change)
+    cabinet_layout::counted(cabinet_layout::head_of(session, 2, phase), last_change)
 }
 
 // Two cards, in that session and phase.
@@ -33,7 +33,7 @@ fn headed(h: Head) -> Cabinet {
 // Card 0 has reached state 1, by change 1, in that phase.
 fn one_frame(phase: Phase) -> Cabinet {
     let mut c = headed(head(1, phase, 1));
-    c.makers[1] = 1;
+    c.changes[1] = 1;
     c.entries[Limits::CARDS] = 1;
     let mut core = c.core;
     core.held[0] = 1;
@@ -49,8 +49,8 @@ fn head_of_kind(k: u32) -> Head {
         1 => head(0, Phase::Down, 1),
         2 => head(0, Phase::Rolling, 1),
         3 => head(LAST, Phase::Rolling, 1),
-        4 => verdicts::head_of(1, 0, Phase::Up),
-        _ => verdicts::head_of(1, Limits::CARDS_U32 + 1, Phase::Up),
+        4 => cabinet_layout::head_of(1, 0, Phase::Up),
+        _ => cabinet_layout::head_of(1, Limits::CARDS_U32 + 1, Phase::Up),
     }
 }
 
@@ -88,7 +88,7 @@ fn with_entry(core: Core, k: u32) -> Core {
 // limits
 fn with_change(core: Core, k: u32) -> Core {
     let mut c = core;
-    let mut o = c.places[3];
+    let mut o = c.slots[3];
     o.number = 1;
     match k {
         14 => o.writes = 4,
@@ -96,7 +96,7 @@ fn with_change(core: Core, k: u32) -> Core {
         16 => o.vector[0] = HIGHEST + 1,
         _ => o.writes = 2,
     }
-    c.places[3] = o;
+    c.slots[3] = o;
     if k == 17 {
         return at_top(c, 1);
     }
@@ -122,12 +122,12 @@ fn with_frame(cabinet: Cabinet, k: u32) -> Cabinet {
     core.held[0] = 2;
     core.reached[0] = 2;
     c.core = core;
-    c.makers[2] = 2;
+    c.changes[2] = 2;
     c.entries[32] = 2;
     match k {
-        18 => c.makers[1] = 0,
+        18 => c.changes[1] = 0,
         19 => c.entries[16] = 2,
-        20 => c.makers[2] = 1,
+        20 => c.changes[2] = 1,
         21 => c.entries[17] = 5,
         _ => {}
     }

@@ -1,9 +1,9 @@
 // The writer of one sheet, lent a ring with any numbers and told any header: 7, then 9, then 4. All other places of the ring hold
 // 77, and the buffer dots.
-use frame::Header;
-use limits::Limits;
+use sheet_lines::Header;
+use base_limits::Limits;
 use sheet_writer::write_sheet;
-use write::Written;
+use sheet_page_writer::Written;
 
 // Two frames of card 0 of two: the change of each, its own dependency and the other card's.
 struct Rows {
@@ -57,8 +57,8 @@ fn write(rows: Rows, h: Header, room: usize) {
     let mut b = [46u8; 80];
     let w = write_within(rows, h, &mut b, room);
     crate::lent::say_written(w);
-    streams::print(&b);
-    streams::print(b"\n");
+    base_streams::print(&b);
+    base_streams::print(b"\n");
 }
 
 // One frame.

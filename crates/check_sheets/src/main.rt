@@ -3,18 +3,18 @@
 // `line`: they are a read-out, and what the line program prints is printed. `page`: they are the sheet of the card. What is read
 // is printed, how many numbers of the read-out handed back are not 0, and the sheet as it is written again into so much room.
 ghost use Prim.Native.Nat.{_<_};
-use decimal::Reading;
-use frame::Header;
+use base_decimal::Reading;
+use sheet_lines::Header;
 use libc::STDOUT_FILENO;
-use limits::Limits;
-use refusal::Refusal;
-use refusal::Reply;
-use sheet::Readout;
-use write::Written;
+use base_limits::Limits;
+use base_refusal::Refusal;
+use base_refusal::Reply;
+use sheet_pages::Readout;
+use sheet_page_writer::Written;
 
 // The number at a place of a record's line, and 0 where there is none.
 fn number_at(line: &[u8], at: usize) -> u32 {
-    let r = decimal::read(line, at);
+    let r = base_decimal::read(line, at);
     match r {
         Reading::Number { value, next: _ } => value,
         Reading::NotANumber => 0,
@@ -34,7 +34,7 @@ fn place_of(card: u32, base: u32, k: usize) -> usize {
 }
 
 fn say(b: &[u8]) {
-    streams::print(b);
+    base_streams::print(b);
 }
 
 fn say_number(n: u32) {
@@ -44,7 +44,7 @@ fn say_number(n: u32) {
 
 fn say_refusal(r: Refusal) {
     say(b"refused");
-    say_number(refusal::number(r));
+    say_number(base_refusal::number(r));
     say(b"\n");
 }
 
@@ -220,7 +220,7 @@ fn say_text(text: &[u8], n: usize) {
 }
 
 fn readout(s: &[u8]) {
-    let t = report::line_text(s);
+    let t = cabinet_report::line_text(s);
     let text = t.bytes;
     say_text(&text, t.length);
 }
@@ -239,7 +239,7 @@ fn run(word: u8, card: u32, room: usize, input: &[u8], total: usize) {
 // Reads n bytes to the front of the input.
 fn fill(input: &mut [u8], n: usize) {
     if n <= input.len() {
-        streams::read_full(&mut input[0..n]);
+        base_streams::read_full(&mut input[0..n]);
     }
 }
 
@@ -251,7 +251,7 @@ fn zeros() -> [u8; Limits::LONGEST + 4] {
 // Reads one record and runs it; false where there is none left.
 fn step() -> bool {
     let mut line = [0u8; 26];
-    let got = streams::read_full(&mut line);
+    let got = base_streams::read_full(&mut line);
     if got.count < 26 {
         return false;
     }

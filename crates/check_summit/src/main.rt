@@ -1,11 +1,11 @@
 // Brings card 0 to state 60,000, its last, in 100 sessions of 600 changes each, and then asks for more: refusal 24, which no short
 // list of calls reaches. It prints what is asked there; a climb that failed shows in it.
 ghost use Prim.Native.Nat.{_<_};
-use asking::Replay;
+use list_results::Replay;
 use cabinet::Cabinet;
-use limits::Limits;
-use records::CardRecord;
-use text::Progress;
+use base_limits::Limits;
+use cabinet_records::CardRecord;
+use base_text::Progress;
 
 // Change k of the session takes card 0 to its next state, which is stored and trimmed.
 fn rise(c: Cabinet, k: u32, state: u32) -> Cabinet {
@@ -53,7 +53,7 @@ fn print(out: &[u8], w: Progress) {
     match w {
         Progress::Next(n) => {
             if n <= out.len() {
-                streams::print(&out[0..n]);
+                base_streams::print(&out[0..n]);
             }
         }
         Progress::Counting(_) => {}
@@ -64,7 +64,7 @@ fn print(out: &[u8], w: Progress) {
 // Does a line and prints its answer.
 fn told(r: Replay, line: &[u8]) -> Replay {
     let mut out = io::buffer();
-    let s = stepping::step(r, line, &mut out);
+    let s = list_step::step(r, line, &mut out);
     let w = s.written;
     print(&out, w);
     let next = s.replay;

@@ -2,8 +2,8 @@
 // It ends where a read or a write fails, and a line that was cut off there is no call.
 ghost use Prim.Native.Nat.{_<_, _≤_};
 ghost use lib.ListN.{length};
-use asking::Replay;
-use text::Progress;
+use list_results::Replay;
+use base_text::Progress;
 
 // The replay, the bytes of a line that has not ended yet (129 of them tell that it is too long), and whether a read or a
 // write failed.
@@ -30,7 +30,7 @@ struct Turned {
 // Prints the answer to a line; false where that failed.
 fn print(out: &[u8], w: Progress) -> bool {
     match w {
-        Progress::Next(n) => n <= out.len() && streams::print(&out[0..n]),
+        Progress::Next(n) => n <= out.len() && base_streams::print(&out[0..n]),
         Progress::Counting(_) => false,
         Progress::TooShort => false,
     }
@@ -96,8 +96,8 @@ fn feed(f: Reader, part: &[u8], out: &mut [u8]) -> Reader {
                 failed: false,
             };
         }
-        let said = words::says(&line[0..n]);
-        let s = obeying::done(r, said, out, Progress::Next(0));
+        let said = list_parse::says(&line[0..n]);
+        let s = list_execute::done(r, said, out, Progress::Next(0));
         let w = s.written;
         r = s.replay;
         if !print(out, w) {
@@ -122,7 +122,7 @@ fn feed(f: Reader, part: &[u8], out: &mut [u8]) -> Reader {
 // Reads a part of the input and does its lines.
 fn turn(mut f: Reader) -> Turned {
     let mut part = io::buffer();
-    let input = streams::read(&mut part);
+    let input = base_streams::read(&mut part);
     let n = input.count;
     if n == 0 {
         f.failed = input.failed;
@@ -142,8 +142,8 @@ fn do_rest(r: Replay, line: &[u8], count: usize) {
     if 0 < count {
         if count <= line.len() {
             let mut out = io::large_buffer();
-            let said = words::says(&line[0..count]);
-            let s = obeying::done(r, said, &mut out, Progress::Next(0));
+            let said = list_parse::says(&line[0..count]);
+            let s = list_execute::done(r, said, &mut out, Progress::Next(0));
             let w = s.written;
             print(&out, w);
         }
@@ -161,7 +161,7 @@ fn finish(f: Reader) {
 }
 
 fn main() {
-    let replay = stepping::begin();
+    let replay = list_step::begin();
     let line = [0u8; 129];
     let mut f = Reader {
         replay,

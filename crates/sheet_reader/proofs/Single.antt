@@ -5,10 +5,10 @@ use mathlib.Core.Bool.{false}
 use mathlib.Core.List.{List, []}
 use lib.ListN.{length}
 use borrow.Author.Tests.{lt-ltb, le-ltb}
-use Rattle.refusal.specs.declared.Refusal.the-variants.{TooLong}
-use Rattle.refusal.specs.declared.Reply.the-variants.{Refused}
-use Rattle.sheet.specs.declared.Reading.{Reading}
-use Rattle.sheet.specs.Walk.{answered, readingOf, readingIn}
+use Rattle.base_refusal.specs.declared.Refusal.the-variants.{TooLong}
+use Rattle.base_refusal.specs.declared.Reply.the-variants.{Refused}
+use Rattle.sheet_pages.specs.declared.Reading.{Reading}
+use Rattle.sheet_pages.specs.Walk.{answered, readingOf, readingIn}
 use Rattle.sheet_reader.specs.Single.{sheetReadOf}
 
 pub long-sheet : (card : ℕ) (input : List ℕ) {r : Reading} → 65536 < length input → r ≡ answered (Refused TooLong) [] → r ≡ sheetReadOf card input

@@ -4,14 +4,14 @@ use mathlib.Core.Bool.{false, cond}
 use mathlib.Core.List.{List}
 use lib.Dec.{ltb}
 use lib.ListN.{length}
-use Rattle.limits.specs.Document.{longestInput}
-use Rattle.refusal.specs.declared.Refusal.the-variants.{TooLong}
-use Rattle.refusal.specs.declared.Reply.{Reply}
-use Rattle.refusal.specs.declared.Reply.the-variants.{Refused}
-use Rattle.frame.specs.Format.{formats}
-use Rattle.sheet.specs.declared.Reading.{Reading}
-use Rattle.sheet.specs.Pages.{readSheets}
-use Rattle.sheet.specs.Walk.{answered}
+use Rattle.base_limits.specs.Document.{longestInput}
+use Rattle.base_refusal.specs.declared.Refusal.the-variants.{TooLong}
+use Rattle.base_refusal.specs.declared.Reply.{Reply}
+use Rattle.base_refusal.specs.declared.Reply.the-variants.{Refused}
+use Rattle.sheet_lines.specs.Format.{formats}
+use Rattle.sheet_pages.specs.declared.Reading.{Reading}
+use Rattle.sheet_pages.specs.Pages.{readSheets}
+use Rattle.sheet_pages.specs.Walk.{answered}
 
 -- the verdict on any bytes: "12 comes before any line"
 abbrev pub sheetVerdict : ℕ → List ℕ → Reply

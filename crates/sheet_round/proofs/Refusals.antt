@@ -7,21 +7,21 @@ use native.Mathlib.Omega.{arith}
 use lib.Dec.{ltb}
 use lib.ListN.{length, set, length-set}
 use borrow.Author.Tests.{le-ltb}
-use Rattle.refusal.specs.declared.Refusal.{Refusal}
-use Rattle.refusal.specs.declared.Refusal.the-variants.{TooLong}
-use Rattle.refusal.specs.declared.Reply.{Reply}
-use Rattle.refusal.specs.declared.Reply.the-variants.{Done, Refused}
-use Rattle.frame.specs.declared.Header.{Header}
-use Rattle.frame.specs.declared.Frame.{Frame}
-use Rattle.frame.specs.Format.{format, formats}
-use Rattle.frame.specs.Lines.{startOf, frameVerdict, noFrame}
-use Rattle.line_round.proofs.Round.{formats-alike}
-use Rattle.sheet.specs.Pages.{Page, pagesBytes, readSheets}
-use Rattle.sheet.specs.Allowed.{lastOf, OneFewer, Short, shortBytes}
-use Rattle.sheet.specs.Walk.{noReadout}
-use Rattle.sheet.proofs.Round.{formats-sound, altered-refused, ends-there}
-use Rattle.sheet.proofs.Short.{first-short, later-short, header-no-frame}
-use Rattle.readout.specs.Joint.{judged, lined, pagesRead, readoutOf}
+use Rattle.base_refusal.specs.declared.Refusal.{Refusal}
+use Rattle.base_refusal.specs.declared.Refusal.the-variants.{TooLong}
+use Rattle.base_refusal.specs.declared.Reply.{Reply}
+use Rattle.base_refusal.specs.declared.Reply.the-variants.{Done, Refused}
+use Rattle.sheet_lines.specs.declared.Header.{Header}
+use Rattle.sheet_lines.specs.declared.Frame.{Frame}
+use Rattle.sheet_lines.specs.Format.{format, formats}
+use Rattle.sheet_lines.specs.Lines.{startOf, frameVerdict, noFrame}
+use Rattle.sheet_line_round.proofs.Round.{formats-alike}
+use Rattle.sheet_pages.specs.Pages.{Page, pagesBytes, readSheets}
+use Rattle.sheet_pages.specs.Allowed.{lastOf, OneFewer, Short, shortBytes}
+use Rattle.sheet_pages.specs.Walk.{noReadout}
+use Rattle.sheet_pages.proofs.Round.{formats-valid, altered-refused, ends-there}
+use Rattle.sheet_pages.proofs.Short.{first-short, later-short, header-no-frame}
+use Rattle.sheet_readout.specs.Joint.{judged, lined, pagesRead, readoutOf}
 use Rattle.sheet_reader.specs.Single.{sheetReadOf}
 use Rattle.sheet_round.specs.Claims.{AlteredSheetRefused, AlteredReadoutRefused, ShortSheetRefused, ShortReadoutRefused, ShortFirstRefused, Next, ends, sheet, FewerRefused, FewerFirstRefused, FewerLaterRefused}
 use Rattle.sheet_round.proofs.Sheets.{verdict-accepted}
@@ -61,15 +61,15 @@ altered-readout-refused input p b h o e =
 -- ---- one frame too few
 
 pub short-sheet-refused : ShortSheetRefused
-short-sheet-refused card h frs rest r x l = lines-refused card (shortBytes format h frs rest) r (le-ltb 65536 (length (shortBytes format h frs rest)) l) (first-short formats formats-sound false card h frs rest r x)
+short-sheet-refused card h frs rest r x l = lines-refused card (shortBytes format h frs rest) r (le-ltb 65536 (length (shortBytes format h frs rest)) l) (first-short formats formats-valid false card h frs rest r x)
 
 pub short-first-refused : ShortFirstRefused
-short-first-refused h frs rest r x l = all-refused (shortBytes format h frs rest) r (le-ltb 65536 (length (shortBytes format h frs rest)) l) (first-short formats formats-sound true 0 h frs rest r x)
+short-first-refused h frs rest r x l = all-refused (shortBytes format h frs rest) r (le-ltb 65536 (length (shortBytes format h frs rest)) l) (first-short formats formats-valid true 0 h frs rest r x)
 
 pub short-readout-refused : ShortReadoutRefused
 short-readout-refused p ps h frs rest r a more k x l =
     let input = pagesBytes formats (p ∷ ps) ++ shortBytes format h frs rest in
-    all-refused input r (le-ltb 65536 (length input) l) (later-short formats formats-sound 0 p ps h frs rest r a more k x)
+    all-refused input r (le-ltb 65536 (length input) l) (later-short formats formats-valid 0 p ps h frs rest r a more k x)
 
 -- whatever number of frames there is
 next-refused : (card state : ℕ) (h : Header) (last : Frame) (rest : List ℕ) (r : Refusal) → Next (h .cards) rest r → frameVerdict format (startOf format h) card (h .cards) state last rest ≡ Refused r

@@ -3,15 +3,15 @@ use Prim.Native.Nat.{ℕ, zero, suc, _+_, _*_, _^_, _<_}
 use mathlib.Core.List.{List, [], _∷_, _++_}
 use native.Mathlib.Omega.{arith}
 use lib.ListN.{getD, set, replicate}
-use Rattle.laws.specs.Below.{tabulate}
-use Rattle.laws.proofs.Fill.{length-tabulate}
-use Rattle.frame.specs.declared.Frame.{Frame}
-use Rattle.sheet.specs.declared.Readout.{Readout}
-use Rattle.sheet.specs.Pages.{Page}
-use Rattle.sheet.specs.Allowed.{Formed}
-use Rattle.sheet.specs.Walk.{placeOf, noReadout, layHeader, layFrame, layFrames, layPage}
-use Rattle.sheet.specs.Ring.{ringFrame}
-use Rattle.sheet.proofs.Lay.{zeros, frames-heads}
+use Rattle.base_laws.specs.Below.{tabulate}
+use Rattle.base_laws.proofs.Fill.{length-tabulate}
+use Rattle.sheet_lines.specs.declared.Frame.{Frame}
+use Rattle.sheet_pages.specs.declared.Readout.{Readout}
+use Rattle.sheet_pages.specs.Pages.{Page}
+use Rattle.sheet_pages.specs.Allowed.{Formed}
+use Rattle.sheet_pages.specs.Walk.{placeOf, noReadout, layHeader, layFrame, layFrames, layPage}
+use Rattle.sheet_pages.specs.Ring.{ringFrame}
+use Rattle.sheet_pages.proofs.Lay.{zeros, frames-heads}
 
 -- ---- the frames of a ring are formed, where its change numbers are of 8 digits
 

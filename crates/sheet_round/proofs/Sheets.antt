@@ -8,27 +8,27 @@ use lib.Dec.{ltb, leb}
 use lib.ListN.{length, take}
 use lib.Seq.{sets}
 use borrow.Author.Tests.{le-ltb, le-leb, leb-true}
-use Rattle.laws.proofs.Seq.{sets-part}
-use Rattle.laws.proofs.Fill.{length-tabulate}
-use Rattle.refusal.specs.declared.Refusal.the-variants.{TooShort, BadHeader, BadFrame, TooLong}
-use Rattle.refusal.specs.declared.Reply.{Reply}
-use Rattle.refusal.specs.declared.Reply.the-variants.{Done, Refused}
-use Rattle.frame.specs.declared.Header.{Header}
-use Rattle.frame.specs.Format.{format, formats}
-use Rattle.frame.specs.Lines.{headerAllowed, noFrame}
-use Rattle.frame.proofs.Passed.{Header-in-limits, header-limits}
-use Rattle.sheet.specs.declared.Readout.{Readout}
-use Rattle.sheet.specs.declared.Reading.{Reading}
-use Rattle.sheet.specs.Pages.{Page, pageBytes, pagesBytes, readSheets}
-use Rattle.sheet.specs.Allowed.{framesAllowed, Allowed}
-use Rattle.sheet.specs.Walk.{noReadout, layPage, layPages, answered}
-use Rattle.sheet.specs.Ring.{ringFrame, headerOf, pageOf}
-use Rattle.sheet.proofs.Round.{formats-sound, written-reads-back, read-writes-again}
-use Rattle.sheet.proofs.Read.{sheet-read}
-use Rattle.sheet.proofs.Back.{page-back}
-use Rattle.write.specs.declared.Written.the-variants.{Length, Refused as written-refused}
-use Rattle.write.specs.Write.{Wrote, wroteBytes}
-use Rattle.write.proofs.Rows.{rows-bytes, sheet-length, line-bound, lines-bound}
+use Rattle.base_laws.proofs.Seq.{sets-part}
+use Rattle.base_laws.proofs.Fill.{length-tabulate}
+use Rattle.base_refusal.specs.declared.Refusal.the-variants.{TooShort, BadHeader, BadFrame, TooLong}
+use Rattle.base_refusal.specs.declared.Reply.{Reply}
+use Rattle.base_refusal.specs.declared.Reply.the-variants.{Done, Refused}
+use Rattle.sheet_lines.specs.declared.Header.{Header}
+use Rattle.sheet_lines.specs.Format.{format, formats}
+use Rattle.sheet_lines.specs.Lines.{headerAllowed, noFrame}
+use Rattle.sheet_lines.proofs.Passed.{Header-in-limits, header-limits}
+use Rattle.sheet_pages.specs.declared.Readout.{Readout}
+use Rattle.sheet_pages.specs.declared.Reading.{Reading}
+use Rattle.sheet_pages.specs.Pages.{Page, pageBytes, pagesBytes, readSheets}
+use Rattle.sheet_pages.specs.Allowed.{framesAllowed, Allowed}
+use Rattle.sheet_pages.specs.Walk.{noReadout, layPage, layPages, answered}
+use Rattle.sheet_pages.specs.Ring.{ringFrame, headerOf, pageOf}
+use Rattle.sheet_pages.proofs.Round.{formats-valid, written-reads-back, read-writes-again}
+use Rattle.sheet_pages.proofs.Read.{sheet-read}
+use Rattle.sheet_pages.proofs.Back.{page-back}
+use Rattle.sheet_page_writer.specs.declared.Written.the-variants.{Length, Refused as written-refused}
+use Rattle.sheet_page_writer.specs.Write.{Wrote, wroteBytes}
+use Rattle.sheet_page_writer.proofs.Rows.{rows-bytes, sheet-length, line-bound, lines-bound}
 use Rattle.sheet_writer.specs.Single.{pageVerdict, wrote}
 use Rattle.sheet_reader.specs.Single.{sheetReadOf}
 use Rattle.sheet_round.specs.Claims.{Held, alone, WrittenReadsBack, PageReadsBack, SameReadsBack, ReadWritesAgain, ReadIsAlone}
@@ -73,7 +73,7 @@ module _ (r : Readout) (held : Held r) (c : ℕ) (e : pageVerdict (pageOf r c) �
 
   read-is : readSheets formats false c (pageBytes formats (pageOf r c)) ≡ record { pages = pageOf r c ∷ []; verdict = Done; rest = [] }
   read-is =
-      ap (readSheets formats false c) (sym (append-nil (pageBytes formats (pageOf r c)))) ∙ written-reads-back formats formats-sound false c (pageOf r c) [] page-allowed tt refl
+      ap (readSheets formats false c) (sym (append-nil (pageBytes formats (pageOf r c)))) ∙ written-reads-back formats formats-valid false c (pageOf r c) [] page-allowed tt refl
 
   bytes-few : length (pageBytes formats (pageOf r c)) ≤ 65536
   bytes-few =

@@ -4,20 +4,20 @@ use mathlib.Core.Path.{_≡_}
 use mathlib.Core.List.{List, [], _∷_, _++_}
 use lib.ListN.{length, take, getD, set}
 use lib.Seq.{sets}
-use Rattle.refusal.specs.declared.Refusal.{Refusal}
-use Rattle.refusal.specs.declared.Refusal.the-variants.{BadLine, EndOrMore}
-use Rattle.refusal.specs.declared.Reply.the-variants.{Done, Refused}
-use Rattle.frame.specs.declared.Header.{Header}
-use Rattle.frame.specs.declared.Frame.{Frame}
-use Rattle.frame.specs.Format.{format, formats}
-use Rattle.frame.specs.Lines.{headerLine}
-use Rattle.sheet.specs.declared.Readout.{Readout}
-use Rattle.sheet.specs.Pages.{Page, pagesBytes}
-use Rattle.sheet.specs.Allowed.{Allowed, AllAllowed, OneFewer, Short, shortBytes}
-use Rattle.sheet.specs.Walk.{noReadout, layPages}
-use Rattle.sheet.specs.Ring.{pageOf}
-use Rattle.write.specs.declared.Written.the-variants.{Length}
-use Rattle.readout.specs.Joint.{readoutOf}
+use Rattle.base_refusal.specs.declared.Refusal.{Refusal}
+use Rattle.base_refusal.specs.declared.Refusal.the-variants.{BadLine, EndOrMore}
+use Rattle.base_refusal.specs.declared.Reply.the-variants.{Done, Refused}
+use Rattle.sheet_lines.specs.declared.Header.{Header}
+use Rattle.sheet_lines.specs.declared.Frame.{Frame}
+use Rattle.sheet_lines.specs.Format.{format, formats}
+use Rattle.sheet_lines.specs.Lines.{headerLine}
+use Rattle.sheet_pages.specs.declared.Readout.{Readout}
+use Rattle.sheet_pages.specs.Pages.{Page, pagesBytes}
+use Rattle.sheet_pages.specs.Allowed.{Allowed, AllAllowed, OneFewer, Short, shortBytes}
+use Rattle.sheet_pages.specs.Walk.{noReadout, layPages}
+use Rattle.sheet_pages.specs.Ring.{pageOf}
+use Rattle.sheet_page_writer.specs.declared.Written.the-variants.{Length}
+use Rattle.sheet_readout.specs.Joint.{readoutOf}
 use Rattle.sheet_reader.specs.Single.{sheetReadOf}
 use Rattle.sheet_writer.specs.Single.{wrote}
 

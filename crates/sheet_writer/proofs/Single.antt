@@ -6,22 +6,22 @@ use mathlib.Core.List.{List}
 use native.Mathlib.Omega.{arith}
 use lib.Dec.{eqb, ltb}
 use lib.ListN.{getD}
-use Rattle.laws.specs.Below.{tabulate, allBelow}
-use Rattle.laws.proofs.Below.{all-same}
-use Rattle.refusal.specs.declared.Refusal.the-variants.{BadHeader, BadFrame}
-use Rattle.refusal.specs.declared.Reply.the-variants.{Done}
-use Rattle.frame.specs.declared.Header.{Header}
-use Rattle.frame.specs.declared.Frame.{Frame}
-use Rattle.frame.specs.Format.{Format, formats}
-use Rattle.frame.specs.Lines.{cardsOf, formatFor, headerAllowed, entryAllowed, entriesAllowed, frameAllowed, noFrame}
-use Rattle.frame.proofs.Passed.{header-limits}
-use Rattle.sheet.specs.Pages.{pageBytes}
-use Rattle.sheet.specs.Allowed.{framesAllowed}
-use Rattle.sheet.specs.Ring.{ringFrame, ringPage}
-use Rattle.write.specs.declared.Written.{Written}
-use Rattle.write.specs.declared.Written.the-variants.{Refused as written-refused}
-use Rattle.write.specs.Write.{ringRows, wroteBytes}
-use Rattle.write.proofs.Rows.{run, run-all, rowsOf, Alike, ring-alike, Told, told-by}
+use Rattle.base_laws.specs.Below.{tabulate, allBelow}
+use Rattle.base_laws.proofs.Below.{all-same}
+use Rattle.base_refusal.specs.declared.Refusal.the-variants.{BadHeader, BadFrame}
+use Rattle.base_refusal.specs.declared.Reply.the-variants.{Done}
+use Rattle.sheet_lines.specs.declared.Header.{Header}
+use Rattle.sheet_lines.specs.declared.Frame.{Frame}
+use Rattle.sheet_lines.specs.Format.{Format, formats}
+use Rattle.sheet_lines.specs.Lines.{cardsOf, formatFor, headerAllowed, entryAllowed, entriesAllowed, frameAllowed, noFrame}
+use Rattle.sheet_lines.proofs.Passed.{header-limits}
+use Rattle.sheet_pages.specs.Pages.{pageBytes}
+use Rattle.sheet_pages.specs.Allowed.{framesAllowed}
+use Rattle.sheet_pages.specs.Ring.{ringFrame, ringPage}
+use Rattle.sheet_page_writer.specs.declared.Written.{Written}
+use Rattle.sheet_page_writer.specs.declared.Written.the-variants.{Refused as written-refused}
+use Rattle.sheet_page_writer.specs.Write.{ringRows, wroteBytes}
+use Rattle.sheet_page_writer.proofs.Rows.{run, run-all, rowsOf, Alike, ring-alike, Told, told-by}
 use Rattle.sheet_writer.specs.Single.{pageVerdict, wrote}
 
 -- ---- the frames judged one after another

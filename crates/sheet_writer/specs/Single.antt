@@ -2,14 +2,14 @@
 use Prim.Native.Nat.{ℕ, _+_}
 use mathlib.Core.Bool.{cond}
 use mathlib.Core.List.{List}
-use Rattle.refusal.specs.declared.Refusal.the-variants.{BadHeader, BadFrame}
-use Rattle.refusal.specs.declared.Reply.{Reply}
-use Rattle.refusal.specs.declared.Reply.the-variants.{Done, Refused}
-use Rattle.frame.specs.Format.{formats}
-use Rattle.frame.specs.Lines.{cardsOf, formatFor, headerAllowed, noFrame}
-use Rattle.sheet.specs.Pages.{Page, pageBytes}
-use Rattle.sheet.specs.Allowed.{framesAllowed}
-use Rattle.write.specs.Write.{Wrote, wroteBytes}
+use Rattle.base_refusal.specs.declared.Refusal.the-variants.{BadHeader, BadFrame}
+use Rattle.base_refusal.specs.declared.Reply.{Reply}
+use Rattle.base_refusal.specs.declared.Reply.the-variants.{Done, Refused}
+use Rattle.sheet_lines.specs.Format.{formats}
+use Rattle.sheet_lines.specs.Lines.{cardsOf, formatFor, headerAllowed, noFrame}
+use Rattle.sheet_pages.specs.Pages.{Page, pageBytes}
+use Rattle.sheet_pages.specs.Allowed.{framesAllowed}
+use Rattle.sheet_page_writer.specs.Write.{Wrote, wroteBytes}
 
 -- a sheet that is no sheet is refused with the number that the reader would give
 unfoldable pub pageVerdict : Page → Reply

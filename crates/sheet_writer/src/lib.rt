@@ -2,18 +2,18 @@
 ghost use mathlib.Core.Path.{_≡_};
 ghost use Prim.Native.Nat.{_+_};
 ghost use mathlib.Core.Bool.{true};
-ghost use Rattle.frame.specs.Format.{formatOf, Fits};
-ghost use Rattle.frame.specs.Lines.{cardsOf, headerAllowed, noFrame};
-ghost use Rattle.sheet.specs.Allowed.{framesAllowed};
-ghost use Rattle.sheet.specs.Ring.{ringPage};
-ghost use Rattle.write.specs.Write.{ringRows};
+ghost use Rattle.sheet_lines.specs.Format.{formatOf, Fits};
+ghost use Rattle.sheet_lines.specs.Lines.{cardsOf, headerAllowed, noFrame};
+ghost use Rattle.sheet_pages.specs.Allowed.{framesAllowed};
+ghost use Rattle.sheet_pages.specs.Ring.{ringPage};
+ghost use Rattle.sheet_page_writer.specs.Write.{ringRows};
 ghost use Rattle.sheet_writer.specs.Single.{wrote};
-use frame::Frame;
-use frame::Header;
-use frame::Layout;
-use limits::Limits;
-use refusal::Refusal;
-use write::Written;
+use sheet_lines::Frame;
+use sheet_lines::Header;
+use sheet_lines::Layout;
+use base_limits::Limits;
+use base_refusal::Refusal;
+use sheet_page_writer::Written;
 
 // Whether refusal 9 lets all frames pass.
 fn frames_pass<'a>(
@@ -26,7 +26,7 @@ fn frames_pass<'a>(
     ensures { λ r. ⌜ r ≡ framesAllowed (formatOf f) (h .card) (cardsOf (formatOf f) h) (h .base + 1) noFrame (ringRows (now (changes .entry)) (now (entries .entry)) h .frames) ⌝ }
 {
     let card = h.card;
-    let n = header_reader::unraised(h.cards, f.raise);
+    let n = sheet_header_reader::unraised(h.cards, f.raise);
     let base = h.base;
     let count = h.count;
     let mut last = Frame {
@@ -36,8 +36,8 @@ fn frames_pass<'a>(
     let mut k: u32 = 0;
     while k < count {
         let state = base + 1 + k;
-        let next = write::frame_of(changes, entries, card, state);
-        if !frame_rules::frame_allowed(f, card, n, state, last, state, next) {
+        let next = sheet_page_writer::frame_of(changes, entries, card, state);
+        if !sheet_frame_rules::frame_allowed(f, card, n, state, last, state, next) {
             return false;
         }
         last = next;
@@ -55,12 +55,12 @@ pub fn write_sheet<'a, 'b>(
 ) -> Written
     ensures { λ r. ⌜ (r ≡ wrote (ringPage (now (changes .entry)) (now (entries .entry)) h) (now (b .entry)) .answer) × (now (b .exit) ≡ wrote (ringPage (now (changes .entry)) (now (entries .entry)) h) (now (b .entry)) .buffer) ⌝ }
 {
-    let f = frame::layout_of(h.cards);
-    if !header_reader::header_allowed(f, h, h.card, 0) {
+    let f = sheet_lines::layout_of(h.cards);
+    if !sheet_header_reader::header_allowed(f, h, h.card, 0) {
         return Written::Refused(Refusal::BadHeader);
     }
     if !frames_pass(f, changes, entries, h) {
         return Written::Refused(Refusal::BadFrame);
     }
-    write::write_page(b, changes, entries, h)
+    sheet_page_writer::write_page(b, changes, entries, h)
 }

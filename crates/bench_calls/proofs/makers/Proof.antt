@@ -1,8 +1,8 @@
--- `bench_calls::makers` ends: the places left fall. Assumes nothing.
+-- `bench_calls::changes` ends: the places left fall. Assumes nothing.
 use Prim.Native.Nat.{_-_}
 use borrow.Author.Needs.{needs}
-use Rattle.bench_calls.proofs.makers.Statement.{statement}
-use Rattle.bench_calls.proofs.makers.Tie as tie
+use Rattle.bench_calls.proofs.changes.Statement.{statement}
+use Rattle.bench_calls.proofs.changes.Tie as tie
 use Rattle.bench_calls.proofs.kept.Reads as kept-reads
 
 abbrev Inv-loop : tie.InvT-loop

@@ -30,17 +30,17 @@ same-length c = search needs
 returns : tie.Need-returns Inv-loop μ-loop
 returns c = search needs
 
-sub-says : tie.Need-sub-says Inv-loop μ-loop
-sub-says c = search needs
+sub-parse : tie.Need-sub-parse Inv-loop μ-loop
+sub-parse c = search needs
 
-part-says-start : tie.Need-part-says-start Inv-loop μ-loop
-part-says-start c = search needs
+part-parse-start : tie.Need-part-parse-start Inv-loop μ-loop
+part-parse-start c = search needs
 
-part-says-end : tie.Need-part-says-end Inv-loop μ-loop
-part-says-end c = search needs
+part-parse-end : tie.Need-part-parse-end Inv-loop μ-loop
+part-parse-end c = search needs
 
-says-requires : tie.Need-says-requires Inv-loop μ-loop
-says-requires c κs = search needs
+parse-requires : tie.Need-parse-requires Inv-loop μ-loop
+parse-requires c κs = search needs
 
 done-requires : tie.Need-done-requires Inv-loop μ-loop
 done-requires c κs = search needs
@@ -78,10 +78,10 @@ feed-spec =
     within-requires
     same-length
     returns
-    sub-says
-    part-says-start
-    part-says-end
-    says-requires
+    sub-parse
+    part-parse-start
+    part-parse-end
+    parse-requires
     done-requires
     print-requires
     same-length-2

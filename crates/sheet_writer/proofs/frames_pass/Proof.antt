@@ -4,10 +4,10 @@ use mathlib.Core.Path.{_≡_, refl}
 use borrow.Author.Needs.{needs}
 use borrow.Author.Tests.{not-true, not-false}
 use native.Mathlib.Omega.{arith}
-use Rattle.frame.specs.Format.{formatOf}
-use Rattle.frame.specs.Lines.{cardsOf, noFrame}
-use Rattle.frame.proofs.Passed.{header-limits}
-use Rattle.write.proofs.Rows.{rowsOf, next-row}
+use Rattle.sheet_lines.specs.Format.{formatOf}
+use Rattle.sheet_lines.specs.Lines.{cardsOf, noFrame}
+use Rattle.sheet_lines.proofs.Passed.{header-limits}
+use Rattle.sheet_page_writer.proofs.Rows.{rowsOf, next-row}
 use Rattle.sheet_writer.proofs.Single.{judging, judging-stop, judging-again, judging-done, judged-all}
 use Rattle.sheet_writer.proofs.frames_pass.Statement.{statement}
 use Rattle.sheet_writer.proofs.frames_pass.Tie as tie

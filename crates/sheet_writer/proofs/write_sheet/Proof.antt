@@ -2,8 +2,8 @@
 use mathlib.Core.Path.{sym, _∙_, ap}
 use borrow.Author.Needs.{needs}
 use borrow.Author.Tests.{not-true, not-false}
-use Rattle.frame.specs.Format.{Format}
-use Rattle.frame.specs.Lines.{headerAllowed}
+use Rattle.sheet_lines.specs.Format.{Format}
+use Rattle.sheet_lines.specs.Lines.{headerAllowed}
 use Rattle.sheet_writer.proofs.Single.{told-7, told-9, told-passed}
 use Rattle.sheet_writer.proofs.write_sheet.Statement.{statement}
 use Rattle.sheet_writer.proofs.write_sheet.Tie as tie

@@ -1,5 +1,5 @@
 -- `Cabinet::fix` meets its contract: a walk of its MIR, by hand. All that it knows of `Cabinet::fixed`, `numbers_of` and
--- `records::fill` is that each meets its contract. Both lists go to the callees for good (`gave-slice`). Assumes nothing.
+-- `cabinet_records::fill` is that each meets its contract. Both lists go to the callees for good (`gave-slice`). Assumes nothing.
 use mathlib.Core.Path.{_≡_, refl}
 use Prim.Native.Nat.{ℕ, _<_, _^_}
 use mathlib.Core.List.{List, [], _∷_}
@@ -39,27 +39,27 @@ use denote.Triple.Walked.{says, Stays, stay-none, gave-slice, walkOf, goes-none,
 use Rattle.cabinet.specs.declared.Cabinet.{Cabinet}
 use Rattle.cabinet.specs.declared.recover.FixAnswer.{FixAnswer}
 use Rattle.cabinet.specs.Fixing.{FixCarried}
-use Rattle.records.specs.declared.CardRecord.{CardRecord}
-use Rattle.records.specs.declared.CardNumbers.{CardNumbers}
-use Rattle.records.specs.Records.{filled}
-use Rattle.fixing.specs.Fixed.{numbersOf}
+use Rattle.cabinet_records.specs.declared.CardRecord.{CardRecord}
+use Rattle.cabinet_records.specs.declared.CardNumbers.{CardNumbers}
+use Rattle.cabinet_records.specs.Records.{filled}
+use Rattle.cabinet_fixing.specs.Fixed.{numbersOf}
 use Rattle.cabinet.specs.Lent.{FixLent}
 use Rattle.cabinet.proofs.Lent.{lends}
 use Rattle.cabinet.proofs.Cabinet as B
 use Rattle.cabinet.proofs.Cabinet.Laws as B′
 use Rattle.cabinet.proofs.recover.FixAnswer as F
 use Rattle.cabinet.proofs.recover.FixAnswer.Laws as F′
-use Rattle.records.proofs.CardRecord as R
-use Rattle.records.proofs.CardNumbers as N
-use Rattle.records.proofs.CardNumbers.Laws as N′
+use Rattle.cabinet_records.proofs.CardRecord as R
+use Rattle.cabinet_records.proofs.CardNumbers as N
+use Rattle.cabinet_records.proofs.CardNumbers.Laws as N′
 use Rattle.cabinet.proofs.Cabinet.fixed as inner
 use Rattle.cabinet.proofs.Cabinet.fixed.Symbol as inner-def
 use Rattle.cabinet.proofs.Cabinet.fixed.Symbol.{name as #cabinet·Cabinet·fixed}
 use Rattle.cabinet.proofs.Cabinet.fixed.Met as inner-thm
-use Rattle.records.proofs.fill as fill
-use Rattle.records.proofs.fill.Symbol as fill-def
-use Rattle.records.proofs.fill.Symbol.{name as #records·fill}
-use Rattle.records.proofs.fill.Met as fill-thm
+use Rattle.cabinet_records.proofs.fill as fill
+use Rattle.cabinet_records.proofs.fill.Symbol as fill-def
+use Rattle.cabinet_records.proofs.fill.Symbol.{name as #cabinet-records·fill}
+use Rattle.cabinet_records.proofs.fill.Met as fill-thm
 use Rattle.cabinet.proofs.recover.numbers_of as numbers-of
 use Rattle.cabinet.proofs.recover.numbers_of.Symbol as numbers-of-def
 use Rattle.cabinet.proofs.recover.numbers_of.Symbol.{name as #cabinet·numbers-of}
@@ -150,7 +150,7 @@ module _ {M : Type 1} (𝓤 : URA M) (H : Heap 𝓤) (A : Atoms 𝓤) (W : Given
       nothing ! $ move ! (2 ∷ 0 ∷ []) $ fjoin ! $ move ! (1 ∷ 0 ∷ []) $ fjoin ! $ owned ! B.the-row (Is B.the-row) (LL.makes B.the-type B′.the-plain 𝓤 H A) s _ g $ fjoin ! $
       owned ! F.the-row (Is F.the-row) (LL.makes F.the-type F′.the-plain 𝓤 H A) r _ is $ move ! (1 ∷ 0 ∷ []) $ done !
 
-  module _ (C : Calls 𝓤 H) (Λ : Loops 𝓤 H) (fm : FmC 𝓤 H (W .laws) C) (known-fix : Triple 𝓤 (C #cabinet·Cabinet·fixed) (Inner 𝓤 H A mem run)) (known-numbers : Triple 𝓤 (C #cabinet·numbers-of) (NumbersOf 𝓤 H A mem run)) (known-fill : Triple 𝓤 (C #records·fill) (Fill 𝓤 H A mem run)) where
+  module _ (C : Calls 𝓤 H) (Λ : Loops 𝓤 H) (fm : FmC 𝓤 H (W .laws) C) (known-fix : Triple 𝓤 (C #cabinet·Cabinet·fixed) (Inner 𝓤 H A mem run)) (known-numbers : Triple 𝓤 (C #cabinet·numbers-of) (NumbersOf 𝓤 H A mem run)) (known-fill : Triple 𝓤 (C #cabinet-records·fill) (Fill 𝓤 H A mem run)) where
     walk : Is B.the-row s (sv ∷ []) → Room R.the-row (length ys) → Room u32 (length xs) → ent 𝓤 (onEntry 𝓤 H A fix.signature (κ, (κ′, tt)) (q, (q′, tt)) a vals) (WpFn 𝓤 H C Λ code.function (sv ∷ rv ∷ lv ∷ []) Post)
     walk g room room′ =
         qed W ((‵ (flft κ q) ⊛ ‵ (flft κ′ q′) ⊛ ‵ ftrue) ∷ ‵ (owns (B.the-row ∷ MutSlice (named 0) κ R.the-row ∷ MutSlice (named 1) κ′ u32 ∷ []) a vals) ∷ []) ∵ enter ! C Λ code.function (sv ∷ rv ∷ lv ∷ []) _ $
@@ -181,7 +181,7 @@ module _ {M : Type 1} (𝓤 : URA M) (H : Heap 𝓤) (A : Atoms 𝓤) (W : Given
         land ! (from ! (stop !)) (init ! 16 refl (LL.lawful N.the-type N′.the-laws 𝓤 H A W .typed m _ is₂ .0)) $
         assigns ! (addr ! (from ! (fld ! refl (hop ! (look-in ! 22 (sub ! 0 refl (whole !))) (stop !))))) (from ! (stop !)) (init ! 6 refl (tt, tt)) $
         assigns ! (agg ! (and-then ! (load ! (from ! (stop !)) (look ! 6 refl)) (and-then ! (load ! (from ! (fld ! refl (stop !))) (look-in ! 22 (sub ! 1 refl (whole !)))) (no-more !)))) (from ! (stop !)) (init ! 4 refl (tt, (tt, (record { fits = room .0 }, tt)))) $
-        -- `records::fill`
+        -- `cabinet_records::fill`
         move ! (2 ∷ 3 ∷ []) $ use2 W (raw (Fill 𝓤 H A mem run .pre (to-fill m w₂))) (goes-fill m w₂ is₂) $
         calls-at ! fm (Fill 𝓤 H A mem run) known-fill (to-fill m w₂) (and-then ! (load ! (from ! (stop !)) (look ! 3 refl)) (and-then ! (load ! (from ! (stop !)) (look ! 15 refl)) (no-more !))) (λ w₃.
         use1 W (later (some (λ (u : Unit {0}). ((‵ (flft κ q) ⊛ ‵ ftrue) ⊛ ‵ (Nothing .own u (w₃ ∷ []))) ⊛ raw (ensured 𝓤 H A fill.ended (fill.clauses 𝓤 H A mem run) (κ, tt) (records, (m, tt)) tt u)))) (id⊢ 𝓤 _) $ await ! tt $ pick ! (λ u.
@@ -196,7 +196,7 @@ module _ {M : Type 1} (𝓤 : URA M) (H : Heap 𝓤) (A : Atoms 𝓤) (W : Given
         move ! (26 ∷ 27 ∷ []) $ free1 ! $ move ! (24 ∷ 25 ∷ []) $ free1 ! $ move ! (22 ∷ 23 ∷ []) $ free1 ! $ move ! (20 ∷ 21 ∷ []) $ free1 ! $ move ! (18 ∷ 19 ∷ []) $ free1 ! $ move ! (16 ∷ 17 ∷ []) $ free1 ! $ move ! (14 ∷ 15 ∷ []) $ free1 ! $ move ! (12 ∷ 13 ∷ []) $ free1 ! $ move ! (10 ∷ 11 ∷ []) $ free1 ! $ move ! (8 ∷ 9 ∷ []) $ free1 ! $ move ! (6 ∷ 7 ∷ []) $ free1 ! $ move ! (4 ∷ 5 ∷ []) $ free1 ! $ free0 ! $
         keep ! (0 ∷ 2 ∷ 1 ∷ 3 ∷ []) $ by ! (exits g r w is (zs₃ .0) (zs .1 .1 .0) (lends s ys xs (zs .1 .1 .0) r e m (zs₃ .0) e₂ e₃) l l′)))))))))))))))))))))))))))))
 
-module _ {M : Type 1} (𝓤 : URA M) (H : Heap 𝓤) (A : Atoms 𝓤) (W : Given 𝓤 H A) (mem : Memory → SProp 𝓤) (run : Routine → Fun 𝓤) (𝓣 : Tables 𝓤 H) (known-fix : Triple 𝓤 (𝓣 .C #cabinet·Cabinet·fixed) (Inner 𝓤 H A mem run)) (known-numbers : Triple 𝓤 (𝓣 .C #cabinet·numbers-of) (NumbersOf 𝓤 H A mem run)) (known-fill : Triple 𝓤 (𝓣 .C #records·fill) (Fill 𝓤 H A mem run)) where
+module _ {M : Type 1} (𝓤 : URA M) (H : Heap 𝓤) (A : Atoms 𝓤) (W : Given 𝓤 H A) (mem : Memory → SProp 𝓤) (run : Routine → Fun 𝓤) (𝓣 : Tables 𝓤 H) (known-fix : Triple 𝓤 (𝓣 .C #cabinet·Cabinet·fixed) (Inner 𝓤 H A mem run)) (known-numbers : Triple 𝓤 (𝓣 .C #cabinet·numbers-of) (NumbersOf 𝓤 H A mem run)) (known-fill : Triple 𝓤 (𝓣 .C #cabinet-records·fill) (Fill 𝓤 H A mem run)) where
   fix-walks : Walks 𝓤 H A fix.ended stayed (WpFn 𝓤 H (𝓣 .C) (𝓣 .Λ) code.function) (fix.clauses 𝓤 H A mem run)
   fix-walks = walked 𝓤 H A fix.ended stayed (fix.clauses 𝓤 H A mem run) (WpFn 𝓤 H (𝓣 .C) (𝓣 .Λ) code.function)
       (λ κs. (LL.vals B.the-type B′.the-laws, (slice-vals, (slice-vals, tt)))) (λ κs. (LL.tells B.the-type B′.the-laws, (mut-slice-tells (named 0) (κs .0) R.the-row, (mut-slice-tells (named 1) (κs .1 .0) u32, tt))))
@@ -216,4 +216,4 @@ fix-spec 𝓤 H 𝓜 𝓖 𝓡 =
     (fix-meets 𝓤 H (𝓖 .A) (givenOf 𝓤 H 𝓜 𝓖) (𝓜 .mem) (𝓡 .run) (tablesOf 𝓤 H 𝓜 (tables 𝓤 H 𝓜 𝓡 code.env))
     (cited 𝓤 H (Inner 𝓤 H (𝓖 .A) (𝓜 .mem) (𝓡 .run)) 𝓜 𝓡 code.env #cabinet·Cabinet·fixed inner-def.routine code.calls-cabinet·Cabinet·fixed (inner-thm.met 𝓤 H 𝓜 𝓖 𝓡))
     (cited 𝓤 H (NumbersOf 𝓤 H (𝓖 .A) (𝓜 .mem) (𝓡 .run)) 𝓜 𝓡 code.env #cabinet·numbers-of numbers-of-def.routine code.calls-cabinet·recover·numbers-of (numbers-of-thm.met 𝓤 H 𝓜 𝓖 𝓡))
-    (cited 𝓤 H (Fill 𝓤 H (𝓖 .A) (𝓜 .mem) (𝓡 .run)) 𝓜 𝓡 code.env #records·fill fill-def.routine code.calls-records·fill (fill-thm.met 𝓤 H 𝓜 𝓖 𝓡)))
+    (cited 𝓤 H (Fill 𝓤 H (𝓖 .A) (𝓜 .mem) (𝓡 .run)) 𝓜 𝓡 code.env #cabinet-records·fill fill-def.routine code.calls-cabinet-records·fill (fill-thm.met 𝓤 H 𝓜 𝓖 𝓡)))

@@ -51,15 +51,15 @@ use denote.Triple.Table.{entered, cited}
 use denote.Triple.Walked.{says, Stays, stay-none, stay-dropped, gave-slice, walkOf, goes-none, goes-dropped, goes-gave-slice, Walks, ends-at, walked, walk-meets}
 use Rattle.cabinet.specs.declared.Cabinet.{Cabinet}
 use Rattle.cabinet.specs.declared.recover.FixAnswer.{FixAnswer}
-use Rattle.records.specs.declared.CardRecord.{CardRecord}
+use Rattle.cabinet_records.specs.declared.CardRecord.{CardRecord}
 use Rattle.cabinet.specs.declared.recover.RecordsAnswer.{RecordsAnswer}
 use Rattle.cabinet.specs.Lent.{FixLent, FixPart}
 use Rattle.cabinet.proofs.Cabinet as B
 use Rattle.cabinet.proofs.Cabinet.Laws as B′
 use Rattle.cabinet.proofs.recover.FixAnswer as F
 use Rattle.cabinet.proofs.recover.FixAnswer.Laws as F′
-use Rattle.records.proofs.CardRecord as R
-use Rattle.records.proofs.CardRecord.Laws as R′
+use Rattle.cabinet_records.proofs.CardRecord as R
+use Rattle.cabinet_records.proofs.CardRecord.Laws as R′
 use Rattle.cabinet.proofs.recover.RecordsAnswer as K
 use Rattle.cabinet.proofs.recover.RecordsAnswer.Laws as K′
 use Rattle.cabinet.proofs.Cabinet.fix as fix

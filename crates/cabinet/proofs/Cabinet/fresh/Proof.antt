@@ -1,12 +1,12 @@
 use Prim.Native.Nat.{ℕ}
 use mathlib.Core.Path.{_≡_, sym, _∙_, ap}
 use mathlib.Core.Bool.{Bool, true, false, not}
-use Rattle.laws.proofs.Logic.{cond-true, cond-false, not-true}
+use Rattle.base_laws.proofs.Logic.{cond-true, cond-false, not-true}
 use borrow.Author.Tests.{not-false}
-use Rattle.refusal.specs.declared.Refusal.the-variants.{CardCount}
-use Rattle.protocol.specs.Plan.{accepted, refused, done}
-use Rattle.protocol.specs.Calls.{freshRefused}
-use Rattle.verdicts.specs.Shape.{limits16}
+use Rattle.base_refusal.specs.declared.Refusal.the-variants.{CardCount}
+use Rattle.theory_protocol.specs.Plan.{accepted, refused, done}
+use Rattle.theory_protocol.specs.Calls.{freshRefused}
+use Rattle.cabinet_layout.specs.Shape.{limits16}
 use Rattle.cabinet.specs.Fresh.{zeroCabinet, voidHead, freshHead}
 use borrow.Author.Needs.{needs}
 use Rattle.cabinet.proofs.Cabinet.fresh.Statement.{statement}

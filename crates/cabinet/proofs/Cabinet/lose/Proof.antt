@@ -1,19 +1,19 @@
 use mathlib.Core.Bool.{Bool}
-use Rattle.protocol.specs.Plan.{done}
-use Rattle.verdicts.specs.Shape.{limits16}
-use Rattle.carried.specs.Plans.{alone}
+use Rattle.theory_protocol.specs.Plan.{done}
+use Rattle.cabinet_layout.specs.Shape.{limits16}
+use Rattle.cabinet_plans.specs.Plans.{alone}
 use Rattle.cabinet.proofs.Call.{swapped}
-use Rattle.bits.specs.Member.{member}
-use Rattle.protocol.specs.Model.{isUp}
-use Rattle.protocol.specs.Calls.{loseChecks}
-use Rattle.storing.proofs.Next.{lossEdits}
+use Rattle.base_bits.specs.Member.{member}
+use Rattle.theory_protocol.specs.Model.{isUp}
+use Rattle.theory_protocol.specs.Calls.{loseChecks}
+use Rattle.cabinet_storing.proofs.Next.{lossEdits}
 use Rattle.cabinet.proofs.Call.{loss-still}
 use borrow.Author.Needs.{needs}
 use Rattle.cabinet.proofs.Cabinet.lose.Statement.{statement}
 use Rattle.cabinet.proofs.Cabinet.lose.Tie as tie
 
-cabinet-sound-requires : tie.Need-cabinet-sound-requires
-cabinet-sound-requires c κs = search needs
+cabinet-valid-requires : tie.Need-cabinet-valid-requires
+cabinet-valid-requires c κs = search needs
 
 lose-requires : tie.Need-lose-requires
 lose-requires c κs = search needs
@@ -23,7 +23,7 @@ returns c =
     let a : _ = c .before .before .before .before .before .before .before .before .args in
     let s : _ = a .t1 in
     let u : Bool = isUp (alone (s .core) .phase) in
-    swapped s (loseChecks limits16 (alone (s .core)) (member (a .cards))) done (lossEdits (member (a .cards)) u) _ _ _ (c .before .before .cabinet-sound .ensures) (loss-still s (member (a .cards)) u .0) (loss-still s (member (a .cards)) u .1) (c .before .lose .ensures)
+    swapped s (loseChecks limits16 (alone (s .core)) (member (a .cards))) done (lossEdits (member (a .cards)) u) _ _ _ (c .before .before .cabinet-valid .ensures) (loss-still s (member (a .cards)) u .0) (loss-still s (member (a .cards)) u .1) (c .before .lose .ensures)
 
 pub lose-spec : {M : Type 1} → statement M
-lose-spec = tie.close (tie.spec cabinet-sound-requires lose-requires returns)
+lose-spec = tie.close (tie.spec cabinet-valid-requires lose-requires returns)

@@ -1,29 +1,29 @@
 use mathlib.Core.Path.{sym, _∙_}
 use mathlib.Core.Bool.{Bool}
-use Rattle.protocol.specs.Plan.{done}
-use Rattle.verdicts.specs.Shape.{limits16}
-use Rattle.carried.specs.Plans.{alone}
+use Rattle.theory_protocol.specs.Plan.{done}
+use Rattle.cabinet_layout.specs.Shape.{limits16}
+use Rattle.cabinet_plans.specs.Plans.{alone}
 use Rattle.cabinet.proofs.Call.{swapped}
-use Rattle.protocol.specs.Model.{withCard}
-use Rattle.protocol.specs.Calls.{rollChecks, allRolled}
-use Rattle.rolling.proofs.Rolled.{rollEdits}
+use Rattle.theory_protocol.specs.Model.{withCard}
+use Rattle.theory_protocol.specs.Calls.{rollChecks, allRolled}
+use Rattle.cabinet_rolling.proofs.Rolled.{rollEdits}
 use Rattle.cabinet.proofs.Call.{roll-still}
 use borrow.Author.Needs.{needs}
 use Rattle.cabinet.proofs.Cabinet.roll.Statement.{statement}
 use Rattle.cabinet.proofs.Cabinet.roll.Tie as tie
 
-cabinet-sound-requires : tie.Need-cabinet-sound-requires
-cabinet-sound-requires c κs = search needs
+cabinet-valid-requires : tie.Need-cabinet-valid-requires
+cabinet-valid-requires c κs = search needs
 
 roll-requires : tie.Need-roll-requires
-roll-requires c κs = λ t. record { entries = c .before .before .before .before .before .args .t1 .entries; makers = c .before .before .before .before .before .args .t1 .makers; passes = sym (c .cabinet-sound .ensures) ∙ t }
+roll-requires c κs = λ t. record { entries = c .before .before .before .before .before .args .t1 .entries; changes = c .before .before .before .before .before .args .t1 .changes; passes = sym (c .cabinet-valid .ensures) ∙ t }
 
 returns : tie.Need-returns
 returns c =
     let a : _ = c .before .before .before .before .before .before .before .args in
     let s : _ = a .t1 in
     let u : Bool = allRolled limits16 (alone (s .core)) (withCard (alone (s .core) .rolled) (a .card)) in
-    swapped s (rollChecks limits16 (alone (s .core)) (a .card)) done (rollEdits (a .card) u) _ _ _ (c .before .before .cabinet-sound .ensures) (roll-still s (a .card) u .0) (roll-still s (a .card) u .1) (c .before .roll .ensures)
+    swapped s (rollChecks limits16 (alone (s .core)) (a .card)) done (rollEdits (a .card) u) _ _ _ (c .before .before .cabinet-valid .ensures) (roll-still s (a .card) u .0) (roll-still s (a .card) u .1) (c .before .roll .ensures)
 
 pub roll-spec : {M : Type 1} → statement M
-roll-spec = tie.close (tie.spec cabinet-sound-requires roll-requires returns)
+roll-spec = tie.close (tie.spec cabinet-valid-requires roll-requires returns)

@@ -1,10 +1,10 @@
 use mathlib.Core.Path.{sym, ap}
 use mathlib.Core.Bool.{cond}
 use mathlib.Core.List.{List}
-use Rattle.protocol.specs.Edit.{Edit}
-use Rattle.protocol.specs.Plan.{safe, unsafe}
-use Rattle.protocol.specs.Calls.{safeChecks, isSafe}
-use Rattle.verdicts.specs.Shape.{limits16}
+use Rattle.theory_protocol.specs.Edit.{Edit}
+use Rattle.theory_protocol.specs.Plan.{safe, unsafe}
+use Rattle.theory_protocol.specs.Calls.{safeChecks, isSafe}
+use Rattle.cabinet_layout.specs.Shape.{limits16}
 use Rattle.cabinet.specs.View.{view}
 use Rattle.cabinet.specs.Apply.{applyAll}
 use Rattle.cabinet.proofs.Call.{no-edits}

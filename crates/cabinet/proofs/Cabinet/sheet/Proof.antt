@@ -1,11 +1,11 @@
 use mathlib.Core.Path.{sym, ap}
 use mathlib.Core.List.{List}
 use lib.ListN.{length}
-use Rattle.protocol.specs.Edit.{Edit}
-use Rattle.protocol.specs.Plan.{written}
-use Rattle.protocol.specs.Codec.{sheetChecks}
-use Rattle.codec.specs.Sheets.{codec}
-use Rattle.verdicts.specs.Shape.{limits16}
+use Rattle.theory_protocol.specs.Edit.{Edit}
+use Rattle.theory_protocol.specs.Plan.{written}
+use Rattle.theory_protocol.specs.Codec.{sheetChecks}
+use Rattle.theory_codec.specs.Sheets.{codec}
+use Rattle.cabinet_layout.specs.Shape.{limits16}
 use Rattle.cabinet.specs.View.{view}
 use Rattle.cabinet.specs.Apply.{applyAll}
 use Rattle.cabinet.proofs.Call.{no-edits}

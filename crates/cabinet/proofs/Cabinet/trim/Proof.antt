@@ -1,9 +1,9 @@
 use mathlib.Core.Path.{refl}
 use mathlib.Core.List.{[], _∷_}
-use Rattle.protocol.specs.Edit.{rebase}
-use Rattle.protocol.specs.Plan.{done}
-use Rattle.protocol.specs.Calls.{trimChecks, lines}
-use Rattle.verdicts.specs.Shape.{limits16}
+use Rattle.theory_protocol.specs.Edit.{rebase}
+use Rattle.theory_protocol.specs.Plan.{done}
+use Rattle.theory_protocol.specs.Calls.{trimChecks, lines}
+use Rattle.cabinet_layout.specs.Shape.{limits16}
 use Rattle.cabinet.specs.View.{view}
 use Rattle.cabinet.proofs.Call.{kept}
 use borrow.Author.Needs.{needs}

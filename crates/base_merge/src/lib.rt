@@ -1,0 +1,91 @@
+// One merge over the cards' frames, whose change numbers rise with the states: it meets each number once, rising.
+ghost use Prim.Native.Nat.{ℕ, _<_};
+ghost use mathlib.Core.Path.{_≡_};
+ghost use Rattle.base_merge.specs.Merge.{lesser, changeAt, headNumber, headNumbers, leastOf, cardPast, allPast};
+use base_limits::Limits;
+
+// The lesser of two numbers of which 0 is none.
+pub fn lesser(a: u32, b: u32) -> u32
+    ensures { λ r. ⌜ r ≡ lesser a b ⌝ }
+{
+    if a == 0 {
+        b
+    } else {
+        if b == 0 { a } else { if a < b { a } else { b } }
+    }
+}
+
+// The change number of the next state of card c, and 0 where its end is passed.
+fn head_number(changes: &[u32; Limits::FRAMES], c: usize, passed: u32, end: u32) -> u32
+    requires { ⌜ c < 16 ⌝ }
+    ensures { λ r. ⌜ r ≡ headNumber (changeAt (now (changes .entry)) c) passed end ⌝ }
+{
+    if passed < end {
+        let x = passed + 1;
+        changes[c * Limits::IN_HAND + (x % Limits::IN_HAND_U32) as usize]
+    } else {
+        0
+    }
+}
+
+// The number at the head of each card, and 0 where its end is passed.
+pub fn heads(
+    changes: &[u32; Limits::FRAMES],
+    passed: [u32; Limits::CARDS],
+    ends: [u32; Limits::CARDS],
+) -> [u32; Limits::CARDS]
+    ensures { λ r. ⌜ r ≡ headNumbers (now (changes .entry)) passed ends ⌝ }
+{
+    let mut out = [0u32; Limits::CARDS];
+    let mut c: usize = 0;
+    while c < Limits::CARDS {
+        let x = head_number(changes, c, passed[c], ends[c]);
+        out[c] = x;
+        c += 1;
+    }
+    out
+}
+
+// The least of the cards' numbers, and 0 where there is none.
+pub fn least(heads: [u32; Limits::CARDS]) -> u32
+    ensures { λ r. ⌜ r ≡ leastOf heads ⌝ }
+{
+    let mut best: u32 = 0;
+    let mut c: usize = 0;
+    while c < Limits::CARDS {
+        let b = lesser(best, heads[c]);
+        best = b;
+        c += 1;
+    }
+    best
+}
+
+// A card brought past the number k, where its head has it.
+fn card_past(passed: u32, end: u32, head: u32, k: u32) -> u32
+    ensures { λ r. ⌜ r ≡ cardPast passed end head k ⌝ }
+{
+    if passed < end {
+        if head == k { passed + 1 } else { passed }
+    } else {
+        passed
+    }
+}
+
+// Each card brought past the number k, by the numbers at their heads.
+pub fn past(
+    passed: [u32; Limits::CARDS],
+    ends: [u32; Limits::CARDS],
+    heads: [u32; Limits::CARDS],
+    k: u32,
+) -> [u32; Limits::CARDS]
+    ensures { λ r. ⌜ r ≡ allPast passed ends heads k ⌝ }
+{
+    let mut out = [0u32; Limits::CARDS];
+    let mut c: usize = 0;
+    while c < Limits::CARDS {
+        let x = card_past(passed[c], ends[c], heads[c], k);
+        out[c] = x;
+        c += 1;
+    }
+    out
+}

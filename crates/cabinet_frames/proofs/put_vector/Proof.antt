@@ -1,0 +1,56 @@
+-- `cabinet_frames::put_vector`: the vector of a state, at its place in the ring. Assumes nothing.
+use Prim.Native.Nat.{ℕ, _*_, _<_}
+use mathlib.Core.Path.{_≡_, sym, _∙_, ap}
+use mathlib.Core.Bool.{not, _&&_}
+use native.Mathlib.Omega.{arith}
+use lib.Dec.{eqb, ltb}
+use lib.Seq.{sets}
+use borrow.Author.Tests.{ltb-true}
+use Rattle.base_laws.proofs.Logic.{and-right, cond-true, cond-false}
+use Rattle.cabinet_layout.specs.Shape.{at, ringPlace, listOf}
+use Rattle.cabinet_plans.specs.Plans.{isMade}
+use borrow.Author.Needs.{needs}
+use Rattle.cabinet_frames.proofs.put_vector.Statement.{statement}
+use Rattle.cabinet_frames.proofs.put_vector.Tie as tie
+
+place-of-requires : tie.Need-place-of-requires
+place-of-requires c κs = search needs
+
+is-made-requires : tie.Need-is-made-requires
+is-made-requires c κs = search needs
+
+-- what was found of the state
+found : (c : tie.After-is-made) → isMade (c .before .before .before .args .card) (c .before .before .before .args .state) ≡ c .is-made .result
+found c = ap (λ (p : ℕ). not (eqb (c .before .before .before .args .state) 0) && ltb p 768) (sym (c .before .before .place-of .ensures)) ∙ sym (c .is-made .ensures)
+
+-- there is such a place
+below : (c : tie.Then1) → c .before .before .before .place-of .result < 768
+below c =
+    let p : ℕ = c .before .before .before .place-of .result in
+    ltb-true p 768 (and-right (not (eqb (c .before .before .before .before .args .state) 0)) (ltb p 768) (sym (c .before .is-made .ensures) ∙ c .if1 .taken))
+
+mul-put-frame : tie.Need-mul-put-frame
+mul-put-frame c = let h : _ = below (c .before) in omega (arith, h)
+
+put-frame-requires : tie.Need-put-frame-requires
+put-frame-requires c κs = let h : _ = below (c .before) in omega (arith, h)
+
+returns : tie.Need-returns
+returns c =
+    let a : _ = c .before .before .before .before .before .before .args in
+    let l : _ = a .entries .now in
+    let v : _ = listOf (at (a .v .entries)) in
+    c .put-frame .ensures
+    ∙ ap (λ (p : ℕ). sets l (p * 16) v) (c .before .before .before .before .before .place-of .ensures)
+    ∙ sym (cond-true (sets l (ringPlace (a .card) (a .state) * 16) v) l (found (c .before .before .before) ∙ c .before .before .if1 .taken))
+
+returns-2 : tie.Need-returns-2
+returns-2 c =
+    let a : _ = c .before .before .before .before .args in
+    let l : _ = a .entries .now in
+    let v : _ = listOf (at (a .v .entries)) in
+    sym (cond-false (sets l (ringPlace (a .card) (a .state) * 16) v) l (found (c .before) ∙ c .if1 .left))
+
+pub put-vector-spec : {M : Type 1} → statement M
+put-vector-spec =
+    tie.close (tie.spec place-of-requires is-made-requires mul-put-frame put-frame-requires returns returns-2)

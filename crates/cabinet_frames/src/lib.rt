@@ -1,0 +1,60 @@
+// The frame that a take makes, at its place in the ring.
+ghost use Prim.Native.Nat.{ℕ, _+_, _*_, _≤_};
+ghost use mathlib.Core.Path.{_≡_};
+ghost use mathlib.Core.Bool.{not, _&&_, cond};
+ghost use lib.Dec.{eqb, ltb};
+ghost use lib.ListN.{set};
+ghost use lib.Seq.{sets};
+ghost use Rattle.cabinet_layout.specs.Shape.{at, ringPlace, listOf};
+ghost use Rattle.cabinet_plans.specs.Plans.{isMade};
+use base_limits::Limits;
+use cabinet_layout::Vector;
+
+// The vector of a frame, at its place in the ring.
+fn put_frame(entries: &mut [u32; Limits::ENTRIES], from: usize, v: [u32; Limits::CARDS])
+    requires { ⌜ from + 16 ≤ 12288 ⌝ }
+    ensures { λ r. ⌜ now (entries .exit) ≡ sets (now (entries .entry)) from (listOf (at v)) ⌝ }
+{
+    let mut j: usize = 0;
+    while j < Limits::CARDS {
+        entries[from + j] = v[j];
+        j += 1;
+    }
+}
+
+// The place of a state of a card in the ring.
+fn place_of(card: u32, state: u32) -> usize
+    ensures { λ r. ⌜ r ≡ ringPlace card state ⌝ }
+{
+    card as usize * Limits::IN_HAND + (state % Limits::IN_HAND_U32) as usize
+}
+
+// A state was made, and the ring has that place.
+fn is_made(place: usize, state: u32) -> bool
+    ensures { λ r. ⌜ r ≡ (not (eqb state 0) && ltb place 768) ⌝ }
+{
+    (state != 0) & (place < Limits::FRAMES)
+}
+
+// The vector of a state that a card has made; nothing with state 0, and nothing of a card above 15.
+pub fn put_vector(entries: &mut [u32; Limits::ENTRIES], card: u32, state: u32, v: Vector)
+    ensures { λ r. ⌜ now (entries .exit) ≡ cond (isMade card state) (sets (now (entries .entry)) (ringPlace card state * 16) (listOf (at (v .entries)))) (now (entries .entry)) ⌝ }
+{
+    let place = place_of(card, state);
+    let w = v.entries;
+    let made = is_made(place, state);
+    if made {
+        put_frame(entries, place * Limits::CARDS, w);
+    }
+}
+
+// The change that made a state of a card; nothing with state 0, and nothing of a card above 15.
+pub fn put_change(changes: &mut [u32; Limits::FRAMES], card: u32, state: u32, maker: u32)
+    ensures { λ r. ⌜ now (changes .exit) ≡ cond (isMade card state) (set (now (changes .entry)) (ringPlace card state) maker) (now (changes .entry)) ⌝ }
+{
+    let place = place_of(card, state);
+    let made = is_made(place, state);
+    if made {
+        changes[place] = maker;
+    }
+}

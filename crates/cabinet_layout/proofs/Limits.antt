@@ -1,0 +1,23 @@
+-- The limits as numbers. Assumes nothing.
+use mathlib.Core.Path.{_≡_, refl}
+use Rattle.cabinet_layout.specs.Shape.{limits16}
+
+pub width16 : limits16 .width ≡ 16
+unfolding limits16
+width16 = refl
+
+pub inHand48 : limits16 .inHand ≡ 48
+unfolding limits16
+inHand48 = refl
+
+pub slots8 : limits16 .slots ≡ 8
+unfolding limits16
+slots8 = refl
+
+pub greatest60000 : limits16 .greatestState ≡ 60000
+unfolding limits16
+greatest60000 = refl
+
+pub greatestNumber32 : limits16 .greatestNumber ≡ 4294967295
+unfolding limits16
+greatestNumber32 = refl

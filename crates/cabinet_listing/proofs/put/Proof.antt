@@ -1,0 +1,24 @@
+-- `cabinet_listing::put` stores a number where there is such a place. Assumes nothing.
+use mathlib.Core.Path.{sym}
+use lib.Seq.{set-out}
+use borrow.Author.Needs.{needs}
+use Rattle.cabinet_listing.proofs.put.Statement.{statement}
+use Rattle.cabinet_listing.proofs.put.Tie as tie
+
+mul-list : tie.Need-mul-list
+mul-list c = search needs
+
+slice-write-list : tie.Need-slice-write-list
+slice-write-list c = search needs
+
+same-length : tie.Need-same-length
+same-length c = search needs
+
+returns : tie.Need-returns
+returns c = search needs
+
+returns-2 : tie.Need-returns-2
+returns-2 c = let a : _ = c .before .args in sym (set-out (a .list .now) (a .n) (a .x) (c .if1 .left))
+
+pub put-spec : {M : Type 1} → statement M
+put-spec = tie.close (tie.spec mul-list slice-write-list same-length returns returns-2)

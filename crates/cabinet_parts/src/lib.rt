@@ -1,0 +1,112 @@
+// What the calls write into a cabinet's lists, what an opening answers, and how a cabinet begins.
+ghost use Prim.Native.Nat.{ℕ, _<_};
+ghost use mathlib.Core.Path.{_≡_};
+ghost use mathlib.Core.Bool.{not, cond};
+ghost use Rattle.base_laws.specs.Below.{tabulate};
+ghost use Rattle.base_bits.specs.Member.{member};
+ghost use Rattle.theory_history.specs.Vector.{joined};
+ghost use Rattle.theory_protocol.specs.Edit.{remembered};
+ghost use Rattle.theory_protocol.specs.Model.{freeSlot};
+ghost use Rattle.theory_protocol.specs.Calls.{freshRefused};
+ghost use Rattle.cabinet_layout.specs.Shape.{limits16, at, listOf, vectorFor, openAt, slotFor};
+ghost use Rattle.cabinet_parts.specs.Opening.{openAnswer};
+ghost use Rattle.cabinet_parts.specs.Fresh.{freshHead};
+use base_limits::Limits;
+use base_refusal::Reply;
+use cabinet_layout::Head;
+use cabinet_layout::OpenReply;
+use cabinet_layout::Phase;
+use cabinet_layout::Slot;
+use cabinet_layout::Vector;
+
+// The vector of a decided change, as a card keeps it.
+pub fn vector_of(o: Slot) -> Vector
+    ensures { λ r. ⌜ (r .entries ≡ o .vector) × (o .vector ≡ listOf (at (o .vector))) ⌝ }
+{
+    let v = o.vector;
+    let v = cabinet_vectors::copied(v);
+    Vector { entries: v }
+}
+
+// "A card only read raises its pending entry by entry."
+pub fn raised(pending: Vector, v: Vector) -> Vector
+    ensures { λ r. ⌜ r ≡ vectorFor (joined (at (pending .entries)) (at (v .entries))) ⌝ }
+{
+    let q = pending.entries;
+    let w = v.entries;
+    let j = cabinet_vectors::join(q, w);
+    Vector { entries: j }
+}
+
+// The first number where the test passes, and the second where it fails.
+fn pick(first: bool, a: u32, b: u32) -> u32
+    ensures { λ r. ⌜ r ≡ cond first a b ⌝ }
+{
+    if first { a } else { b }
+}
+
+// The held numbers of a set of cards fall to stored.
+pub fn fallen(
+    held: [u32; Limits::CARDS],
+    stored: [u32; Limits::CARDS],
+    cards: u16,
+) -> [u32; Limits::CARDS]
+    ensures { λ r. ⌜ r ≡ listOf (λ c. cond (member cards c) (at stored c) (at held c)) ⌝ }
+{
+    let mut out = [0u32; Limits::CARDS];
+    let mut c: usize = 0;
+    while c < Limits::CARDS {
+        let lost = base_bits::has(cards, c as u32);
+        out[c] = pick(lost, stored[c], held[c]);
+        c += 1;
+    }
+    out
+}
+
+// Eight free slots.
+pub fn no_slots() -> [Slot; Limits::SLOTS]
+    ensures { λ r. ⌜ r ≡ tabulate (limits16 .slots) (λ p. slotFor freeSlot) ⌝ }
+{
+    let free = cabinet_layout::free_slot();
+    [free; Limits::SLOTS]
+}
+
+// By place, the number that a change is remembered by when a loss ends it.
+pub fn ended_numbers(slots: [Slot; Limits::SLOTS]) -> [u32; Limits::SLOTS]
+    ensures { λ r. ⌜ r ≡ tabulate (limits16 .slots) (λ p. remembered limits16 (openAt slots p)) ⌝ }
+{
+    let mut out = [0u32; Limits::SLOTS];
+    let mut p: usize = 0;
+    while p < Limits::SLOTS {
+        let o = slots[p];
+        let k = cabinet_slots::remembered_number(o);
+        out[p] = k;
+        p += 1;
+    }
+    out
+}
+
+// What an opening with that verdict answers, after so many changes.
+pub fn open_answer(r: Reply, count: u32) -> OpenReply
+    requires { ⌜ (r ≡ Reply.Done → count < 4294967295) ⌝ }
+    ensures { λ x. ⌜ x ≡ openAnswer r count ⌝ }
+{
+    match r {
+        Reply::Done => OpenReply::Opened(count + 1),
+        Reply::Refused(q) => OpenReply::NotOpened(q),
+    }
+}
+
+// "number of cards not 1 to 16" does not hold.
+pub fn cards_fit(cards: u32) -> bool
+    ensures { λ r. ⌜ r ≡ not (freshRefused limits16 cards) ⌝ }
+{
+    (1 <= cards) & (cards <= Limits::CARDS_U32)
+}
+
+// "A fresh cabinet has session 1, phase up".
+pub fn fresh_head(cards: u32) -> Head
+    ensures { λ r. ⌜ r ≡ freshHead cards ⌝ }
+{
+    cabinet_layout::head_of(1, cards, Phase::Up)
+}

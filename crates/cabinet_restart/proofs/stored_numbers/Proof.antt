@@ -1,0 +1,78 @@
+-- `cabinet_restart::stored_numbers` adds each count to its base. Assumes nothing.
+use Prim.Native.Nat.{ℕ, zero, suc, _+_, _*_, _-_, _%_, _≤_, _<_}
+use mathlib.Core.Path.{_≡_, refl, sym, _∙_, ap}
+use mathlib.Core.Bool.{Bool, true, false, cond}
+use native.Mathlib.Omega.{arith}
+use lib.Dec.{ltb}
+use lib.ListN.{length, getD}
+use Rattle.base_laws.proofs.Fill.{FilledSoFar, filled-none, filled-more, filled-done}
+use Rattle.cabinet_layout.specs.Shape.{at, ringFrame}
+use Rattle.cabinet_layout.proofs.Limits.{width16}
+use borrow.Author.Needs.{needs}
+use Rattle.cabinet_restart.proofs.stored_numbers.Statement.{statement}
+use Rattle.cabinet_restart.proofs.stored_numbers.Tie as tie
+use Rattle.cabinet_restart.proofs.stored_numbers.Reads as reads
+use Rattle.cabinet_restart.proofs.stored_numbers.Lts as lts
+
+abbrev Inv-loop : tie.InvT-loop
+Inv-loop bases counts out₀ c₀ out c = FilledSoFar 0 16 (λ k. at bases k + at counts k) out c
+
+abbrev μ-loop : tie.MeasureT-loop
+μ-loop bases counts out₀ c₀ out c = 16 - c
+
+loop-holds : tie.Need-loop-holds Inv-loop μ-loop
+loop-holds c = filled-none refl
+
+mul-out : tie.Need-mul-out Inv-loop μ-loop
+mul-out c = search needs
+
+array-read-out : tie.Need-array-read-out Inv-loop μ-loop
+array-read-out c = search needs
+
+mul-out-2 : tie.Need-mul-out-2 Inv-loop μ-loop
+mul-out-2 c = search needs
+
+array-read-out-2 : tie.Need-array-read-out-2 Inv-loop μ-loop
+array-read-out-2 c = search needs
+
+add-out : tie.Need-add-out Inv-loop μ-loop
+add-out c =
+    let l = c .before .before .pre (c .before .loop .c) (c .loop-test .taken) in
+    omega (arith, l)
+
+mul-out-3 : tie.Need-mul-out-3 Inv-loop μ-loop
+mul-out-3 c = search needs
+
+array-write-out : tie.Need-array-write-out Inv-loop μ-loop
+array-write-out c = search needs
+
+add-c : tie.Need-add-c Inv-loop μ-loop
+add-c c = search needs
+
+loop-less : tie.Need-loop-less Inv-loop μ-loop
+loop-less c = search needs
+
+loop-again : tie.Need-loop-again Inv-loop μ-loop
+loop-again c = filled-more (c .before .loop .inv) (c .loop-test .taken) refl
+
+returns : tie.Need-returns Inv-loop μ-loop
+returns c = filled-done (c .before .loop .inv) (c .loop-test .left) width16
+
+pub stored-numbers-spec : {M : Type 1} → statement M
+stored-numbers-spec =
+    tie.close
+    (tie.spec
+    Inv-loop
+    μ-loop
+    loop-holds
+    mul-out
+    array-read-out
+    mul-out-2
+    array-read-out-2
+    add-out
+    mul-out-3
+    array-write-out
+    add-c
+    loop-less
+    loop-again
+    returns)

@@ -1,0 +1,84 @@
+// Restart: the cabinet out of the sheets of all cards, joined.
+ghost use Prim.Native.Nat.{ℕ, _+_, _≤_, _<_};
+ghost use mathlib.Core.Path.{_≡_};
+ghost use Rattle.cabinet_layout.specs.Shape.{at, listOf};
+ghost use Rattle.cabinet_layout.specs.Answers.{replyOf};
+ghost use Rattle.cabinet_restart.specs.Restart.{Within, restartedCabinet, Restarted};
+use cabinet::Answer;
+use cabinet::Cabinet;
+use base_limits::Limits;
+use base_refusal::Reply;
+use sheet_pages::Readout;
+use cabinet_layout::Phase;
+
+// The state that each card has stored: base plus the count of its frames.
+fn stored_numbers(bases: [u32; Limits::CARDS], counts: [u32; Limits::CARDS]) -> [u32; Limits::CARDS]
+    requires { ⌜ ((c : ℕ) → c < 16 → at bases c + at counts c ≤ 60000) ⌝ }
+    ensures { λ r. ⌜ r ≡ listOf (λ c. at bases c + at counts c) ⌝ }
+{
+    let mut out = [0u32; Limits::CARDS];
+    let mut c: usize = 0;
+    while c < Limits::CARDS {
+        out[c] = bases[c] + counts[c];
+        c += 1;
+    }
+    out
+}
+
+// The cabinet that restarts from a read-out.
+fn restarted(r: Readout) -> Cabinet
+    requires { ⌜ Within r ⌝ }
+    ensures { λ x. ⌜ x ≡ restartedCabinet r ⌝ }
+{
+    let bases = r.bases;
+    let counts = r.counts;
+    let sessions = r.sessions;
+    let stored = stored_numbers(bases, counts);
+    let low = sheet_sessions::lowest(sessions, r.cards - 1);
+    let rolled = cabinet_recalling::rolled_cards(sessions, low);
+    let head = cabinet_layout::head_of(low, r.cards, Phase::Rolling);
+    let last = cabinet_recalling::last_vectors(&r.entries, bases, stored);
+    let line = cabinet_recovery::lines(&r.entries, head, bases, stored, stored);
+    let entries = r.entries;
+    let changes = r.changes;
+    let mut core = cabinet_layout::blank(head);
+    core.last = last;
+    core.pending = last;
+    core.base = bases;
+    core.stored = stored;
+    core.held = stored;
+    core.reached = stored;
+    core.line = line;
+    core.rolled = rolled;
+    Cabinet {
+        entries: entries,
+        changes: changes,
+        core: core,
+    }
+}
+
+// "It gives a cabinet in phase rolling with the line fixed and the lowest session found"; a refusal hands back the void cabinet.
+pub fn restart(bytes: &[u8]) -> Answer
+    ensures { λ r. ⌜ Restarted (now (bytes .entry)) (replyOf (r .reply)) (r .cabinet) ⌝ }
+{
+    let read = sheet_readout::read_readout(bytes);
+    let v = read.verdict;
+    match v {
+        Reply::Done => {
+            let r = read.readout;
+            let c = restarted(r);
+            Answer {
+                cabinet: c,
+                reply: Reply::Done,
+            }
+        }
+        Reply::Refused(x) => {
+            let head = cabinet_layout::head_of(0, 0, Phase::Up);
+            let c = cabinet::zeros(head);
+            Answer {
+                cabinet: c,
+                reply: Reply::Refused(x),
+            }
+        }
+    }
+}

@@ -1,7 +1,0 @@
-pub mod Written
-pub mod Passing
-pub mod Sound
-pub mod Reading
-pub mod Retold
-pub mod Document
-pub mod Worked

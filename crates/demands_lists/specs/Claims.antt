@@ -1,0 +1,73 @@
+-- Demands 1, 2 and 3 of the 16-card cabinet. Statements alone: the proofs are in proofs/Refusing.antt and proofs/Whole.antt.
+use Prim.Native.Nat.{ℕ, _<_}
+use mathlib.Core.Path.{_≡_}
+use mathlib.Core.List.{List}
+use lib.Dec.{ltb}
+use Rattle.base_refusal.specs.declared.Refusal.{Refusal}
+use Rattle.base_refusal.specs.Number.{Listed, numberOf}
+use Rattle.sheet_lines.specs.Format.{formats}
+use Rattle.theory_history.specs.Change.{CardSet, Numbers}
+use Rattle.theory_codec.specs.Sheets.{joinedSheets, codec}
+use Rattle.theory_protocol.specs.Plan.{Answer, done, Reply, accepted, refused, Check, Passed, Due}
+use Rattle.theory_protocol.specs.Journal.{fixing}
+use Rattle.theory_protocol.specs.Run.{Choice, Proper, checksOf, Calls, none, further, journal}
+use Rattle.theory_protocol.specs.Demands.{CallRight, CabinetRight}
+use Rattle.cabinet_layout.specs.Shape.{limits16}
+use Rattle.cabinet.specs.declared.Cabinet.{Cabinet}
+use Rattle.cabinet.specs.View.{view}
+use Rattle.cabinet_restart.specs.Restart.{Restarted}
+use Rattle.demands_lists.specs.Lists.{Asked, callOf, Typed, Lent, lent, Answered, List16, start, next}
+
+-- ---- Demand 1, for any cabinet, a forged one too, and any arguments: "gets an answer or a refusal from document 01. A refusal changes neither the cabinet nor any lent list or buffer."
+-- what is said where this is the table: an answer, where no row fails; else the refusal of the first row that does
+pub data Said (table : List Check) : Reply → Type 0 where
+  answers : (a : Answer) → Passed table → Said table (accepted a)
+  refuses : (r : Refusal) → Due table r → Listed (numberOf r) → Said table (refused r)
+
+-- and with a refusal cabinet and lent lists are as they were
+pub record Outcome (table : List Check) (s t : Cabinet) (before after : Lent) (reply : Reply) : Type 0 where
+  pub said : Said table reply
+  pub unchanged : (r : Refusal) → reply ≡ refused r → (t ≡ s) × (after ≡ before)
+
+-- the table is the call's, for some choice of what document 01 leaves to the program
+pub record Gets (s : Cabinet) (asked : Asked) (reply : Reply) (t : Cabinet) (after : Lent) : Type 0 where
+  pub choice : Choice
+  pub proper : Proper limits16 (view s) (callOf asked) choice
+  pub outcome : Outcome (checksOf codec limits16 (view s) (callOf asked) choice) s t (lent asked) after reply
+
+-- some answer of a call
+pub record Reached (s : Cabinet) (asked : Asked) : Type 0 where
+  pub reply : Reply
+  pub next : Cabinet
+  pub after : Lent
+  pub answered : Answered s asked reply next after
+
+pub record CallsAnswer : Type 0 where
+  -- there is one
+  pub some : (s : Cabinet) (asked : Asked) → Reached s asked
+  -- and every one is as said
+  pub each : (s : Cabinet) (asked : Asked) → Typed asked → (reply : Reply) (t : Cabinet) (after : Lent) → Answered s asked reply t after → Gets s asked reply t after
+
+-- ---- Demands 2 and 3
+-- "the sheets of all cards, joined, restart to the line answered": what the restart of the code hands back
+pub record RestartGives (n : ℕ) (line : Numbers) (reply : Reply) (handed : Cabinet) : Type 0 where
+  pub accepted-so : reply ≡ accepted done
+  pub same-line : (c : ℕ) → c < n → view handed .line c ≡ line c
+
+-- what holds of the cabinet s after the calls cs
+pub record CabinetRight16 (n : ℕ) (cs : Calls) (s : Cabinet) : Type 0 where
+  pub right : CabinetRight codec limits16 (λ c. ltb c n) cs (view s)
+  pub sheets-give-line : (line : Numbers) (marked : CardSet) → journal limits16 (λ c. ltb c n) cs .fix ≡ fixing line marked
+      → (reply : Reply) (handed : Cabinet) → Restarted (joinedSheets formats limits16 (view s)) reply handed → RestartGives n line reply handed
+
+-- throughout a list: of each accepted call, and of the cabinet after each call
+abbrev pub Throughout : {n : ℕ} {cs : Calls} {s : Cabinet} → List16 n cs s → Type 0
+Throughout {n} (start s f) = CabinetRight16 n none s
+Throughout {n} (next {cs} {s} l asked z reply t after w) =
+    Throughout l
+    × ((a : Answer) → reply ≡ accepted a → CallRight limits16 (λ c. ltb c n) cs (callOf asked) a (view s) (view t))
+    × CabinetRight16 n (further cs (callOf asked) reply) t
+
+-- for every list of calls, with losses anywhere and restarts in any phase
+abbrev pub Demands23 : Type 0
+Demands23 = (n : ℕ) (cs : Calls) (s : Cabinet) (l : List16 n cs s) → Throughout l

@@ -1,0 +1,108 @@
+-- Laws of the text of frames: how it goes on, and that the ring has what the model says. Assumes nothing.
+use Prim.Native.Nat.{ℕ, zero, suc, _+_, _-_, _≤_, _<_}
+use mathlib.Core.Path.{_≡_, refl, sym, _∙_, ap, ap₂}
+use mathlib.Core.Bool.{Bool, true, false, not, cond}
+use mathlib.Core.List.{List, [], _∷_, _++_, append-assoc, append-nil}
+use native.Mathlib.Nat.{le-step, lt-suc-self}
+use native.Mathlib.Omega.{arith}
+use borrow.Author.Tests.{lt-ltb, le-leb, ltb-true, eq-eqb, ne-eqb, not-true, not-false}
+use Rattle.base_laws.specs.Below.{tabulate, selected}
+use Rattle.base_laws.proofs.Logic.{cond-true, cond-false, and-left, and-intro}
+use Rattle.base_laws.proofs.Fill.{tabulate-same, getD-tabulate}
+use lib.ListN.{getD}
+use Rattle.base_decimal.specs.Digits.{decimal}
+use Rattle.theory_history.specs.Vector as history
+use Rattle.theory_history.specs.Vector.{noEntries}
+use Rattle.theory_protocol.specs.Model.{Model, isCard}
+use Rattle.theory_protocol.specs.Valid.{valid}
+use Rattle.base_refusal.specs.declared.Refusal.the-variants.{NoSuchCard, BadCabinet}
+use Rattle.sheet_lines.specs.declared.Frame.{Frame}
+use Rattle.sheet_pages.specs.Ring as frames
+use Rattle.cabinet_layout.specs.declared.Core.{Core}
+use Rattle.cabinet_layout.specs.Shape.{limits16, at, presentOf, inHand, changeInHand, frameInHand, ringPlace, ringChange, ringFrame, truncate, modelOf}
+use Rattle.cabinet_layout.proofs.Limits.{width16}
+use Rattle.base_text.specs.Lines.{spaced, textLine, joined}
+use Rattle.base_text.proofs.Spaced.{selected-more}
+use Rattle.list_answers.specs.Texts.{refusedText}
+use Rattle.list_answer_frames.specs.Frames.{framesWord, entryText, entriesText, frameText, stateText, framesText, framesAnswer, ringText}
+
+-- ---- how the text goes on
+
+entries-append : (xs ys : List ℕ) → entriesText (xs ++ ys) ≡ entriesText xs ++ entriesText ys
+entries-append [] ys = refl
+entries-append (x ∷ xs) ys = ap (λ (l : List ℕ). entryText x ++ l) (entries-append xs ys) ∙ sym (append-assoc (entryText x) (entriesText xs) (entriesText ys))
+
+pub entries-more : (p : ℕ → Bool) (f : ℕ → ℕ) (i : ℕ) → entriesText (selected i p f) ++ cond (p i) (entryText (f i)) [] ≡ entriesText (selected (i + 1) p f)
+entries-more = selected-more entriesText entryText entries-append (λ x. append-nil (entryText x)) refl
+
+-- an entry that is written, and one that is not
+pub entry-absent : (there : Bool) (e : ℕ) → not there ≡ true → [] ≡ cond there (entryText e) []
+entry-absent there e h = sym (cond-false (entryText e) [] (not-true there h))
+
+pub entry-none : (there : Bool) (e : ℕ) → not there ≡ false → e ≡ 0 → 32 ∷ 45 ∷ [] ≡ cond there (entryText e) []
+entry-none there e h z = sym (cond-true (entryText e) [] (not-false there h) ∙ cond-true (32 ∷ 45 ∷ []) (spaced ((e - 1) ∷ [])) (eq-eqb e 0 z))
+
+pub entry-some : (there : Bool) (e : ℕ) → not there ≡ false → (e ≡ 0 → ⊥) → spaced ((e - 1) ∷ []) ≡ cond there (entryText e) []
+entry-some there e h n = sym (cond-true (entryText e) [] (not-false there h) ∙ cond-false (32 ∷ 45 ∷ []) (spaced ((e - 1) ∷ [])) (ne-eqb e 0 n))
+
+pub frame-as : (x k : ℕ) (es : List ℕ) → ((decimal x ++ spaced (k ∷ [])) ++ entriesText es) ++ (10 ∷ []) ≡ frameText x k es
+frame-as x k es =
+    append-assoc (decimal x ++ spaced (k ∷ [])) (entriesText es) (10 ∷ []) ∙ append-assoc (decimal x) (spaced (k ∷ [])) (entriesText es ++ (10 ∷ []))
+
+-- a frame that is the ring's
+pub ring-as : (changes entries : List ℕ) (cards c x y : ℕ) (f : Frame) → f ≡ frames.ringFrame changes entries 16 c x → x ≡ y
+    → frameText x (f .change) (selected (limits16 .width) (presentOf cards) (at (f .entries))) ≡ ringText changes entries cards c y
+ring-as changes entries cards c x y f e z =
+    ap (λ (g : Frame). frameText x (g .change) (selected (limits16 .width) (presentOf cards) (at (g .entries)))) e ∙ ap (ringText changes entries cards c) z
+
+-- ---- the ring has the frames in hand
+
+selected-same : {A : Type 0} (n : ℕ) (p : ℕ → Bool) (f g : ℕ → A) → ((k : ℕ) → k < n → f k ≡ g k) → selected n p f ≡ selected n p g
+selected-same zero p f g e = refl
+selected-same {A} (suc n) p f g e = ap₂ (λ (l : List A) (x : A). l ++ cond (p n) (x ∷ []) []) (selected-same n p f g (λ k h. e k (le-step h))) (e n (lt-suc-self n))
+
+module _ (entries changes : List ℕ) (core : Core) (c : ℕ) where
+  abbrev m : Model
+  m = modelOf entries changes core
+
+  abbrev base : ℕ
+  base = at (core .base) c
+
+  abbrev reached : ℕ
+  reached = at (core .reached) c
+
+  in-hand : (k : ℕ) → k < reached - base → inHand (core .base) (core .reached) c (suc (base + k)) ≡ true
+  in-hand k h = and-intro (lt-ltb base (suc (base + k)) (omega arith)) (le-leb (suc (base + k)) reached (omega arith))
+
+  state-as : (k : ℕ) → k < reached - base → ringText changes entries (core .head .cards) c (suc (base + k)) ≡ stateText limits16 m c (suc (base + k))
+  state-as k h =
+      let x : ℕ = suc (base + k) in
+      ap₂ (λ (a : ℕ) (l : List ℕ). frameText x a l) (sym (cond-true (ringChange changes c x) 0 (in-hand k h)))
+      (selected-same (limits16 .width) (presentOf (core .head .cards)) (at (tabulate 16 (ringFrame entries c x))) (frameInHand entries (core .base) (core .reached) c x) (λ j l. entry-as x (in-hand k h) j l))
+    where
+      entry-as : (x : ℕ) → inHand (core .base) (core .reached) c x ≡ true → (j : ℕ) → j < limits16 .width → at (tabulate 16 (ringFrame entries c x)) j ≡ frameInHand entries (core .base) (core .reached) c x j
+      entry-as x e j l =
+          getD-tabulate 16 (ringFrame entries c x) 0 j (omega (arith, width16))
+          ∙ sym (ap (λ (v : history.Vector). v j) (cond-true (truncate (ringFrame entries c x)) noEntries e) ∙ cond-true (ringFrame entries c x j) 0 (lt-ltb j (limits16 .width) l))
+
+  frames-as : textLine framesWord ((reached - base) ∷ []) ++ joined (tabulate (reached - base) (λ k. ringText changes entries (core .head .cards) c (suc (base + k)))) ≡ framesText limits16 m c
+  frames-as =
+      ap (λ (l : List (List ℕ)). textLine framesWord ((reached - base) ∷ []) ++ joined l)
+      (tabulate-same (reached - base) (λ k. ringText changes entries (core .head .cards) c (suc (base + k))) (λ k. stateText limits16 m c (suc (base + k))) state-as)
+
+  -- ---- the answer, by what the checks say
+
+  pub refused-28 : (whole : Bool) → whole ≡ valid limits16 m → whole ≡ false → refusedText BadCabinet ≡ framesAnswer limits16 m c
+  refused-28 whole e f = sym (cond-false _ _ (sym e ∙ f))
+
+  pub refused-2 : (whole there : Bool) → whole ≡ valid limits16 m → whole ≡ true → there ≡ isCard limits16 m c → there ≡ false → refusedText NoSuchCard ≡ framesAnswer limits16 m c
+  refused-2 whole there e t d f = sym (cond-true _ _ (sym e ∙ t) ∙ cond-false _ _ (sym d ∙ f))
+
+  pub told-frames : (whole there : Bool) (low high count : ℕ) → whole ≡ valid limits16 m → whole ≡ true → there ≡ isCard limits16 m c → there ≡ true → low ≡ base → high ≡ reached → count ≡ high - low
+      → textLine framesWord (count ∷ []) ++ joined (tabulate count (λ k. ringText changes entries (core .head .cards) c (suc (low + k)))) ≡ framesAnswer limits16 m c
+  told-frames whole there low high count e t d f p q r =
+      ap₂ (λ (n k : ℕ). textLine framesWord (n ∷ []) ++ joined (tabulate n (λ i. ringText changes entries (core .head .cards) c (suc (k + i))))) (r ∙ ap₂ (λ (x y : ℕ). x - y) q p) p
+      ∙ frames-as ∙ sym (cond-true _ _ (sym e ∙ t) ∙ cond-true _ _ (sym d ∙ f))
+
+  pub card-below : (there : Bool) → there ≡ isCard limits16 m c → there ≡ true → c < 16
+  card-below there d f = let l : c < limits16 .width = ltb-true c (limits16 .width) (and-left _ _ (sym d ∙ f)) in omega (arith, width16)

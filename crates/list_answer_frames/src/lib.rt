@@ -1,0 +1,118 @@
+// How the answer to a look at a card's frames is written: what its states in hand hang on.
+ghost use Prim.Native.Nat.{suc, _+_, _-_, _≤_, _<_};
+ghost use mathlib.Core.Bool.{cond};
+ghost use mathlib.Core.List.{[]};
+ghost use mathlib.Core.Path.{_≡_};
+ghost use Rattle.base_laws.specs.Below.{tabulate, selected};
+ghost use Rattle.cabinet_layout.specs.Shape.{limits16, at, presentOf, modelOf};
+ghost use Rattle.base_text.specs.Put.{Put};
+ghost use Rattle.base_text.specs.Lines.{joined};
+ghost use Rattle.list_answer_frames.specs.Frames.{entryText, entriesText, frameText, framesAnswer, ringText};
+use sheet_lines::Frame;
+use base_limits::Limits;
+use base_refusal::Refusal;
+use cabinet_replies::is_card;
+use base_text::Progress;
+use cabinet_layout::Core;
+
+// The entry of a card that the cabinet has: its state, none written `-`.
+fn put_entry(b: &mut [u8], w: Progress, there: bool, entry: u32) -> Progress
+    ensures { λ x. ⌜ Put (now (b .entry)) w (cond there (entryText entry) []) x (now (b .exit)) ⌝ }
+{
+    if !there {
+        return w;
+    }
+    if entry == 0 {
+        return base_text::put(b, w, b" -");
+    }
+    let state = [entry - 1];
+    base_text::put_numbers(b, w, &state)
+}
+
+// The entries of a vector, one for each card of the cabinet.
+fn put_entries(b: &mut [u8], w: Progress, cards: u32, vector: [u32; Limits::CARDS]) -> Progress
+    ensures { λ x. ⌜ Put (now (b .entry)) w (entriesText (selected (limits16 .width) (presentOf cards) (at vector))) x (now (b .exit)) ⌝ }
+{
+    let mut at = w;
+    let mut j: u32 = 0;
+    while j < Limits::CARDS_U32 {
+        let entry = vector[j as usize];
+        at = put_entry(b, at, j < cards, entry);
+        j += 1;
+    }
+    at
+}
+
+// The line of a state.
+fn put_frame(b: &mut [u8], w: Progress, cards: u32, state: u32, f: Frame) -> Progress
+    ensures { λ x. ⌜ Put (now (b .entry)) w (frameText state (f .change) (selected (limits16 .width) (presentOf cards) (at (f .entries)))) x (now (b .exit)) ⌝ }
+{
+    let change = [f.change];
+    let vector = f.entries;
+    let w = base_text::put_number(b, w, state);
+    let w = base_text::put_numbers(b, w, &change);
+    let w = put_entries(b, w, cards, vector);
+    base_text::put(b, w, b"\n")
+}
+
+// The lines of so many states above a card's base, as the ring has them.
+fn put_states<'a, 'b>(
+    b: &'a mut [u8],
+    w: Progress,
+    entries: &'b [u32; Limits::ENTRIES],
+    changes: &'b [u32; Limits::FRAMES],
+    cards: u32,
+    card: u32,
+    base: u32,
+    count: u32,
+) -> Progress
+    requires { ⌜ (card < 16) × (base + count ≤ 4294967295) ⌝ }
+    ensures { λ x. ⌜ Put (now (b .entry)) w (joined (tabulate count (λ k. ringText (now (changes .entry)) (now (entries .entry)) cards card (suc (base + k))))) x (now (b .exit)) ⌝ }
+{
+    let mut at = w;
+    let mut k: u32 = 0;
+    while k < count {
+        let state = base + 1 + k;
+        let f = sheet_page_writer::frame_of(changes, entries, card, state);
+        at = put_frame(b, at, cards, state, f);
+        k += 1;
+    }
+    at
+}
+
+// How many states of a card are in hand.
+fn in_hand(base: u32, reached: u32) -> u32
+    ensures { λ r. ⌜ r ≡ reached - base ⌝ }
+{
+    if reached < base { 0 } else { reached - base }
+}
+
+// What the states in hand of a card hang on: 28, 2, or a line for each of them.
+pub fn put_frames<'a, 'b>(
+    b: &'a mut [u8],
+    w: Progress,
+    entries: &'b [u32; Limits::ENTRIES],
+    changes: &'b [u32; Limits::FRAMES],
+    core: Core,
+    card: u32,
+) -> Progress
+    ensures { λ x. ⌜ Put (now (b .entry)) w (framesAnswer limits16 (modelOf (now (entries .entry)) (now (changes .entry)) core) card) x (now (b .exit)) ⌝ }
+{
+    let valid = cabinet_valid::cabinet_valid(entries, changes, core);
+    if !valid {
+        return list_answers::put_refusal(b, w, Refusal::BadCabinet);
+    }
+    let head = core.head;
+    let there = is_card(head, card);
+    if !there {
+        return list_answers::put_refusal(b, w, Refusal::NoSuchCard);
+    }
+    let bases = core.base;
+    let ends = core.reached;
+    let base = cabinet_layout::at(bases, card);
+    let reached = cabinet_layout::at(ends, card);
+    let count = in_hand(base, reached);
+    let number = [count];
+    let w = base_text::put_line(b, w, b"frames", &number);
+    put_states(b, w, entries, changes, head.cards, card, base, count)
+}

@@ -1,0 +1,152 @@
+// Fix and sheet writing with lists that a line lends, restart, and looks at the present cabinet, each with its answer written.
+ghost use Prim.Native.Nat.{min};
+ghost use mathlib.Core.Path.{_≡_};
+ghost use lib.ListN.{length};
+ghost use Rattle.theory_protocol.specs.Codec.{sheetPlan};
+ghost use Rattle.theory_codec.specs.Sheets.{codec};
+ghost use Rattle.cabinet_layout.specs.Shape.{limits16};
+ghost use Rattle.cabinet.specs.View.{view};
+ghost use Rattle.list_answer_show.specs.Show.{showText};
+ghost use Rattle.list_answer_frames.specs.Frames.{framesAnswer};
+ghost use Rattle.list_results.specs.Result.{Planned, FixSaid, RestartResult, Kept, Written, Continuing};
+use list_results::Replay;
+use list_results::Stepped;
+use cabinet::Cabinet;
+use base_limits::Limits;
+use cabinet_records::CardRecord;
+use base_text::Progress;
+
+// How many places for change numbers are lent: at most 776.
+fn lent_places(numbers: u32) -> usize
+    ensures { λ r. ⌜ r ≡ min numbers 776 ⌝ }
+{
+    if numbers < Limits::MOST_LOST_U32 {
+        numbers as usize
+    } else {
+        Limits::MOST_LOST
+    }
+}
+
+// A list for change numbers.
+fn blank_list() -> [u32; Limits::MOST_LOST]
+    ensures { λ r. ⌜ length r ≡ 776 ⌝ }
+{
+    [0; Limits::MOST_LOST]
+}
+
+// A list for card records.
+fn blank_records() -> [CardRecord; Limits::CARDS]
+    ensures { λ r. ⌜ length r ≡ 16 ⌝ }
+{
+    let zero = CardRecord {
+        card: 0,
+        stored: 0,
+        line: 0,
+    };
+    [zero; Limits::CARDS]
+}
+
+// 9. fix: the list for card records has at most 16 places, that for change numbers at most 776.
+pub fn fix(c: Cabinet, records: u32, numbers: u32, b: &mut [u8], w: Progress) -> Stepped
+    ensures { λ r. ⌜ Written (Continuing (FixSaid c (min records 16) (min numbers 776)) (r .replay)) (now (b .entry)) w (r .written) (now (b .exit)) ⌝ }
+{
+    let core = c.core;
+    let head = core.head;
+    let cards = head.cards;
+    let blank = blank_records();
+    let mut list = blank_list();
+    let places = lent_places(numbers);
+    let out = c.fix_array(blank, records as usize, &mut list[0..places]);
+    let a = out.answer;
+    let r = a.reply;
+    let cabinet = a.cabinet;
+    let stored = cabinet.core.stored;
+    let line = cabinet.core.line;
+    let written = list_whole::put_fix(b, w, cards, stored, line, list, places, r);
+    let replay = Replay {
+        cabinet,
+        begun: true,
+    };
+    Stepped { replay, written }
+}
+
+// How many bytes of a buffer for a sheet are lent: at most 65,536.
+fn lent_bytes(bytes: u32) -> usize
+    ensures { λ r. ⌜ r ≡ min bytes 65536 ⌝ }
+{
+    if bytes < Limits::LONGEST_U32 {
+        bytes as usize
+    } else {
+        Limits::LONGEST
+    }
+}
+
+// A buffer for a sheet.
+fn blank_buffer() -> [u8; Limits::LONGEST]
+    ensures { λ r. ⌜ length r ≡ 65536 ⌝ }
+{
+    [0; Limits::LONGEST]
+}
+
+// A card's sheet: the buffer has at most 65,536 bytes.
+pub fn sheet(c: Cabinet, card: u32, bytes: u32, b: &mut [u8], w: Progress) -> Stepped
+    ensures { λ r. ⌜ Written (Continuing (Planned c (sheetPlan codec limits16 (view c) card (min bytes 65536))) (r .replay)) (now (b .entry)) w (r .written) (now (b .exit)) ⌝ }
+{
+    let mut buffer = blank_buffer();
+    let places = lent_bytes(bytes);
+    let a = c.sheet(card, &mut buffer[0..places]);
+    let r = a.reply;
+    let written = list_whole::put_sheet(b, w, &buffer, places, r);
+    let cabinet = a.cabinet;
+    let replay = Replay {
+        cabinet,
+        begun: true,
+    };
+    Stepped { replay, written }
+}
+
+// The result takes the cabinet's place.
+pub fn restart(c: Cabinet, b: &mut [u8], w: Progress) -> Stepped
+    ensures { λ r. ⌜ Written (Continuing (RestartResult c) (r .replay)) (now (b .entry)) w (r .written) (now (b .exit)) ⌝ }
+{
+    let a = cabinet_joined::restart(c);
+    let r = a.reply;
+    let written = list_whole::put_reply(b, w, r);
+    let cabinet = a.cabinet;
+    let replay = Replay {
+        cabinet,
+        begun: true,
+    };
+    Stepped { replay, written }
+}
+
+// What the cabinet is.
+pub fn show(c: Cabinet, b: &mut [u8], w: Progress) -> Stepped
+    ensures { λ r. ⌜ Written (Continuing (Kept c (showText (c .core .head) (c .core .base) (c .core .stored) (c .core .held) (c .core .reached))) (r .replay)) (now (b .entry)) w (r .written) (now (b .exit)) ⌝ }
+{
+    let core = c.core;
+    let head = core.head;
+    let base = core.base;
+    let stored = core.stored;
+    let held = core.held;
+    let reached = core.reached;
+    let written = list_whole::put_show(b, w, head, base, stored, held, reached);
+    let replay = Replay {
+        cabinet: c,
+        begun: true,
+    };
+    Stepped { replay, written }
+}
+
+// What the states in hand of a card hang on.
+pub fn frames(c: Cabinet, card: u32, b: &mut [u8], w: Progress) -> Stepped
+    ensures { λ r. ⌜ Written (Continuing (Kept c (framesAnswer limits16 (view c) card)) (r .replay)) (now (b .entry)) w (r .written) (now (b .exit)) ⌝ }
+{
+    let core = c.core;
+    let written = list_whole::put_frames(b, w, &c.entries, &c.changes, core, card);
+    let replay = Replay {
+        cabinet: c,
+        begun: true,
+    };
+    Stepped { replay, written }
+}

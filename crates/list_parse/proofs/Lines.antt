@@ -1,0 +1,95 @@
+-- Laws of a line: its numbers as they are read one after the other, its word, and where the next one begins. Assumes nothing.
+use Prim.Native.Nat.{ℕ, _+_, _-_, _≤_, _<_}
+use mathlib.Core.Path.{_≡_, refl, sym, _∙_, ap, ap₂}
+use mathlib.Core.Bool.{Bool, true, false, cond}
+use mathlib.Core.List.{List}
+use native.Mathlib.Omega.{arith}
+use lib.Dec.{eqb, leb, ltb}
+use lib.ListN.{length, getD, take, drop, length-drop}
+use borrow.Author.Tests.{le-leb, lt-leb, leb-false, lt-ltb, le-ltb, ltb-true, ltb-false, eq-eqb, ne-eqb}
+use Rattle.base_laws.proofs.Logic.{test}
+use Rattle.base_decimal.specs.declared.Reading.{Reading}
+use Rattle.base_decimal.specs.Answers.{readAt}
+use Rattle.list_parse.specs.declared.Figure.{Figure}
+use Rattle.list_parse.specs.declared.Figure.the-variants.{Nothing, Other}
+use Rattle.list_parse.specs.declared.Figures.{Figures}
+use Rattle.list_parse.specs.declared.Command.{Command}
+use Rattle.list_parse.specs.declared.Command.the-variants.{Unreadable}
+use Rattle.list_parse.specs.declared.Token.{Token}
+use Rattle.list_parse.specs.declared.Token.the-variants.{Line, End}
+use Rattle.list_parse.specs.Line.{before, asFigure, nextFigure, goOn, figuresAt}
+use Rattle.list_parse.specs.Calls.{parseWith, parseLine, lineEnd, nextLine, tokenAt}
+use Rattle.list_parse.proofs.Texts.{before-take, before-length}
+
+module _ (s : List ℕ) (at : ℕ) where
+  pub figure-end : length s ≤ at → Nothing ≡ nextFigure s at
+  figure-end h = rw (le-leb (length s) at h)
+
+  pub figure-other : at < length s → (getD s at 0 ≡ 32 → ⊥) → Other ≡ nextFigure s at
+  figure-other h n = rw (lt-leb (length s) at h, ne-eqb (getD s at 0) 32 n)
+
+  pub figure-read : at < length s → getD s at 0 ≡ 32 → (r q : Reading) → r ≡ readAt s (at + 1) → r ≡ q → asFigure q ≡ nextFigure s at
+  figure-read h e r q p z = ap asFigure (sym z ∙ p) ∙ sym (rw (lt-leb (length s) at h, eq-eqb (getD s at 0) 32 e))
+
+-- what was found at a place, and what was made of it
+pub go-on : (here : Figures) (more : ℕ → ℕ → Figures) {f g k : Figure} {r : Figures} → f ≡ g → f ≡ k → r ≡ goOn k here more → r ≡ goOn g here more
+go-on here more e z p = p ∙ ap (λ (x : Figure). goOn x here more) (sym z ∙ e)
+
+-- ---- whole lines
+
+-- the word and the numbers of a line that is not too long
+pub parse-long : (l : List ℕ) → 128 < length l → Unreadable ≡ parseLine l
+parse-long l h = rw (lt-ltb 128 (length l) h)
+
+pub parse-read : (l : List ℕ) (end : ℕ) {f : Figures} {r : Command} → length l ≤ 128 → end ≡ 0 + length (before 32 (drop 0 l)) → f ≡ figuresAt l end → r ≡ parseWith (take (end - 0) (drop 0 l)) f → r ≡ parseLine l
+parse-read l end {f} {r} h e g p =
+    p ∙ ap₂ parseWith (ap (λ (k : ℕ). take k l) from-start ∙ before-take 32 l) (g ∙ ap (figuresAt l) at-word)
+    ∙ sym (ap (λ (b : Bool). cond b Unreadable (parseWith (before 32 l) (figuresAt l (length (before 32 l))))) (le-ltb 128 (length l) h))
+  where
+    at-word : end ≡ length (before 32 l)
+    at-word = omega arith
+
+    from-start : end - 0 ≡ length (before 32 l)
+    from-start = omega arith
+
+-- the place where a byte was found is inside the text
+pub found-within : (s : List ℕ) (from b : ℕ) {r : ℕ} → from ≤ length s → r ≡ from + length (before b (drop from s)) → r ≤ length s
+found-within s from b h e = omega (arith, before-length b (drop from s), length-drop from s)
+
+-- a line of a text, and where the next one begins
+pub heard-end : (s : List ℕ) (from : ℕ) → length s ≤ from → End ≡ tokenAt s from
+heard-end s from h = rw (le-leb (length s) from h)
+
+module _ (s : List ℕ) (from end : ℕ) {r : Command} (h : from < length s) (e : end ≡ from + length (before 10 (drop from s))) (p : r ≡ parseLine (take (end - from) (drop from s))) where
+  line-said : r ≡ parseLine (before 10 (drop from s))
+  line-said =
+      let k : end - from ≡ length (before 10 (drop from s)) = omega arith in
+      p ∙ ap (λ (n : ℕ). parseLine (take n (drop from s))) k ∙ ap parseLine (before-take 10 (drop from s))
+
+  line-heard : (n : ℕ) → n ≡ nextLine s from → Line r n ≡ tokenAt s from
+  line-heard n q = ap₂ Line line-said q ∙ sym (ap (λ (b : Bool). cond b End (Line (parseLine (before 10 (drop from s))) (nextLine s from))) (lt-leb (length s) from h))
+
+  pub heard-more : end < length s → Line r (end + 1) ≡ tokenAt s from
+  heard-more l =
+      line-heard (end + 1)
+      (ap (λ (k : ℕ). k + 1) e ∙ sym (ap (λ (b : Bool). cond b (lineEnd s from + 1) (lineEnd s from)) (lt-ltb (lineEnd s from) (length s) (omega arith))))
+
+  pub heard-last : length s ≤ end → Line r end ≡ tokenAt s from
+  heard-last l = line-heard end (e ∙ sym (ap (λ (b : Bool). cond b (lineEnd s from + 1) (lineEnd s from)) (le-ltb (lineEnd s from) (length s) (omega arith))))
+
+-- the next line begins further on, and at the end at the latest
+pub heard-forward : (s : List ℕ) (from : ℕ) {r : Command} {n : ℕ} → Line r n ≡ tokenAt s from → (from < n) × (n ≤ length s)
+heard-forward s from {r} {n} e =
+    test (leb (length s) from)
+    (λ q. let z : Line r n ≡ End = e ∙ ap (λ (b : Bool). cond b End here) q in let k : _≡_ {A = ℕ} 0 1 = cc in absurd (omega arith))
+    (λ q.
+    let z : Line r n ≡ here = e ∙ ap (λ (b : Bool). cond b End here) q in
+    let k : n ≡ nextLine s from = cc in
+    let l : from < length s = leb-false (length s) from q in
+    let w : lineEnd s from ≤ length s = found-within s from 10 (omega arith) refl in
+    test (ltb (lineEnd s from) (length s))
+    (λ p. let m : n ≡ lineEnd s from + 1 = k ∙ ap (λ (b : Bool). cond b (lineEnd s from + 1) (lineEnd s from)) p in (omega arith, omega (arith, ltb-true (lineEnd s from) (length s) p)))
+    (λ p. let m : n ≡ lineEnd s from = k ∙ ap (λ (b : Bool). cond b (lineEnd s from + 1) (lineEnd s from)) p in (omega (arith, ltb-false (lineEnd s from) (length s) p), omega arith)))
+  where
+    here : Token
+    here = Line (parseLine (before 10 (drop from s))) (nextLine s from)

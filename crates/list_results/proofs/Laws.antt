@@ -1,0 +1,84 @@
+-- Laws of the calls of a list. Assumes nothing.
+use Prim.Native.Nat.{ℕ, _≤_}
+use mathlib.Core.Path.{_≡_, refl, _∙_, ap}
+use mathlib.Core.Bool.{true}
+use mathlib.Core.List.{List}
+use lib.ListN.{length, take}
+use Rattle.base_text.specs.declared.Progress.{Progress}
+use Rattle.theory_protocol.specs.Plan.{Plan, Reply}
+use Rattle.theory_protocol.specs.Calls.{fixPlan}
+use Rattle.theory_protocol.specs.Codec.{sheetPlan}
+use Rattle.theory_codec.specs.Sheets.{codec}
+use Rattle.sheet_page_writer.specs.declared.Written as sheets
+use Rattle.cabinet_sheet.specs.Card.{sheetReplyOf}
+use Rattle.cabinet_layout.specs.Shape.{limits16}
+use Rattle.cabinet_recovery.specs.declared.FixReply.{FixReply}
+use Rattle.cabinet_recovery.specs.Fix.{fixReplyOf}
+use Rattle.cabinet.specs.declared.Cabinet.{Cabinet}
+use Rattle.cabinet.specs.View.{view}
+use Rattle.cabinet.specs.Apply.{applyAll, Carried, OpenCarried}
+use Rattle.cabinet.specs.Fixing.{FixCarried}
+use Rattle.cabinet.specs.Writing.{SheetCarried}
+use Rattle.cabinet_joined.specs.Joined.{FromOwnSheets}
+use Rattle.base_text.specs.Put.{Whole}
+use Rattle.list_answers.specs.Texts.{replyText}
+use Rattle.list_results.specs.declared.Replay.{Replay}
+use Rattle.list_results.specs.Result.{Written, Continuing, Planned, OpenResult, openWithin, FixSaid, RestartResult}
+
+module _ {b : List ℕ} {w r : Progress} {e : List ℕ} where
+  -- a call that has a plan
+  pub by-plan : {c : Cabinet} {p : Plan} {q : Reply} {next : Cabinet} → Carried c p q next → Whole b w (replyText q) r e → Written (Planned c p next) b w r e
+  by-plan {c} {p} {q} {next} k u = record { text = replyText q; told = record { cabinet = k .cabinet; answer = ap replyText (k .answer) }; put = u }
+
+  -- the same text, told otherwise
+  pub told-as : {S T : List ℕ → Type 0} → ((t : List ℕ) → S t → T t) → Written S b w r e → Written T b w r e
+  told-as f u = record { text = u .text; told = f (u .text) (u .told); put = u .put }
+
+  pub opened-by : {c : Cabinet} {reads writes : ℕ} {q : Reply} {next : Cabinet} → reads ≤ 65535 → writes ≤ 65535 → OpenCarried c reads writes q next → Whole b w (replyText q) r e → Written (OpenResult c reads writes next) b w r e
+  opened-by {q = q} h l k u = record { text = replyText q; told = openWithin h l q k refl; put = u }
+
+  -- fix, which was lent so many places at the front of a list: after it they hold what it left there
+  pub fixed-by : {c : Cabinet} {records : ℕ} {before after : List ℕ} {q : FixReply} {next : Cabinet} (places numbers : ℕ) (whole : List ℕ)
+      → FixCarried c records before after q next → length before ≡ numbers → take places whole ≡ after
+      → Whole b w (replyText (fixReplyOf (c .core .head .cards) (next .core .stored) (next .core .line) (take places whole) q)) r e → Written (FixSaid c records numbers next) b w r e
+  fixed-by {c} {records} {before} {after} {q} {next} places numbers whole f size left u =
+      record {
+        text = replyText (fixReplyOf (c .core .head .cards) (next .core .stored) (next .core .line) (take places whole) q);
+        told = record {
+          lost = f .told .lost;
+          once = f .told .once;
+          planned = record {
+            cabinet = f .cabinet ∙ ap (λ (n : ℕ). applyAll (fixPlan limits16 (view c) records n (f .told .lost) .edits) c) size;
+            answer = ap replyText
+                (ap (λ (l : List ℕ). fixReplyOf (c .core .head .cards) (next .core .stored) (next .core .line) l q) left ∙ f .told .answer
+                ∙ ap (λ (n : ℕ). fixPlan limits16 (view c) records n (f .told .lost) .reply) size);
+          };
+        };
+        put = u;
+      }
+
+  -- sheet writing, which was lent so many bytes at the front of a buffer
+  pub sheet-by : {c : Cabinet} {card : ℕ} {before after : List ℕ} {q : sheets.Written} {next : Cabinet} (places bytes : ℕ) (whole : List ℕ)
+      → SheetCarried c card before after q next → length before ≡ bytes → take places whole ≡ after
+      → Whole b w (replyText (sheetReplyOf (take places whole) q)) r e → Written (Planned c (sheetPlan codec limits16 (view c) card bytes) next) b w r e
+  sheet-by {c} {card} {before} {after} {q} {next} places bytes whole f size left u =
+      record {
+        text = replyText (sheetReplyOf (take places whole) q);
+        told = record {
+          cabinet = f .cabinet ∙ ap (λ (n : ℕ). applyAll (sheetPlan codec limits16 (view c) card n .edits) c) size;
+          answer = ap replyText
+              (ap (λ (l : List ℕ). sheetReplyOf l q) left ∙ f .told .answer
+              ∙ ap (λ (n : ℕ). sheetPlan codec limits16 (view c) card n .reply) size);
+        };
+        put = u;
+      }
+
+  pub restarted-by : {c : Cabinet} {q : Reply} {next : Cabinet} → FromOwnSheets c q next → Whole b w (replyText q) r e → Written (RestartResult c next) b w r e
+  restarted-by {q = q} k u = record { text = replyText q; told = record { reply = q; restarted = k; answer = refl }; put = u }
+
+  -- told of the cabinet that is handed on
+  pub onward : {T : Cabinet → List ℕ → Type 0} (c : Cabinet) → Written (T c) b w r e → Written (Continuing T (record { cabinet = c; begun = true })) b w r e
+  onward c u = record { text = u .text; told = record { begun = refl; told = u .told }; put = u .put }
+
+  pub onward-as : {S T : Cabinet → List ℕ → Type 0} {next : Replay} → ((t : List ℕ) → S (next .cabinet) t → T (next .cabinet) t) → Written (Continuing S next) b w r e → Written (Continuing T next) b w r e
+  onward-as f u = record { text = u .text; told = record { begun = u .told .begun; told = f (u .text) (u .told .told) }; put = u .put }

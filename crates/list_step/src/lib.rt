@@ -1,0 +1,46 @@
+// A line of a list, done where its answer has room.
+ghost use mathlib.Core.Path.{_≡_};
+ghost use Rattle.base_text.specs.declared.Progress.the-variants.{Next};
+ghost use Rattle.list_parse.specs.Calls.{parseLine};
+ghost use Rattle.list_step.specs.Executed.{nothingYet, Executed};
+use list_results::Replay;
+use list_results::Stepped;
+use cabinet::Cabinet;
+use base_text::Progress;
+use list_parse::Command;
+
+// What a line says is done, but nothing where the answer has no room.
+pub fn execute(r: Replay, said: Command, b: &mut [u8], w: Progress) -> Stepped
+    ensures { λ s. ⌜ Executed said r (now (b .entry)) w (s .replay) (s .written) (now (b .exit)) ⌝ }
+{
+    let mut s = list_execute::done(r, said, b, w);
+    let x = s.written;
+    match x {
+        Progress::Next(_) => {}
+        Progress::Counting(_) => {}
+        Progress::TooShort => {
+            s.replay = r;
+        }
+    }
+    s
+}
+
+// Before the first cabinet.
+pub fn begin() -> Replay
+    ensures { λ r. ⌜ r ≡ nothingYet ⌝ }
+{
+    let a = Cabinet::fresh(0);
+    let cabinet = a.cabinet;
+    Replay {
+        cabinet,
+        begun: false,
+    }
+}
+
+// One line, its byte 10 left out: the answer goes to the front of the buffer, and nothing is done where it has no room there.
+pub fn step(r: Replay, line: &[u8], out: &mut [u8]) -> Stepped
+    ensures { λ s. ⌜ Executed (parseLine (now (line .entry))) r (now (out .entry)) (Next 0) (s .replay) (s .written) (now (out .exit)) ⌝ }
+{
+    let said = list_parse::says(line);
+    execute(r, said, out, Progress::Next(0))
+}

@@ -1,0 +1,15 @@
+-- `sheet_sessions::least`: the lesser of two numbers. Assumes nothing.
+use borrow.Author.Needs.{needs}
+use Rattle.sheet_sessions.proofs.least.Statement.{statement}
+use Rattle.sheet_sessions.proofs.least.Tie as tie
+
+-- src/lib.rt:9:1
+returns : tie.Need-returns
+returns c = search needs
+
+-- src/lib.rt:9:1
+returns-2 : tie.Need-returns-2
+returns-2 c = search needs
+
+pub least-spec : {M : Type 1} → statement M
+least-spec = tie.close (tie.spec returns returns-2)

@@ -1,0 +1,104 @@
+-- Document 01's samples B to H and its worked read-out, as lists of calls from a fresh cabinet.
+use Prim.Native.Nat.{ℕ}
+use mathlib.Core.Bool.{true}
+use mathlib.Core.List.{List, [], _∷_, _++_, map}
+use lib.Dec.{ltb}
+use Rattle.base_limits.specs.Document.{limits16}
+use Rattle.base_laws.specs.Below.{tabulate}
+use Rattle.sheet_digits.specs.Digits.{digit}
+use Rattle.theory_history.specs.Samples.{among}
+use Rattle.theory_protocol.specs.Model.{Model}
+use Rattle.theory_protocol.specs.Plan.{CardRow, fixed, Reply, accepted}
+use Rattle.theory_protocol.specs.Calls.{freshModel}
+use Rattle.theory_protocol.specs.Run.{Call, plain, openCall, voteCall, takeCall, storeCall, loseCall, fixCall, planOf, afterCall}
+use Rattle.theory_codec.specs.Sheets.{codec}
+use Rattle.theory_protocol.specs.Choices.{chosen}
+
+-- the cabinet after calls
+abbrev pub followed : Model → List Call → Model
+followed m [] = m
+followed m (c ∷ cs) = followed (afterCall codec limits16 m c (chosen limits16 m c)) cs
+
+-- what the last of some calls answers
+abbrev pub lastReply : Model → Call → List Call → Reply
+lastReply m c [] = planOf codec limits16 m c (chosen limits16 m c) .reply
+lastReply m c (d ∷ cs) = lastReply (afterCall codec limits16 m c (chosen limits16 m c)) d cs
+
+-- change k: opened, voted yes by every card that it touches, and taken by every one
+abbrev pub decidedBy : ℕ → (reads writes : List ℕ) → List Call
+decidedBy k reads writes = openCall (among reads) (among writes) ∷ map (λ c. plain (voteCall k c true)) (reads ++ writes)
+
+abbrev pub wholly : ℕ → (reads writes : List ℕ) → List Call
+wholly k reads writes = decidedBy k reads writes ++ map (λ c. plain (takeCall k c)) (reads ++ writes)
+
+-- "Changes 1 (writes 0), 2 (reads 0, writes 1), 3 (writes 0)"
+abbrev pub threeChanges : List Call
+threeChanges = wholly 1 [] (0 ∷ []) ++ wholly 2 (0 ∷ []) (1 ∷ []) ++ wholly 3 [] (0 ∷ [])
+
+-- a recovery: the number of cards, the calls before the loss, the cards lost, and what the fix answers: by card the stored number and the line, and the changes lost
+pub record Recovery : Type 0 where
+  pub cards : ℕ
+  pub calls : List Call
+  pub lostCards : List ℕ
+  pub rows : List CardRow
+  pub lost : List ℕ
+
+abbrev row : (card stored line : ℕ) → CardRow
+row c s l = record { card = c; stored = s; line = l }
+
+-- the reply to the fix
+abbrev pub fixReply : Recovery → Reply
+fixReply r = lastReply (followed (freshModel (λ c. ltb c (r .cards))) (r .calls)) (loseCall (among (r .lostCards))) (fixCall 16 768 ∷ [])
+
+abbrev pub recoveries : List Recovery
+recoveries =
+    -- B: A, stored 2, 0
+    record { cards = 2; calls = threeChanges ++ plain (storeCall 0 2) ∷ []; lostCards = 1 ∷ []; rows = row 0 2 1 ∷ row 1 0 0 ∷ []; lost = 2 ∷ 3 ∷ [] }
+    -- C: A, stored 1, 1
+    ∷ record { cards = 2; calls = threeChanges ++ plain (storeCall 0 1) ∷ plain (storeCall 1 1) ∷ []; lostCards = 0 ∷ []; rows = row 0 1 1 ∷ row 1 1 1 ∷ []; lost = 3 ∷ [] }
+    -- D: A, stored 0, 1
+    ∷ record { cards = 2; calls = threeChanges ++ plain (storeCall 1 1) ∷ []; lostCards = 0 ∷ []; rows = row 0 0 0 ∷ row 1 1 0 ∷ []; lost = 1 ∷ 2 ∷ 3 ∷ [] }
+    -- E: one change writes 0 and 1; only 0 took and stored
+    ∷ record { cards = 2; calls = decidedBy 1 [] (0 ∷ 1 ∷ []) ++ plain (takeCall 1 0) ∷ plain (storeCall 0 1) ∷ []; lostCards = 1 ∷ []; rows = row 0 1 0 ∷ row 1 0 0 ∷ []; lost = 1 ∷ [] }
+    -- F: three cards; 1 reads 1, writes 0; 2 reads 1, writes 2; stored 0, 0, 1
+    ∷ record {
+      cards = 3;
+      calls = wholly 1 (1 ∷ []) (0 ∷ []) ++ wholly 2 (1 ∷ []) (2 ∷ []) ++ plain (storeCall 2 1) ∷ [];
+      lostCards = 0 ∷ [];
+      rows = row 0 0 0 ∷ row 1 0 0 ∷ row 2 1 1 ∷ [];
+      lost = 1 ∷ [];
+    }
+    -- G: two cards; 1 writes 0; 2 reads 0 and 1; 3 writes 1; stored 0, 1
+    ∷ record {
+      cards = 2;
+      calls = wholly 1 [] (0 ∷ []) ++ wholly 2 (0 ∷ 1 ∷ []) [] ++ wholly 3 [] (1 ∷ []) ++ plain (storeCall 1 1) ∷ [];
+      lostCards = 0 ∷ [];
+      rows = row 0 0 0 ∷ row 1 1 0 ∷ [];
+      lost = 1 ∷ 3 ∷ [];
+    }
+    -- H: nothing decided, all lost
+    ∷ record { cards = 16; calls = []; lostCards = tabulate 16 (λ c. c); rows = tabulate 16 (λ c. row c 0 0); lost = [] }
+    ∷ []
+
+-- what a recovery says that its fix answers
+abbrev pub saidReply : Recovery → Reply
+saidReply r = accepted (fixed (r .rows) (r .lost))
+
+-- ---- the worked read-out: "Changes 1 (writes 0), 2 (reads 0, writes 1), 3 (writes 0) of two cards, stored 2 and 0."
+abbrev pub workedCalls : List Call
+workedCalls = threeChanges ++ plain (storeCall 0 2) ∷ []
+
+-- a line, by the values of its digits
+abbrev pub typedLine : List ℕ → List ℕ
+typedLine vs = map digit vs ++ 10 ∷ []
+
+abbrev pub workedBytes : List ℕ
+workedBytes =
+    -- 00000001 00 02 0000 0002 81C5
+    typedLine (0 ∷ 0 ∷ 0 ∷ 0 ∷ 0 ∷ 0 ∷ 0 ∷ 1 ∷ 0 ∷ 0 ∷ 0 ∷ 2 ∷ 0 ∷ 0 ∷ 0 ∷ 0 ∷ 0 ∷ 0 ∷ 0 ∷ 2 ∷ 8 ∷ 1 ∷ 12 ∷ 5 ∷ [])
+    -- 0001 00000001 0000 FFFF 561A
+    ++ typedLine (0 ∷ 0 ∷ 0 ∷ 1 ∷ 0 ∷ 0 ∷ 0 ∷ 0 ∷ 0 ∷ 0 ∷ 0 ∷ 1 ∷ 0 ∷ 0 ∷ 0 ∷ 0 ∷ 15 ∷ 15 ∷ 15 ∷ 15 ∷ 5 ∷ 6 ∷ 1 ∷ 10 ∷ [])
+    -- 0002 00000003 0001 0000 A2C6
+    ++ typedLine (0 ∷ 0 ∷ 0 ∷ 2 ∷ 0 ∷ 0 ∷ 0 ∷ 0 ∷ 0 ∷ 0 ∷ 0 ∷ 3 ∷ 0 ∷ 0 ∷ 0 ∷ 1 ∷ 0 ∷ 0 ∷ 0 ∷ 0 ∷ 10 ∷ 2 ∷ 12 ∷ 6 ∷ [])
+    -- 00000001 01 02 0000 0000 8AC4
+    ++ typedLine (0 ∷ 0 ∷ 0 ∷ 0 ∷ 0 ∷ 0 ∷ 0 ∷ 1 ∷ 0 ∷ 1 ∷ 0 ∷ 2 ∷ 0 ∷ 0 ∷ 0 ∷ 0 ∷ 0 ∷ 0 ∷ 0 ∷ 0 ∷ 8 ∷ 10 ∷ 12 ∷ 4 ∷ [])

@@ -1,0 +1,11 @@
+pub mod Model
+pub mod Valid
+pub mod Edit
+pub mod Plan
+pub mod Calls
+pub mod Journal
+pub mod Codec
+pub mod Run
+pub mod Demands
+pub mod Choices
+pub mod Room

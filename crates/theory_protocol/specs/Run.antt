@@ -1,0 +1,181 @@
+-- Lists of calls from a fresh cabinet, refused ones included, with every answer and the cabinet after each call.
+use Prim.Native.Nat.{ℕ, _<_}
+use mathlib.Core.Path.{_≡_}
+use mathlib.Core.Bool.{Bool, true}
+use mathlib.Core.List.{List, []}
+use Rattle.base_laws.specs.Below.{one-if, anyBelow, occurs}
+use Rattle.theory_history.specs.Change.{CardSet, Numbers}
+use Rattle.theory_protocol.specs.Model.{Limits, Model}
+use Rattle.theory_protocol.specs.Edit.{put}
+use Rattle.theory_protocol.specs.Plan.{CardRow, Answer, done, opened, safe, unsafe, fixed, written, Reply, accepted, refused, Check, Plan, afterPlan}
+use Rattle.theory_protocol.specs.Calls.{freshModel, barred, isLost, openChecks, openPlan, voteChecks, votePlan, takeChecks, takePlan, withdrawChecks, withdrawPlan, storeChecks, storePlan, trimChecks, trimPlan, safeChecks, safePlan, loseChecks, losePlan, fixChecks, fixPlan, rollChecks, rollPlan}
+use Rattle.theory_protocol.specs.Codec.{Codec, sheetChecks, sheetPlan, restartChecks, restartPlan}
+use Rattle.theory_protocol.specs.Journal.{Journal, Fixing, unfixed, fixing, emptyJournal, noteOpen, noteVote, noteStruck, noteStore, noteLose, noteFix, noteRoll, noteRestart}
+
+-- calls 2 to 7 and 10: numbers go in, nothing is lent, and nothing is left to the program
+pub data Plain : Type 0 where
+  voteCall : (change card : ℕ) (agrees : Bool) → Plain
+  takeCall : (change card : ℕ) → Plain
+  withdrawCall : (change : ℕ) → Plain
+  storeCall : (card state : ℕ) → Plain
+  trimCall : Plain
+  safeCall : (change : ℕ) → Plain
+  rollCall : (card : ℕ) → Plain
+
+-- calls 1 to 10 with the lengths of the lists lent, sheet writing with the buffer's, and restart
+pub data Call : Type 0 where
+  openCall : (reads writes : CardSet) → Call
+  plain : Plain → Call
+  loseCall : (cards : CardSet) → Call
+  fixCall : (cardPlaces lostPlaces : ℕ) → Call
+  sheetCall : (card places : ℕ) → Call
+  -- restart from the sheets of all cards as this cabinet writes them, joined
+  restartCall : Call
+
+-- what document 01 leaves to the program: the card named with 21, and the order of the lost changes
+pub record Choice : Type 0 where
+  pub named : ℕ
+  pub lost : List ℕ
+
+-- "one such card is named"; "Each is listed once; their order is open"
+abbrev pub Proper : Limits → Model → Call → Choice → Type 0
+Proper L m (openCall reads writes) x =
+    anyBelow (L .width) (barred L m reads writes) ≡ true → (x .named < L .width) × (barred L m reads writes (x .named) ≡ true)
+Proper L m (plain q) x = Unit {0}
+Proper L m (loseCall cards) x = Unit {0}
+Proper L m (fixCall a b) x = (k : ℕ) → occurs k (x .lost) ≡ one-if (isLost L m k)
+Proper L m (sheetCall c places) x = Unit {0}
+Proper L m restartCall x = Unit {0}
+
+-- the cabinet after a restart: the one restarted, or the old one where it is refused
+abbrev pub afterRestart : Reply → Model → Model → Model
+afterRestart (accepted a) new old = new
+afterRestart (refused r) new old = old
+
+-- the table of a call
+abbrev pub plainChecks : Limits → Model → Plain → List Check
+plainChecks L m (voteCall k c agrees) = voteChecks L m k c
+plainChecks L m (takeCall k c) = takeChecks L m k c
+plainChecks L m (withdrawCall k) = withdrawChecks L m k
+plainChecks L m (storeCall c s) = storeChecks L m c s
+plainChecks L m trimCall = trimChecks L m
+plainChecks L m (safeCall k) = safeChecks L m k
+plainChecks L m (rollCall c) = rollChecks L m c
+
+abbrev pub checksOf : Codec → Limits → Model → Call → Choice → List Check
+checksOf C L m (openCall reads writes) x = openChecks L m reads writes (x .named)
+checksOf C L m (plain q) x = plainChecks L m q
+checksOf C L m (loseCall cards) x = loseChecks L m cards
+checksOf C L m (fixCall a b) x = fixChecks L m a b (x .lost)
+checksOf C L m (sheetCall c places) x = sheetChecks C L m c places
+checksOf C L m restartCall x = restartChecks C L m
+
+-- the plan of a call
+abbrev pub plainPlan : Limits → Model → Plain → Plan
+plainPlan L m (voteCall k c agrees) = votePlan L m k c agrees
+plainPlan L m (takeCall k c) = takePlan L m k c
+plainPlan L m (withdrawCall k) = withdrawPlan L m k
+plainPlan L m (storeCall c s) = storePlan L m c s
+plainPlan L m trimCall = trimPlan L m
+plainPlan L m (safeCall k) = safePlan L m k
+plainPlan L m (rollCall c) = rollPlan L m c
+
+abbrev pub planOf : Codec → Limits → Model → Call → Choice → Plan
+planOf C L m (openCall reads writes) x = openPlan L m reads writes (x .named)
+planOf C L m (plain q) x = plainPlan L m q
+planOf C L m (loseCall cards) x = losePlan L m cards
+planOf C L m (fixCall a b) x = fixPlan L m a b (x .lost)
+planOf C L m (sheetCall c places) x = sheetPlan C L m c places
+planOf C L m restartCall x = restartPlan C L m
+
+-- the cabinet after a call
+abbrev pub afterCall : Codec → Limits → Model → Call → Choice → Model
+afterCall C L m (openCall reads writes) x = afterPlan L (planOf C L m (openCall reads writes) x) m
+afterCall C L m (plain q) x = afterPlan L (plainPlan L m q) m
+afterCall C L m (loseCall cards) x = afterPlan L (planOf C L m (loseCall cards) x) m
+afterCall C L m (fixCall a b) x = afterPlan L (planOf C L m (fixCall a b) x) m
+afterCall C L m (sheetCall c places) x = afterPlan L (planOf C L m (sheetCall c places) x) m
+afterCall C L m restartCall x = afterRestart (restartPlan C L m .reply) (C .restarted L (C .joined L m)) m
+
+-- the calls of a list with their replies, the last one outermost
+pub data Calls : Type 0 where
+  none : Calls
+  further : Calls → Call → Reply → Calls
+
+-- a list of calls from a fresh cabinet of the cards n, and the cabinet that it leads to. "Each call gets the cabinet that the last one returned".
+pub data Run (C : Codec) (L : Limits) (n : CardSet) : Calls → Model → Type 0 where
+  start : Run C L n none (freshModel n)
+  next : {cs : Calls} {m : Model} → Run C L n cs m → (call : Call) (x : Choice) → Proper L m call x
+      → Run C L n (further cs call (planOf C L m call x .reply)) (afterCall C L m call x)
+
+-- ---- the journal of a list
+-- the number that an opening answers
+abbrev pub numberIn : Answer → ℕ
+numberIn done = 0
+numberIn (opened k) = k
+numberIn safe = 0
+numberIn unsafe = 0
+numberIn (fixed rows lost) = 0
+numberIn (written bytes) = 0
+
+-- the card records that a fix answers
+abbrev pub rowsIn : Answer → List CardRow
+rowsIn done = []
+rowsIn (opened k) = []
+rowsIn safe = []
+rowsIn unsafe = []
+rowsIn (fixed rows lost) = rows
+rowsIn (written bytes) = []
+
+-- what the journal notes of an accepted call
+abbrev pub noteAccepted : Limits → CardSet → Journal → Call → Answer → Journal
+noteAccepted L n j (openCall reads writes) a = noteOpen j (numberIn a) reads writes
+noteAccepted L n j (plain (voteCall k c agrees)) a = noteVote L j k c agrees
+noteAccepted L n j (plain (takeCall k c)) a = j
+noteAccepted L n j (plain (withdrawCall k)) a = noteStruck j k
+noteAccepted L n j (plain (storeCall c s)) a = noteStore j c s
+noteAccepted L n j (plain trimCall) a = j
+noteAccepted L n j (plain (safeCall k)) a = j
+noteAccepted L n j (loseCall cards) a = noteLose j
+noteAccepted L n j (fixCall x y) a = noteFix j (rowsIn a)
+noteAccepted L n j (plain (rollCall c)) a = noteRoll L n j c
+noteAccepted L n j (sheetCall c places) a = j
+noteAccepted L n j restartCall a = noteRestart L j
+
+-- "Refused call .. : nothing."
+abbrev pub note : Limits → CardSet → Journal → Call → Reply → Journal
+note L n j call (accepted a) = noteAccepted L n j call a
+note L n j call (refused r) = j
+
+abbrev pub journal : Limits → CardSet → Calls → Journal
+journal L n none = emptyJournal
+journal L n (further cs call reply) = note L n (journal L n cs) call reply
+
+-- ---- cuts: "on a lost card its last accepted store or roll stands (0 if there was none)"
+-- the line noted, by card
+abbrev pub lineNoted : Fixing → Numbers
+lineNoted unfixed c = 0
+lineNoted (fixing line marked) c = line c
+
+abbrev pub keptAfter : Journal → Call → Numbers → Numbers
+keptAfter j (openCall reads writes) x = x
+keptAfter j (plain (voteCall k c agrees)) x = x
+keptAfter j (plain (takeCall k c)) x = x
+keptAfter j (plain (withdrawCall k)) x = x
+keptAfter j (plain (storeCall c s)) x = put x c s
+keptAfter j (plain trimCall) x = x
+keptAfter j (plain (safeCall k)) x = x
+keptAfter j (loseCall cards) x = x
+keptAfter j (fixCall a b) x = x
+keptAfter j (plain (rollCall c)) x = put x c (lineNoted (j .fix) c)
+keptAfter j (sheetCall c places) x = x
+keptAfter j restartCall x = x
+
+abbrev pub keptBy : Journal → Call → Reply → Numbers → Numbers
+keptBy j call (accepted a) x = keptAfter j call x
+keptBy j call (refused r) x = x
+
+-- by arguments and answers: each card's last accepted store or roll, and 0 if there was none
+abbrev pub lastKept : Limits → CardSet → Calls → Numbers
+lastKept L n none c = 0
+lastKept L n (further cs call reply) c = keptBy (journal L n cs) call reply (lastKept L n cs) c
