@@ -3,10 +3,10 @@
 # Run from any folder: sh bindings/stack.sh
 set -e
 cd "$(dirname "$0")/.."
-rt staticlib trace > /dev/null 2>&1
+rt staticlib list_run > /dev/null 2>&1
 rt check replay line > /dev/null 2>&1
 mkdir -p target/bindings
-cc -O2 -Wall -o target/bindings/stack bindings/stack.c -L target/staticlib -ltrace
+cc -O2 -Wall -o target/bindings/stack bindings/stack.c -L target/staticlib -llist_run
 
 least() { # NAME PROGRAM INPUT
     "$2" < "$3" > target/bindings/due

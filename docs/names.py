@@ -6,7 +6,7 @@
 A path below crates/ must be there; a name that follows a path in the same cell or sentence must stand in that file.
 In a chapter of the first page that has a line `Files: ..` a name of a table without a path must stand in one of those files.
 In a last column a crate's name is followed by edits of its must-fail folder. What is missing is printed, a line each, and so is
-a row of more than 430 characters."""
+a row of more than 470 characters."""
 import os
 import re
 import sys
@@ -85,7 +85,7 @@ for page in ("docs/PROMISES.md", "docs/DECISIONS.md"):
         elif line.startswith("Files: "):
             files = files_of(where, line)
         elif line.startswith("|") and page.endswith("PROMISES.md"):
-            if len(line) > 430:
+            if len(line) > 470:
                 say(where, f"a row of {len(line)} characters")
             cells = line.strip().strip("|").split(" | ")
             for c in cells[1:-1]:

@@ -125,7 +125,7 @@ fn looked(c: Cabinet, at: u32) -> u32 {
         ^ core.reached[i]
         ^ core.line[i]
         ^ core.ended[k];
-    let head = h.session ^ h.cards ^ h.count ^ phase_number(phase);
+    let head = h.session ^ h.cards ^ h.latest ^ phase_number(phase);
     frames ^ vectors ^ sets ^ numbers ^ o.number ^ head
 }
 

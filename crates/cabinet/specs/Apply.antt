@@ -1,4 +1,4 @@
--- What each edit does to the struct: every list of it, unused places included, whatever cabinet it is.
+-- What each edit does to the struct: every list of it, unused slots included, whatever cabinet it is.
 use Prim.Native.Nat.{ℕ}
 use mathlib.Core.Path.{_≡_}
 use mathlib.Core.Bool.{true}

@@ -47,7 +47,7 @@ pub struct Answer {
     pub reply: Reply,
 }
 
-// All state numbers 0, all entries none, every place free.
+// All state numbers 0, all entries none, every slot free.
 pub fn zeros(head: Head) -> Cabinet
     ensures { λ r. ⌜ r ≡ zeroCabinet head ⌝ }
 {
@@ -59,7 +59,7 @@ pub fn zeros(head: Head) -> Cabinet
     let places = [free; Limits::SLOTS];
     let entries = [0u32; Limits::ENTRIES];
     let changes = [0u32; Limits::FRAMES];
-    // written out: a core or a list that another function hands over would be copied once more
+    // written out: a core that `cabinet_layout::blank` hands over would be copied once more
     let core = Core {
         head: head,
         last: last,

@@ -49,12 +49,12 @@ pub fn put_vector(entries: &mut [u32; Limits::ENTRIES], card: u32, state: u32, v
 }
 
 // The change that made a state of a card; nothing with state 0, and nothing of a card above 15.
-pub fn put_change(changes: &mut [u32; Limits::FRAMES], card: u32, state: u32, maker: u32)
-    ensures { λ r. ⌜ now (changes .exit) ≡ cond (isMade card state) (set (now (changes .entry)) (ringPlace card state) maker) (now (changes .entry)) ⌝ }
+pub fn put_change(changes: &mut [u32; Limits::FRAMES], card: u32, state: u32, change: u32)
+    ensures { λ r. ⌜ now (changes .exit) ≡ cond (isMade card state) (set (now (changes .entry)) (ringPlace card state) change) (now (changes .entry)) ⌝ }
 {
     let place = place_of(card, state);
     let made = is_made(place, state);
     if made {
-        changes[place] = maker;
+        changes[place] = change;
     }
 }

@@ -75,7 +75,7 @@ abbrev pub numbersOf : (base stored held reached : ℕ) → StateNumbers
 numbersOf base stored held reached =
     record { base = λ c. base; stored = λ c. stored; held = λ c. held; reached = λ c. reached }
 
--- an open change as a place holds it
+-- an open change as a slot holds it
 abbrev pub openOf : Slot → OpenChange
 openOf p =
     record {
@@ -89,7 +89,7 @@ openOf p =
 abbrev pub emptySlot : Slot
 emptySlot = record { vector = []; number = 0; reads = 0; writes = 0; yes = 0; taken = 0 }
 
--- the open change in place p
+-- the open change in slot p
 abbrev pub openAt : List Slot → ℕ → OpenChange
 openAt l p = openOf (getD l p emptySlot)
 
@@ -104,7 +104,7 @@ listOf f = tabulate (limits16 .width) f
 abbrev pub vectorFor : history.Vector → Vector
 vectorFor v = record { entries = listOf v }
 
--- the place that holds an open change
+-- the slot that holds an open change
 abbrev pub slotFor : OpenChange → Slot
 slotFor o =
     record {
@@ -225,7 +225,7 @@ bare h =
       rolled = 0;
     }
 
--- "all state numbers 0, all entries none", every place free
+-- "all state numbers 0, all entries none", every slot free
 abbrev pub blankCore : Head → Core
 blankCore h =
     let none : List ℕ = replicate mostCards 0 in
@@ -268,7 +268,7 @@ abbrev pub trackedOf : (reached : List ℕ) (last pending : List Vector) → Tra
 trackedOf reached last pending =
     record { reached = at reached; last = vectorAt last; pending = vectorAt pending; frame = λ c x. noEntries }
 
--- the parts of a cabinet of n cards that a check of one card or one place looks at
+-- the parts of a cabinet of n cards that a check of one card or one slot looks at
 abbrev pub partOf : (n : ℕ) → model.Phase → StateNumbers → Memory → (line : ℕ) → Model
 partOf n phase numbers memory line =
     edit.withLine (edit.withNumbers (edit.withHead (freshModel (presentOf n)) 0 phase 0) numbers memory) (λ c. line) noCards

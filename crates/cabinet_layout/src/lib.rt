@@ -1,4 +1,4 @@
-// What the calls are said with: phase, head, slots, vectors and replies; a head, a free place and a core anew; reading a phase and a number by card.
+// What the calls are said with: phase, head, slots, vectors and replies; a head, a free slot and a core anew; reading a phase and a number by card.
 ghost use mathlib.Core.Path.{_≡_};
 ghost use Rattle.theory_protocol.specs.Model.{isUp, isDown, isRolling, freeSlot};
 ghost use Rattle.cabinet_layout.specs.Shape.{phaseOf, at, slotFor, headOf, inPhase, counted, blankCore};
@@ -60,7 +60,7 @@ pub struct Core {
     pub reached: [u32; Limits::CARDS],
     // while rolling: the line fixed
     pub line: [u32; Limits::CARDS],
-    // by place, the decided changes that a loss ended with a written share untaken
+    // by slot, the decided changes that a loss ended with a written share untaken
     pub ended: [u32; Limits::SLOTS],
     // while rolling: the cards already rolled
     pub rolled: u16,
@@ -104,7 +104,7 @@ pub fn counted(head: Head, k: u32) -> Head
     next
 }
 
-// A free place, all zero.
+// A free slot, all zero.
 pub fn free_slot() -> Slot
     ensures { λ r. ⌜ r ≡ slotFor freeSlot ⌝ }
 {
@@ -118,7 +118,7 @@ pub fn free_slot() -> Slot
     }
 }
 
-// All state numbers 0, all entries none, every place free.
+// All state numbers 0, all entries none, every slot free.
 pub fn blank(head: Head) -> Core
     ensures { λ r. ⌜ r ≡ blankCore head ⌝ }
 {

@@ -35,7 +35,7 @@ bars-none o reads writes n =
     no-members
     ∙ ap {B = CardSet} (λ (b : Bool) (c : ℕ). b && (member (o .reads) c || member (o .writes) c) && not (member (o .taken) c) && (member writes c || (member reads c && member (o .writes) c))) (sym op)
 
--- one place more
+-- one slot more
 pub bars-more : (f : ℕ → CardSet) (p out more sum : ℕ) → member out ≡ (λ c. anyBelow p (λ q. f q c)) → member more ≡ f p → member sum ≡ either (member out) (member more) → member sum ≡ (λ c. anyBelow (p + 1) (λ q. f q c))
 bars-more f p out more sum eo em es =
     es ∙ ap₂ either eo em ∙ ap {B = CardSet} (λ (n : ℕ) (c : ℕ). anyBelow n (λ q. f q c)) (sym (add-one p))

@@ -1,4 +1,4 @@
-// 1. open: its verdict, and the change that it puts into a place.
+// 1. open: its verdict, and the change that it puts into a slot.
 ghost use Prim.Native.Nat.{_+_};
 ghost use mathlib.Core.Path.{_≡_};
 ghost use lib.Dec.{leb};
@@ -114,7 +114,7 @@ pub fn open_verdict(
     )
 }
 
-// The change that an opening puts into its place.
+// The change that an opening puts into its slot.
 pub fn opened(k: u32, reads: u16, writes: u16) -> Slot
     ensures { λ r. ⌜ r ≡ slotFor (openedChange k (member reads) (member writes)) ⌝ }
 {

@@ -71,7 +71,7 @@ pub fn no_slots() -> [Slot; Limits::SLOTS]
     [free; Limits::SLOTS]
 }
 
-// By place, the number that a change is remembered by when a loss ends it.
+// By slot, the number that a change is remembered by when a loss ends it.
 pub fn ended_numbers(slots: [Slot; Limits::SLOTS]) -> [u32; Limits::SLOTS]
     ensures { λ r. ⌜ r ≡ tabulate (limits16 .slots) (λ p. remembered limits16 (openAt slots p)) ⌝ }
 {

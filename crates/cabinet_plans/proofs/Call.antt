@@ -65,7 +65,7 @@ module _ (b₁ : Bool) (r₁ : Refusal) (b₂ : Bool) (r₂ : Refusal) (cs : Lis
   pub two-pass : firstFailing cs ≡ Done
   two-pass = passes b₂ r₂ cs (passes b₁ r₁ (b₂ ⇒ r₂ ∷ cs) e .after) .after
 
--- a change that is known stands in one of the places, and is open there
+-- a change that is known stands in one of the slots, and is open there
 pub record Found (m : Model) (k : ℕ) : Type 0 where
   pub slot : slotOf limits16 m k < 8
   pub open-there : isOpen (m .slot (slotOf limits16 m k)) ≡ true

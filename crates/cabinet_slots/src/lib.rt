@@ -13,7 +13,7 @@ ghost use Rattle.cabinet_layout.specs.Shape.{limits16, openOf, openAt, slotFor}
 use base_limits::Limits;
 use cabinet_layout::Slot;
 
-// The change in place p; a free place where there is no place p.
+// The change in slot p; a free slot where there is no slot p.
 pub fn slot_at(slots: [Slot; Limits::SLOTS], p: usize) -> Slot
     ensures { λ r. ⌜ openOf r ≡ openAt slots p ⌝ }
 {
@@ -24,7 +24,7 @@ pub fn slot_at(slots: [Slot; Limits::SLOTS], p: usize) -> Slot
     }
 }
 
-// The first place whose open change has that number, and 8 where there is none.
+// The first slot whose open change has that number, and 8 where there is none.
 pub fn slot_of(slots: [Slot; Limits::SLOTS], k: u32) -> usize
     ensures { λ r. ⌜ r ≡ firstBelow (limits16 .slots) (λ p. isOpen (openAt slots p) && eqb (openAt slots p .change .number) k) ⌝ }
 {
@@ -39,7 +39,7 @@ pub fn slot_of(slots: [Slot; Limits::SLOTS], k: u32) -> usize
     p
 }
 
-// The first free place, and 8 where there is none.
+// The first free slot, and 8 where there is none.
 pub fn free_at(slots: [Slot; Limits::SLOTS]) -> usize
     ensures { λ r. ⌜ r ≡ firstBelow (limits16 .slots) (λ p. not (isOpen (openAt slots p))) ⌝ }
 {
@@ -89,7 +89,7 @@ pub fn awaits_write(o: Slot) -> bool
     !none
 }
 
-// The number that a place is remembered by when a loss ends it.
+// The number that a slot is remembered by when a loss ends it.
 pub fn remembered_number(o: Slot) -> u32
     ensures { λ r. ⌜ r ≡ remembered limits16 (openOf o) ⌝ }
 {

@@ -136,7 +136,7 @@ openValid o base reached h =
     && allBelow (limits16 .width) (λ c. not (toWrite (openOf o) c) || roomToWrite limits16 (numbersOf (at base c) 0 0 (at reached c)) 0)
     && entriesValid limits16 (presentOf (h .cards)) (at (o .vector))
 
--- a free place is valid
+-- a free slot is valid
 pub slot-free : (o : Slot) (base reached : List ℕ) (h : Head) → o .number ≡ 0
     → true ≡ slotValid limits16 (numbersModel h base [] [] reached) (openOf o)
 slot-free o base reached h z =

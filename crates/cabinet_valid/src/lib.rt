@@ -240,7 +240,7 @@ fn writes_fit(o: Slot, base: [u32; Limits::CARDS], reached: [u32; Limits::CARDS]
     ok
 }
 
-// An open change "that touches an absent card or has yet to write a card at base + 48 or 60,000", or whose vector is outside the limits, is not. A free place is.
+// An open change "that touches an absent card or has yet to write a card at base + 48 or 60,000", or whose vector is outside the limits, is not. A free slot is.
 pub fn slot_valid(
     o: Slot,
     base: [u32; Limits::CARDS],

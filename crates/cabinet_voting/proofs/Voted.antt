@@ -74,7 +74,7 @@ opens whole m reads writes n e =
     let k : m .latest < limits16 .greatestNumber = leb-false (limits16 .greatestNumber) (m .latest) (test last (λ t. clash (or-right top t) tops) (λ f. f)) in
     record { slot = omega (arith, slots8); count = omega (arith, greatestNumber32) }
 
--- what is left where the change of one place is written anew
+-- what is left where the change of one slot is written anew
 pub place-next : (s : Core) (p p′ : ℕ) (q : Slot) (o : ℕ → OpenChange) → p ≡ p′ → q ≡ slotFor (o p)
     → withSlots s (set (s .slots) p q) (s .ended) ≡ appliedAll (edit.place p′ (o p′) ∷ []) s
 place-next s p p′ q o ep eq =

@@ -35,8 +35,8 @@ zeros n i = replicated n 0 0 (λ x. x) 0 refl refl i
 vectors : vectorAt (replicate 16 (record { entries = replicate 16 0 })) ≡ (λ c. noEntries)
 vectors = λ i c. replicated 16 (record { entries = replicate 16 0 }) (record { entries = [] }) (λ (v : Vector). at (v .entries)) noEntries (λ j k. zeros 16 k j) refl c i
 
-places : openAt (replicate 8 (slotFor freeSlot)) ≡ (λ p. freeSlot)
-places = λ i p. replicated 8 (slotFor freeSlot) emptySlot openOf freeSlot (open-back freeSlot free-fits) no-slot p i
+slots : openAt (replicate 8 (slotFor freeSlot)) ≡ (λ p. freeSlot)
+slots = λ i p. replicated 8 (slotFor freeSlot) emptySlot openOf freeSlot (open-back freeSlot free-fits) no-slot p i
 
 either-none : {A : Type 0} (b : Bool) (x z : A) → x ≡ z → cond b x z ≡ z
 either-none true x z e = e
@@ -55,9 +55,9 @@ fresh-view n =
     (edit.withNumbers (freshModel (λ c. ltb c n))
     (record { base = λ c. zeros 16 c i; stored = λ c. zeros 16 c i; held = λ c. zeros 16 c i; reached = λ c. zeros 16 c i })
     (record { last = vectors i; pending = vectors i; change = changes (replicate 16 0) (replicate 16 0) i; frame = frames (replicate 16 0) (replicate 16 0) i }))
-    (places i) (λ p. zeros 8 p i))
+    (slots i) (λ p. zeros 8 p i))
     (λ c. zeros 16 c i) (no-members i)
 
 pub fresh-shows : (n : ℕ) → Shows (freshModel (λ c. ltb c n)) (zeroCabinet (freshHead n))
 fresh-shows n =
-    record { same = fresh-view n; sized = zero-sized (freshHead n); narrow = record { places = λ p. free-fits; last = λ c k h. refl; pending = λ c k h. refl } }
+    record { same = fresh-view n; sized = zero-sized (freshHead n); narrow = record { slots = λ p. free-fits; last = λ c k h. refl; pending = λ c k h. refl } }

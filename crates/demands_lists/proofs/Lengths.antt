@@ -44,7 +44,7 @@ zero-sized h =
       core = record {
         last = length-replicate 16 none;
         pending = length-replicate 16 none;
-        places = length-replicate 8 free;
+        slots = length-replicate 8 free;
         base = length-replicate {A = ℕ} 16 0;
         stored = length-replicate {A = ℕ} 16 0;
         held = length-replicate {A = ℕ} 16 0;
@@ -64,23 +64,23 @@ zero-sized h =
 -- ---- each group of fields, set to lists of their lengths
 module _ (s : Core) (z : SizedCore s) where
   head-sized : (h : Head) → SizedCore (withHead s h)
-  head-sized h = record { last = z .last; pending = z .pending; places = z .slots; base = z .base; stored = z .stored; held = z .held; reached = z .reached; line = z .line; ended = z .ended; rolled = z .rolled }
+  head-sized h = record { last = z .last; pending = z .pending; slots = z .slots; base = z .base; stored = z .stored; held = z .held; reached = z .reached; line = z .line; ended = z .ended; rolled = z .rolled }
 
   vectors-sized : (last pending : List Vector) → length last ≡ 16 → length pending ≡ 16 → SizedCore (withVectors s last pending)
-  vectors-sized last pending el ep = record { last = el; pending = ep; places = z .slots; base = z .base; stored = z .stored; held = z .held; reached = z .reached; line = z .line; ended = z .ended; rolled = z .rolled }
+  vectors-sized last pending el ep = record { last = el; pending = ep; slots = z .slots; base = z .base; stored = z .stored; held = z .held; reached = z .reached; line = z .line; ended = z .ended; rolled = z .rolled }
 
-  places-sized : (places : List Slot) (ended : List ℕ) → length places ≡ 8 → length ended ≡ 8 → SizedCore (withSlots s places ended)
-  places-sized places ended ep ee = record { last = z .last; pending = z .pending; places = ep; base = z .base; stored = z .stored; held = z .held; reached = z .reached; line = z .line; ended = ee; rolled = z .rolled }
+  slots-sized : (slots : List Slot) (ended : List ℕ) → length slots ≡ 8 → length ended ≡ 8 → SizedCore (withSlots s slots ended)
+  slots-sized slots ended ep ee = record { last = z .last; pending = z .pending; slots = ep; base = z .base; stored = z .stored; held = z .held; reached = z .reached; line = z .line; ended = ee; rolled = z .rolled }
 
   numbers-sized : (base stored kept reached : List ℕ) → length base ≡ 16 → length stored ≡ 16 → length kept ≡ 16 → length reached ≡ 16 → SizedCore (withNumbers s base stored kept reached)
-  numbers-sized base stored kept reached eb es eh er = record { last = z .last; pending = z .pending; places = z .slots; base = eb; stored = es; held = eh; reached = er; line = z .line; ended = z .ended; rolled = z .rolled }
+  numbers-sized base stored kept reached eb es eh er = record { last = z .last; pending = z .pending; slots = z .slots; base = eb; stored = es; held = eh; reached = er; line = z .line; ended = z .ended; rolled = z .rolled }
 
   line-sized : (line : List ℕ) (rolled : ℕ) → length line ≡ 16 → rolled < 65536 → SizedCore (withLine s line rolled)
-  line-sized line rolled el er = record { last = z .last; pending = z .pending; places = z .slots; base = z .base; stored = z .stored; held = z .held; reached = z .reached; line = el; ended = z .ended; rolled = er }
+  line-sized line rolled el er = record { last = z .last; pending = z .pending; slots = z .slots; base = z .base; stored = z .stored; held = z .held; reached = z .reached; line = el; ended = z .ended; rolled = er }
 
 -- what an edit leaves of a core
 core-sized : (e : Edit) (s : Core) → SizedCore s → SizedCore (applied e s)
-core-sized (edit.place p o) s z = places-sized s z _ _ (length-set (s .slots) p _ ∙ z .slots) (z .ended)
+core-sized (edit.place p o) s z = slots-sized s z _ _ (length-set (s .slots) p _ ∙ z .slots) (z .ended)
 core-sized (edit.latest k) s z = head-sized s z _
 core-sized (edit.grow c k v) s z =
     vectors-sized _ (numbers-sized s z _ _ _ _ (z .base) (z .stored) (length-set (s .held) _ _ ∙ z .held) (length-set (s .reached) _ _ ∙ z .reached)) _ _ (length-set (s .last) _ _ ∙ z .last) (length-set (s .pending) _ _ ∙ z .pending)
@@ -88,8 +88,8 @@ core-sized (edit.raise c v) s z = vectors-sized s z _ _ (z .last) (length-set (s
 core-sized (edit.keep c x) s z = numbers-sized s z _ _ _ _ (z .base) (length-set (s .stored) _ _ ∙ z .stored) (z .held) (z .reached)
 core-sized (edit.rebase bases) s z = numbers-sized s z _ _ _ _ (by-card bases) (z .stored) (z .held) (z .reached)
 core-sized (edit.fall cards) s z = numbers-sized s z _ _ _ _ (z .base) (z .stored) (by-card _) (z .reached)
-core-sized edit.halt s z = head-sized _ (places-sized s z _ _ (by-slot _) (by-slot _)) _
-core-sized (edit.fix line) s z = head-sized _ (line-sized _ (places-sized s z _ _ (z .slots) (by-slot _)) _ _ (by-card line) (set-small _)) _
+core-sized edit.halt s z = head-sized _ (slots-sized s z _ _ (by-slot _) (by-slot _)) _
+core-sized (edit.fix line) s z = head-sized _ (line-sized _ (slots-sized s z _ _ (z .slots) (by-slot _)) _ _ (by-card line) (set-small _)) _
 core-sized (edit.lower c) s z =
     line-sized _ (numbers-sized s z _ _ _ _ (length-set (s .base) _ _ ∙ z .base) (length-set (s .stored) _ _ ∙ z .stored) (length-set (s .held) _ _ ∙ z .held) (length-set (s .reached) _ _ ∙ z .reached)) _ _ (z .line) (set-small _)
 core-sized edit.renew s z = head-sized _ (line-sized _ (vectors-sized s z _ _ (by-card _) (by-card _)) _ _ (z .line) (set-small _)) _

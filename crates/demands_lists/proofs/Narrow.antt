@@ -19,7 +19,7 @@ abbrev pub Short : Vector → Type 0
 Short v = (k : ℕ) → 16 ≤ k → v k ≡ 0
 
 pub record Narrow (m : Model) : Type 0 where
-  pub places : (p : ℕ) → Fits (m .slot p)
+  pub slots : (p : ℕ) → Fits (m .slot p)
   pub last : (c : ℕ) → Short (m .memory .last c)
   pub pending : (c : ℕ) → Short (m .memory .pending c)
 
@@ -48,18 +48,18 @@ none-short : (c : ℕ) → Short (λ k. 0)
 none-short c k h = refl
 
 pub edit-narrow : (e : Edit) (m : Model) → Narrow m → Brings e → Narrow (edited limits16 e m)
-edit-narrow (edit.place p o) m w b = record { places = put-each Fits (m .slot) p o (w .slots) b; last = w .last; pending = w .pending }
-edit-narrow (edit.latest k) m w b = record { places = w .slots; last = w .last; pending = w .pending }
-edit-narrow (edit.grow c k v) m w b = record { places = w .slots; last = put-each Short (m .memory .last) c v (w .last) b; pending = put-each Short (m .memory .pending) c v (w .pending) b }
+edit-narrow (edit.place p o) m w b = record { slots = put-each Fits (m .slot) p o (w .slots) b; last = w .last; pending = w .pending }
+edit-narrow (edit.latest k) m w b = record { slots = w .slots; last = w .last; pending = w .pending }
+edit-narrow (edit.grow c k v) m w b = record { slots = w .slots; last = put-each Short (m .memory .last) c v (w .last) b; pending = put-each Short (m .memory .pending) c v (w .pending) b }
 edit-narrow (edit.raise c v) m w b =
-    record { places = w .slots; last = w .last; pending = put-each Short (m .memory .pending) c (joined (m .memory .pending c) v) (w .pending) (joined-short (m .memory .pending c) v (w .pending c) b) }
-edit-narrow (edit.keep c x) m w b = record { places = w .slots; last = w .last; pending = w .pending }
-edit-narrow (edit.rebase bases) m w b = record { places = w .slots; last = w .last; pending = w .pending }
-edit-narrow (edit.fall cards) m w b = record { places = w .slots; last = w .last; pending = w .pending }
-edit-narrow edit.halt m w b = record { places = λ p. free-fits; last = w .last; pending = w .pending }
-edit-narrow (edit.fix line) m w b = record { places = w .slots; last = w .last; pending = w .pending }
-edit-narrow (edit.lower c) m w b = record { places = w .slots; last = w .last; pending = w .pending }
-edit-narrow edit.renew m w b = record { places = w .slots; last = none-short; pending = none-short }
+    record { slots = w .slots; last = w .last; pending = put-each Short (m .memory .pending) c (joined (m .memory .pending c) v) (w .pending) (joined-short (m .memory .pending c) v (w .pending c) b) }
+edit-narrow (edit.keep c x) m w b = record { slots = w .slots; last = w .last; pending = w .pending }
+edit-narrow (edit.rebase bases) m w b = record { slots = w .slots; last = w .last; pending = w .pending }
+edit-narrow (edit.fall cards) m w b = record { slots = w .slots; last = w .last; pending = w .pending }
+edit-narrow edit.halt m w b = record { slots = λ p. free-fits; last = w .last; pending = w .pending }
+edit-narrow (edit.fix line) m w b = record { slots = w .slots; last = w .last; pending = w .pending }
+edit-narrow (edit.lower c) m w b = record { slots = w .slots; last = w .last; pending = w .pending }
+edit-narrow edit.renew m w b = record { slots = w .slots; last = none-short; pending = none-short }
 
 -- a set of 16 cards with one of them put in
 pub with-narrow : (s : CardSet) (c : ℕ) → c < 16 → ((k : ℕ) → 16 ≤ k → s k ≡ false) → (k : ℕ) → 16 ≤ k → withCard s c k ≡ false

@@ -88,7 +88,7 @@ sheet-fits : (s : Cabinet) (c places : ℕ) → EditsFit s (sheetPlan codec limi
 sheet-fits s c places = checked-case (λ (p : Plan). EditsFit s (p .edits)) (sheetChecks codec limits16 (view s) c places) _ _ (λ r. tt) (λ ps. tt)
 
 restarted-narrow : (r : Readout) → Narrow (ringModel r)
-restarted-narrow r = record { places = λ p. free-fits; last = short; pending = short }
+restarted-narrow r = record { slots = λ p. free-fits; last = short; pending = short }
   where
     short : (c k : ℕ) → 16 ≤ k → vectorIn r c (storedIn r c) k ≡ 0
     short c k h = outside (isIn r c (storedIn r c)) (ltb k (limits16 .width)) (le-ltb k (limits16 .width) (omega (arith, h, width16)))
@@ -105,7 +105,7 @@ restarted-sized r z =
       core = record {
         last = by-card _;
         pending = by-card _;
-        places = by-slot _;
+        slots = by-slot _;
         base = by-card _;
         stored = by-card _;
         held = by-card _;

@@ -73,7 +73,7 @@ lent restart = nothingLent
 pub record SizedCore (s : Core) : Type 0 where
   pub last : length (s .last) ≡ mostCards
   pub pending : length (s .pending) ≡ mostCards
-  pub places : length (s .slots) ≡ 8
+  pub slots : length (s .slots) ≡ 8
   pub base : length (s .base) ≡ mostCards
   pub stored : length (s .stored) ≡ mostCards
   pub held : length (s .held) ≡ mostCards

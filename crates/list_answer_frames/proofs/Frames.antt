@@ -18,6 +18,8 @@ use Rattle.theory_protocol.specs.Valid.{valid}
 use Rattle.base_refusal.specs.declared.Refusal.the-variants.{NoSuchCard, BadCabinet}
 use Rattle.sheet_lines.specs.declared.Frame.{Frame}
 use Rattle.sheet_pages.specs.Ring as frames
+use Rattle.sheet_page_writer.specs.Write.{heldFrame}
+use Rattle.sheet_lines.specs.Lines.{noFrame}
 use Rattle.cabinet_layout.specs.declared.Core.{Core}
 use Rattle.cabinet_layout.specs.Shape.{limits16, at, presentOf, inHand, changeInHand, frameInHand, ringPlace, ringChange, ringFrame, truncate, modelOf}
 use Rattle.cabinet_layout.proofs.Limits.{width16}
@@ -50,10 +52,10 @@ frame-as x k es =
     append-assoc (decimal x ++ spaced (k ∷ [])) (entriesText es) (10 ∷ []) ∙ append-assoc (decimal x) (spaced (k ∷ [])) (entriesText es ++ (10 ∷ []))
 
 -- a frame that is the ring's
-pub ring-as : (changes entries : List ℕ) (cards c x y : ℕ) (f : Frame) → f ≡ frames.ringFrame changes entries 16 c x → x ≡ y
+pub ring-as : (changes entries : List ℕ) (cards c x y : ℕ) (f : Frame) → c < 16 → f ≡ heldFrame changes entries c x → x ≡ y
     → frameText x (f .change) (selected (limits16 .width) (presentOf cards) (at (f .entries))) ≡ ringText changes entries cards c y
-ring-as changes entries cards c x y f e z =
-    ap (λ (g : Frame). frameText x (g .change) (selected (limits16 .width) (presentOf cards) (at (g .entries)))) e ∙ ap (ringText changes entries cards c) z
+ring-as changes entries cards c x y f h e z =
+    ap (λ (g : Frame). frameText x (g .change) (selected (limits16 .width) (presentOf cards) (at (g .entries)))) (e ∙ cond-true (frames.ringFrame changes entries 16 c x) noFrame (lt-ltb c 16 h)) ∙ ap (ringText changes entries cards c) z
 
 -- ---- the ring has the frames in hand
 

@@ -250,7 +250,7 @@ module _ (L : Limits) (n : CardSet) (m : Model) (j : Journal) (v : Invariant L n
     stored-reached c l = le-trans (r .ranges .stored-held c l) (r .ranges .held-reached c l)
 
     module _ (i : ℕ) (h : i < decisions j) (e : H j i .number ≡ k) where
-      -- a card that it has yet to write: its place is there
+      -- a card that it has yet to write: its slot is there
       left-there : (c : ℕ) → c < L .width → H j i .writes c ≡ true → r .took i c ≡ false → writesLeft L m k ≡ true
       left-there c l wr nt =
           let s : StandsFor L (m .slot) (r .at) i = b .open-untaken is-up i c h l (writes-touches (H j i) c wr) nt in

@@ -1,4 +1,4 @@
--- The open changes of a cabinet against the history: what is known of each place, and how one place is written anew. Assumes nothing.
+-- The open changes of a cabinet against the history: what is known of each slot, and how one slot is written anew. Assumes nothing.
 use Prim.Native.Nat.{ℕ, _+_, _≤_, _<_}
 use mathlib.Core.Path.{_≡_, sym, _∙_}
 use mathlib.Core.Bool.{true, false}
@@ -45,7 +45,7 @@ pub record Standing (L : Limits) (H : History) (start : Numbers) (n : ℕ) (took
   pub stood : (p : ℕ) → p < L .slots → isOpen (place p) ≡ true → decided L (place p) ≡ true → Stood (L .width) H start n took (place p) (at p)
   pub waits : (p : ℕ) → p < L .slots → isOpen (place p) ≡ true → decided L (place p) ≡ false → Waits (L .width) H n took (place p)
 
--- ---- place p anew
+-- ---- slot p anew
 module _ (L : Limits) (place : ℕ → OpenChange) (p : ℕ) (o : OpenChange) where
   pub standing-put : {H : History} {start : Numbers} {n : ℕ} {took : Took} {at : ℕ → ℕ} (i : ℕ)
       → ((q : ℕ) → q < L .slots → ¬ (q ≡ p) → isOpen (place q) ≡ true → decided L (place q) ≡ true → Stood (L .width) H start n took (place q) (at q))

@@ -17,7 +17,7 @@ pub record Numbered (w : ℕ) (H : History) (n latest : ℕ) : Type 0 where
   pub distinct : (i k : ℕ) → i < k → k < n → ¬ (H i .number ≡ H k .number)
   pub rising : (i k c : ℕ) → i < k → k < n → c < w → meets (H i) (H k) c ≡ true → H i .number < H k .number
 
--- an open place that stands for position i
+-- an open slot that stands for position i
 pub record StandsFor (L : Limits) (place : ℕ → OpenChange) (at : ℕ → ℕ) (i : ℕ) : Type 0 where
   pub p : ℕ
   pub is-slot : p < L .slots
@@ -25,7 +25,7 @@ pub record StandsFor (L : Limits) (place : ℕ → OpenChange) (at : ℕ → ℕ
   pub is-decided : decided L (place p) ≡ true
   pub is-at : at p ≡ i
 
--- a place of the ended changes that remembers number k
+-- a slot of the ended changes that remembers number k
 pub record Remembers (L : Limits) (ended : ℕ → ℕ) (k : ℕ) : Type 0 where
   pub p : ℕ
   pub is-slot : p < L .slots

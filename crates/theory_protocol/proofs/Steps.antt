@@ -55,7 +55,7 @@ in-cabinet L m s e c l z =
 pub card-below : (L : Limits) (m : Model) (c : ℕ) → isCard L m c ≡ true → c < L .width
 card-below L m c e = ltb-true c (L .width) (and-left (ltb c (L .width)) (m .present c) e)
 
--- the place of a change that is known
+-- the slot of a change that is known
 pub known-slot : (L : Limits) (m : Model) (k : ℕ) → isKnown L m k ≡ true → (slotOf L m k < L .slots) × (isOpen (m .slot (slotOf L m k)) ≡ true) × (m .slot (slotOf L m k) .change .number ≡ k)
 known-slot L m k e =
     let l : slotOf L m k < L .slots = ltb-true (slotOf L m k) (L .slots) e in

@@ -27,7 +27,7 @@ use Rattle.theory_protocol.proofs.Openings.{not-down}
 module _ (L : Limits) (m : Model) (j : Journal) (r : Running L m j) (p c : ℕ) (is-up : isUp (m .phase) ≡ true)
     (is-slot : p < L .slots) (is-card : c < L .width) (is-open : isOpen (m .slot p) ≡ true) (is-decided : decided L (m .slot p) ≡ true)
     (is-touched : touches (m .slot p .change) c ≡ true) (is-untaken : m .slot p .taken c ≡ false) where
-  -- the place after the share is taken
+  -- the slot after the share is taken
   abbrev share-taken : OpenChange
   share-taken = withTaken (m .slot p) (withCard (m .slot p .taken) c)
 
@@ -57,7 +57,7 @@ module _ (L : Limits) (m : Model) (j : Journal) (r : Running L m j) (p c : ℕ) 
     touched : touches (H i) c ≡ true
     touched = ap (λ (t : Change). touches t c) (st .change-is) ∙ is-touched
 
-    -- another decided place stands elsewhere
+    -- another decided slot stands elsewhere
     elsewhere : (q : ℕ) → q < L .slots → ¬ (q ≡ p) → isOpen (m .slot q) ≡ true → decided L (m .slot q) ≡ true → ¬ (r .at q ≡ i)
     elsewhere q l z oq dq e =
         r .slots-open .apart q p l is-slot z oq is-open
@@ -101,7 +101,7 @@ module _ (L : Limits) (m : Model) (j : Journal) (r : Running L m j) (p c : ℕ) 
         standing-put L (m .slot) p after i stood-others waits-others stood-after
         (λ e d. clash is-decided (sym (ap (decided L) (after-open e)) ∙ d))
 
-    -- what is untaken afterwards was untaken before, and its place is still there
+    -- what is untaken afterwards was untaken before, and its slot is still there
     untaken-after : (k d : ℕ) → k < n → d < L .width → touches (H k) d ≡ true → alsoTook (r .took) i c k d ≡ false → StandsFor L (put (m .slot) p after) (put (r .at) p i) k
     untaken-after k d h ld e z = by-cases (ℕ-discrete (s .p) p) same another
       where

@@ -1,4 +1,4 @@
--- What is written to the place of an undecided change keeps the invariant: nothing (withdraw, a no), one more yes, or the decision. Assumes nothing.
+-- What is written to the slot of an undecided change keeps the invariant: nothing (withdraw, a no), one more yes, or the decision. Assumes nothing.
 use Prim.Native.Nat.{ℕ, suc, _+_, _≤_, _<_}
 use mathlib.Core.Path.{_≡_, refl, sym, _∙_, ap, ap₂}
 use mathlib.Core.Bool.{Bool, true, false, not, _&&_}
@@ -26,7 +26,7 @@ use Rattle.theory_protocol.proofs.Openings.{not-down}
 
 module _ (L : Limits) (m : Model) (j : Journal) (r : Running L m j) (p : ℕ) (is-up : isUp (m .phase) ≡ true)
     (is-slot : p < L .slots) (is-open : isOpen (m .slot p) ≡ true) (undecided-yet : decided L (m .slot p) ≡ false) where
-  -- a place that stands for a decided change is another
+  -- a slot that stands for a decided change is another
   other : {i : ℕ} (s : StandsFor L (m .slot) (r .at) i) → ¬ (s .p ≡ p)
   other s q = clash (rw q at (s .is-decided)) undecided-yet
 

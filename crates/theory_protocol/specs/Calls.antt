@@ -49,7 +49,7 @@ barred L m reads writes c = anyBelow (L .slots) (λ p. bars (m .slot p) reads wr
 abbrev pub someWritten : Limits → CardSet → (ℕ → Bool) → Bool
 someWritten L writes test = anyBelow (L .width) (λ c. writes c && test c)
 
--- the change that an opening puts into its place
+-- the change that an opening puts into its slot
 abbrev pub openedChange : ℕ → CardSet → CardSet → OpenChange
 openedChange k reads writes =
     record { change = record { number = k; reads = reads; writes = writes }; yes = noCards; taken = noCards; vector = noEntries }

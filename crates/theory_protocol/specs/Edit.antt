@@ -8,7 +8,7 @@ use Rattle.theory_history.specs.Vector.{Vector, noEntries, joined}
 use Rattle.theory_protocol.specs.Model.{Limits, Phase, up, down, rolling, StateNumbers, Memory, OpenChange, Model, noCards, freeSlot, withCard, isOpen, decided, awaitsWrite}
 
 pub data Edit : Type 0 where
-  -- the change in place p becomes o
+  -- the change in slot p becomes o
   place : (p : ℕ) (o : OpenChange) → Edit
   -- the last change number given is k
   latest : (k : ℕ) → Edit
@@ -99,7 +99,7 @@ withLine m line rolled =
       rolled = rolled;
     }
 
--- the number that a place is remembered by when a loss ends it: of a decided change with a written share untaken its own, otherwise 0
+-- the number that a slot is remembered by when a loss ends it: of a decided change with a written share untaken its own, otherwise 0
 abbrev pub remembered : Limits → OpenChange → ℕ
 remembered L o = cond (isOpen o && decided L o && awaitsWrite L o) (o .change .number) 0
 

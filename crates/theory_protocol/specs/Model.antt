@@ -1,4 +1,4 @@
--- A cabinet with no layout: what document 01 says of it, by card, by state and by place. Every representation has a view into this model.
+-- A cabinet with no layout: what document 01 says of it, by card, by state and by slot. Every representation has a view into this model.
 use Prim.Native.Nat.{ℕ}
 use mathlib.Core.Bool.{Bool, true, false, not, _&&_, _||_}
 use lib.Dec.{eqb, ltb}
@@ -40,7 +40,7 @@ pub record Memory : Type 0 where
   pub change : ℕ → ℕ → ℕ
   pub frame : ℕ → ℕ → Vector
 
--- An open change: who voted yes, who has taken its share, and the vector worked out at the decision. Number 0 is a free place, of which nothing else is looked at.
+-- An open change: who voted yes, who has taken its share, and the vector worked out at the decision. Number 0 is a free slot, of which nothing else is looked at.
 pub record OpenChange : Type 0 where
   pub change : Change
   pub yes : CardSet
@@ -57,7 +57,7 @@ pub record Model : Type 0 where
   pub numbers : StateNumbers
   pub memory : Memory
   pub slot : ℕ → OpenChange
-  -- by place, the decided changes that a loss ended with a written share untaken: the lost list needs them
+  -- by slot, the decided changes that a loss ended with a written share untaken: the lost list needs them
   pub ended : ℕ → ℕ
   -- while rolling: the line fixed, and the cards already rolled
   pub line : Numbers
@@ -121,11 +121,11 @@ toWrite o c = o .change .writes c && not (o .taken c)
 abbrev pub awaitsWrite : Limits → OpenChange → Bool
 awaitsWrite L o = anyBelow (L .width) (toWrite o)
 
--- the first place whose change has that number, and the number of places where there is none
+-- the first slot whose change has that number, and the number of slots where there is none
 abbrev pub slotOf : Limits → Model → ℕ → ℕ
 slotOf L m k = firstBelow (L .slots) (λ p. isOpen (m .slot p) && eqb (m .slot p .change .number) k)
 
--- the first free place, and the number of places where there is none
+-- the first free slot, and the number of slots where there is none
 abbrev pub freeAt : Limits → Model → ℕ
 freeAt L m = firstBelow (L .slots) (λ p. not (isOpen (m .slot p)))
 

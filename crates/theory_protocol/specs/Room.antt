@@ -11,7 +11,7 @@ use Rattle.theory_protocol.specs.Valid.{valid}
 use Rattle.theory_protocol.specs.Plan.{refused}
 use Rattle.theory_protocol.specs.Calls.{isLost, fixPlan}
 
--- one for each frame that the cards can hold, and one for each place of a change that a loss ended: 16 * 48 + 8 = 776
+-- one for each frame that the cards can hold, and one for each slot of a change that a loss ended: 16 * 48 + 8 = 776
 abbrev pub mostLost : Limits → ℕ
 mostLost L = L .width * L .inHand + L .slots
 

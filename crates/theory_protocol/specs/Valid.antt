@@ -62,7 +62,7 @@ slotValid L m o =
     || (not (strays L m (touches (o .change))) && allBelow (L .width) (λ c. not (toWrite o c) || roomToWrite L (m .numbers) c)
     && entriesValid L (m .present) (o .vector))
 
--- a cabinet that is not refused with 28 ("more than eight open changes": a model has its places)
+-- a cabinet that is not refused with 28 ("more than eight open changes": a model has its slots)
 abbrev pub valid : Limits → Model → Bool
 valid L m =
     sessionValid L m && cardsValid L m && allBelow (L .width) (cardValid L m) && allBelow (L .slots) (λ p. slotValid L m (m .slot p))

@@ -34,7 +34,7 @@ card c = facts c .card
 in-slots : (c : tie.After-slot-of) → c .slot-of .result < 8
 in-slots c = let h : _ = facts (c .before) .slot in omega (arith, c .slot-of .ensures)
 
--- the place of the change
+-- the slot of the change
 place : (c : tie.After-slot-of) → Slot
 place c = getD (c .before .before .before .before .before .before .args .t2 .slots) (c .slot-of .result) emptySlot
 

@@ -46,7 +46,7 @@ loop-again c =
     let k : ℕ = c .before .before .before .before .before .before .loop .k in
     let z : a .base + 1 + k ≡ suc (a .base + k) = omega arith in (
       put-as (joined-next (λ (i : ℕ). ringText (a .changes .now) (a .entries .now) (a .cards) (a .card) (suc (a .base + i))) k)
-          (put-then {t = joined (tabulate k (λ (i : ℕ). ringText (a .changes .now) (a .entries .now) (a .cards) (a .card) (suc (a .base + i))))} (c .before .before .before .before .before .before .loop .inv .0) (put-as (ring-as (a .changes .now) (a .entries .now) (a .cards) (a .card) (a .base + 1 + k) (suc (a .base + k)) _ (c .before .before .before .before .frame-of .ensures) z) (c .before .before .put-frame .ensures))),
+          (put-then {t = joined (tabulate k (λ (i : ℕ). ringText (a .changes .now) (a .entries .now) (a .cards) (a .card) (suc (a .base + i))))} (c .before .before .before .before .before .before .loop .inv .0) (put-as (ring-as (a .changes .now) (a .entries .now) (a .cards) (a .card) (a .base + 1 + k) (suc (a .base + k)) _ (c .before .before .before .before .before .before .before .before .pre .0) (c .before .before .before .before .frame-of .ensures) z) (c .before .before .put-frame .ensures))),
       search needs,
     )
 
