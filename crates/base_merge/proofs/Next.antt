@@ -1,5 +1,5 @@
 -- The least of numbers of which 0 is none, and the least above another that passes one test or another. Assumes nothing.
-use Prim.Native.Nat.{ℕ, zero, suc, _+_, _-_, _≤_, _<_, zero-le}
+use Prim.Native.Nat.{ℕ, zero, suc, _+_, _≤_, _<_, zero-le}
 use mathlib.Core.Path.{_≡_, refl, sym, _∙_, ap, ap₂, subst}
 use mathlib.Core.Bool.{Bool, false, _||_, cond}
 use mathlib.Core.Logic.{by-cases}

@@ -1,12 +1,13 @@
 -- One merge over the cards' frames: the least change number ahead, and the cards brought past it.
--- Frames stand in a ring, state x of card c at place c * mostInHand + x % mostInHand. Of each card `passed` is the last state met and `end` its last state.
-use Prim.Native.Nat.{ℕ, zero, suc, _+_, _*_, _-_, _%_, _≤_, _<_}
+-- Of each card `passed` is the last state met and `end` its last state.
+use Prim.Native.Nat.{ℕ, zero, suc, _+_, _-_, _≤_, _<_}
 use mathlib.Core.Path.{_≡_}
 use mathlib.Core.Bool.{Bool, true, false, _&&_, cond}
 use mathlib.Core.List.{List}
 use lib.Dec.{eqb, ltb}
 use lib.ListN.{getD}
-use Rattle.base_limits.specs.Document.{mostCards, mostInHand}
+use Rattle.base_limits.specs.Document.{mostCards}
+use Rattle.base_limits.specs.Ring.{ringPlace}
 use Rattle.base_laws.specs.Below.{anyBelow, tabulate}
 
 -- the number that a list holds for card c
@@ -15,7 +16,7 @@ at l c = getD l c 0
 
 -- the change that made state x of card c
 abbrev pub changeAt : List ℕ → ℕ → ℕ → ℕ
-changeAt changes c x = getD changes (c * mostInHand + x % mostInHand) 0
+changeAt changes c x = getD changes (ringPlace c x) 0
 
 -- the lesser of two numbers of which 0 is none
 abbrev pub lesser : ℕ → ℕ → ℕ

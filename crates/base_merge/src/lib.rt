@@ -1,5 +1,5 @@
 // One merge over the cards' frames, whose change numbers rise with the states: it meets each number once, rising.
-ghost use Prim.Native.Nat.{ℕ, _<_};
+ghost use Prim.Native.Nat.{_<_};
 ghost use mathlib.Core.Path.{_≡_};
 ghost use Rattle.base_merge.specs.Merge.{lesser, changeAt, headNumber, headNumbers, leastOf, cardPast, allPast};
 use base_limits::Limits;

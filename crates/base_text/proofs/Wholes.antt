@@ -1,8 +1,8 @@
 -- Laws of texts that are written whole or not at all. Assumes nothing.
 use Prim.Native.Nat.{ℕ, _+_, _-_, _≤_, _<_}
 use mathlib.Core.Path.{_≡_, refl, sym, _∙_, ap, ap₂, subst}
-use mathlib.Core.Bool.{Bool, true, false, cond}
-use mathlib.Core.List.{List, [], _∷_, _++_}
+use mathlib.Core.Bool.{Bool, cond}
+use mathlib.Core.List.{List}
 use native.Mathlib.Omega.{arith}
 use lib.Dec.{leb}
 use lib.ListN.{length}
@@ -12,7 +12,7 @@ use Rattle.base_laws.proofs.Logic.{test}
 use Rattle.base_text.specs.declared.Progress.{Progress}
 use Rattle.base_text.specs.declared.Progress.the-variants.{Next, Counting, TooShort}
 use Rattle.base_text.specs.Put.{greatest, countedOn, placeAfter, bufferAfter, Put, wholeAfter, Whole, fittingOf}
-use Rattle.base_text.proofs.Puts.{place-fits, place-beyond, buffer-fits, count-fits, count-beyond}
+use Rattle.base_text.proofs.Puts.{place-beyond, buffer-fits, count-fits, count-beyond}
 
 -- ---- a text that has room, and one that has none
 

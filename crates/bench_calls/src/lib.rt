@@ -1,15 +1,15 @@
 // What bench/run.sh measures, exported to Rust: each call once, on a cabinet that was forged for it, and parts by themselves.
 // A cabinet has so many cards, and on each so many states in hand, each made by a change of its own.
-use cabinet::Cabinet;
-use sheet_lines::Header;
 use base_limits::Limits;
-use cabinet_records::CardRecord;
-use cabinet_recovery::FixReply;
+use base_refusal::Reply;
+use cabinet::Cabinet;
 use cabinet_layout::OpenReply;
 use cabinet_layout::Phase;
-use cabinet_layout::Slot;
-use base_refusal::Reply;
 use cabinet_layout::SafeReply;
+use cabinet_layout::Slot;
+use cabinet_records::CardRecord;
+use cabinet_recovery::FixReply;
+use sheet_lines::Header;
 use sheet_page_writer::Written;
 
 // The number where the state is there, and 0 where it is not.
@@ -144,7 +144,13 @@ fn done(r: Reply) -> u32 {
 // Nothing but the making of the cabinet.
 #[no_mangle]
 pub extern "C" fn bench_nothing(cards: u32, states: u32, reads: bool, at: u32) -> u32 {
-    let c = forged(cards, states, states, cabinet_layout::free_slot(), Phase::Up);
+    let c = forged(
+        cards,
+        states,
+        states,
+        cabinet_layout::free_slot(),
+        Phase::Up,
+    );
     let e = looked(c, at);
     seen(e, 0)
 }
@@ -160,7 +166,13 @@ pub extern "C" fn bench_fresh(cards: u32, at: u32) -> u32 {
 
 #[no_mangle]
 pub extern "C" fn bench_open(cards: u32, states: u32, reads: bool, at: u32) -> u32 {
-    let c = forged(cards, states, states, cabinet_layout::free_slot(), Phase::Up);
+    let c = forged(
+        cards,
+        states,
+        states,
+        cabinet_layout::free_slot(),
+        Phase::Up,
+    );
     let o = change(0, cards, reads, 0);
     let a = c.open(o.reads, o.writes);
     let r = a.reply;
@@ -237,7 +249,13 @@ pub extern "C" fn bench_store(cards: u32, states: u32, reads: bool, at: u32) -> 
 // Every state is stored, so that each line is climbed to the end.
 #[no_mangle]
 pub extern "C" fn bench_trim(cards: u32, states: u32, reads: bool, at: u32) -> u32 {
-    let c = forged(cards, states, states, cabinet_layout::free_slot(), Phase::Up);
+    let c = forged(
+        cards,
+        states,
+        states,
+        cabinet_layout::free_slot(),
+        Phase::Up,
+    );
     let a = c.trim();
     let r = a.reply;
     let c = a.cabinet;
@@ -248,7 +266,13 @@ pub extern "C" fn bench_trim(cards: u32, states: u32, reads: bool, at: u32) -> u
 // Of that change; there is none in an empty cabinet.
 #[no_mangle]
 pub extern "C" fn bench_safe(cards: u32, states: u32, change: u32, at: u32) -> u32 {
-    let c = forged(cards, states, states, cabinet_layout::free_slot(), Phase::Up);
+    let c = forged(
+        cards,
+        states,
+        states,
+        cabinet_layout::free_slot(),
+        Phase::Up,
+    );
     let a = c.safe(change);
     let r = a.reply;
     let c = a.cabinet;
@@ -288,7 +312,13 @@ pub extern "C" fn bench_fix(
     at: u32,
     list: &mut [u32],
 ) -> u32 {
-    let c = forged(cards, states, stored, cabinet_layout::free_slot(), Phase::Down);
+    let c = forged(
+        cards,
+        states,
+        stored,
+        cabinet_layout::free_slot(),
+        Phase::Down,
+    );
     let zero = CardRecord {
         card: 0,
         stored: 0,
@@ -326,7 +356,13 @@ pub extern "C" fn bench_roll(cards: u32, states: u32, reads: bool, at: u32) -> u
 // The sheet of card 0.
 #[no_mangle]
 pub extern "C" fn bench_sheet(cards: u32, states: u32, at: u32, buffer: &mut [u8]) -> u32 {
-    let c = forged(cards, states, states, cabinet_layout::free_slot(), Phase::Up);
+    let c = forged(
+        cards,
+        states,
+        states,
+        cabinet_layout::free_slot(),
+        Phase::Up,
+    );
     let a = c.sheet(card(at), buffer);
     let r = a.reply;
     let c = a.cabinet;

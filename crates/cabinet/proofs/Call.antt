@@ -5,6 +5,7 @@ use mathlib.Core.Bool.{Bool, true, false, not, cond}
 use mathlib.Core.List.{List, [], _∷_}
 use lib.ListN.{length, set}
 use lib.Seq.{sets}
+use Rattle.base_limits.specs.Ring.{ringPlace}
 use Rattle.theory_protocol.specs.Valid.{valid}
 use Rattle.theory_protocol.specs.Edit.{Edit, fix}
 use Rattle.theory_protocol.specs.Calls.{lines, cardRows, fixChecks}
@@ -12,9 +13,8 @@ use Rattle.theory_protocol.specs.Plan.{Answer, fixed, Check, _⇒_, Plan, check
 use Rattle.theory_protocol.specs.Plan as plan
 use Rattle.cabinet_layout.specs.declared.Core.{Core}
 use Rattle.base_refusal.specs.declared.Reply.{Reply}
-use Rattle.base_refusal.specs.declared.Reply.the-variants.{Done, Refused}
-use Rattle.cabinet_layout.specs.Answers.{replyOf, firstFailing, after28}
-use Rattle.cabinet_layout.specs.Shape.{limits16, at, listOf, ringPlace, withNumbers}
+use Rattle.cabinet_layout.specs.Answers.{after28}
+use Rattle.cabinet_layout.specs.Shape.{limits16, at, listOf}
 use Rattle.cabinet_layout.specs.Applied.{appliedAll, entriesAll, changesAll, CoreCarried}
 use Rattle.theory_history.specs.Change.{CardSet}
 use Rattle.cabinet_plans.specs.Plans.{judged, isMade, takeOn, TakeCarriedOn}

@@ -10,6 +10,7 @@ use lib.Dec.{eqb, leb, ltb}
 use lib.ListN.{length, getD, set, length-set}
 use lib.Seq.{sets, getD-set-same, getD-set-other}
 use borrow.Author.Tests.{eq-eqb, ne-eqb, lt-ltb, le-ltb, le-leb, ltb-true, leb-true}
+use Rattle.base_limits.specs.Ring.{ringPlace}
 use Rattle.base_laws.proofs.Logic.{test, and-left, and-right, and-intro, same-test}
 use Rattle.base_laws.proofs.Fill.{length-tabulate}
 use Rattle.theory_history.specs.Vector.{noEntries}
@@ -17,7 +18,7 @@ use Rattle.theory_history.specs.Vector as history
 use Rattle.theory_protocol.specs.Edit.{put, edited}
 use Rattle.theory_protocol.specs.Edit as edit
 use Rattle.cabinet_layout.specs.declared.Vector.{Vector}
-use Rattle.cabinet_layout.specs.Shape.{limits16, at, vectorAt, ringPlace, ringChange, ringFrame, truncate, inHand, changeInHand, frameInHand, vectorFor, listOf}
+use Rattle.cabinet_layout.specs.Shape.{limits16, at, vectorAt, ringChange, ringFrame, truncate, inHand, changeInHand, frameInHand, vectorFor, listOf}
 use Rattle.cabinet_layout.proofs.Limits.{width16}
 use Rattle.cabinet_layout.proofs.Held.{at-list, at-list-all}
 use Rattle.cabinet.specs.declared.Cabinet.{Cabinet}

@@ -11,11 +11,11 @@ ghost use Rattle.cabinet_changes.specs.Standing.{standing};
 use base_limits::Limits;
 use base_refusal::Refusal;
 use base_refusal::Reply;
-use cabinet_replies::is_card;
-use cabinet_replies::next;
 use cabinet_layout::Head;
 use cabinet_layout::Slot;
 use cabinet_layout::Vector;
+use cabinet_replies::is_card;
+use cabinet_replies::next;
 
 // 2. vote
 pub fn vote_verdict(valid: bool, head: Head, all: [Slot; Limits::SLOTS], k: u32, card: u32) -> Reply

@@ -2,10 +2,10 @@
 ghost use mathlib.Core.Path.{_≡_};
 ghost use Rattle.cabinet_fixing.specs.Fixed.{numbersOf, CoreFixed};
 use base_limits::Limits;
-use cabinet_records::CardNumbers;
-use cabinet_recovery::FixReply;
 use cabinet_layout::Core;
 use cabinet_layout::Phase;
+use cabinet_records::CardNumbers;
+use cabinet_recovery::FixReply;
 
 // What fix hands back: an accepted one answers the stored numbers and the line of the core.
 pub struct FixedCore {

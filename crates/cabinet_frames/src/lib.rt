@@ -1,11 +1,12 @@
 // The frame that a take makes, at its place in the ring.
-ghost use Prim.Native.Nat.{ℕ, _+_, _*_, _≤_};
+ghost use Prim.Native.Nat.{_+_, _*_, _≤_};
 ghost use mathlib.Core.Path.{_≡_};
 ghost use mathlib.Core.Bool.{not, _&&_, cond};
 ghost use lib.Dec.{eqb, ltb};
 ghost use lib.ListN.{set};
 ghost use lib.Seq.{sets};
-ghost use Rattle.cabinet_layout.specs.Shape.{at, ringPlace, listOf};
+ghost use Rattle.base_limits.specs.Ring.{ringPlace};
+ghost use Rattle.cabinet_layout.specs.Shape.{at, listOf};
 ghost use Rattle.cabinet_plans.specs.Plans.{isMade};
 use base_limits::Limits;
 use cabinet_layout::Vector;

@@ -2,7 +2,7 @@
 use Prim.Native.Nat.{ℕ, zero, suc, _+_, _*_, _-_, _≤_, _<_, zero-le}
 use mathlib.Core.Path.{_≡_, refl, sym, _∙_, ap}
 use mathlib.Core.Bool.{true}
-use mathlib.Core.List.{List, [], _∷_, _++_, append-assoc, map}
+use mathlib.Core.List.{List, [], _∷_, _++_}
 use native.Mathlib.Omega.{arith}
 use lib.ListN.{length, replicate, length-append, length-map, length-replicate}
 use borrow.Author.Tests.{lt-ltb, le-ltb}
@@ -18,7 +18,6 @@ use Rattle.sheet_lines.specs.Format.{format, entryOf, formats}
 use Rattle.sheet_lines.specs.Lines.{startOf, headerLine, frameWidths, frameNumbers, frameLine}
 use Rattle.sheet_line_writer.proofs.Puts.{header-line-length}
 use Rattle.sheet_pages.specs.Pages.{framesBytes, pageBytes}
-use Rattle.theory_protocol.specs.Model.{Model}
 use Rattle.theory_protocol.specs.Valid.{valid}
 use Rattle.theory_codec.specs.Sheets.{cardCount, sheetFrame, sheetOf}
 use Rattle.cabinet_layout.specs.Shape.{limits16, at, presentOf}

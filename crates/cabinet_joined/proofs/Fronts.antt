@@ -1,7 +1,7 @@
 -- Sheets written one after the other are the sheets joined. Assumes nothing.
-use Prim.Native.Nat.{ℕ, suc, _+_, _*_, _-_, _≤_, _<_}
-use mathlib.Core.Path.{_≡_, refl, sym, _∙_, ap, ap₂, subst}
-use mathlib.Core.Bool.{Bool, true, false, not, cond}
+use Prim.Native.Nat.{ℕ, _+_, _*_, _-_, _≤_, _<_}
+use mathlib.Core.Path.{_≡_, refl, sym, _∙_, ap, ap₂}
+use mathlib.Core.Bool.{Bool, true, not, cond}
 use mathlib.Core.List.{List, [], _∷_, _++_, append-assoc, append-nil}
 use native.Mathlib.Numerals.{add-one}
 use native.Mathlib.Omega.{arith}
@@ -15,17 +15,17 @@ use Rattle.base_laws.proofs.Logic.{and-intro}
 use Rattle.base_refusal.specs.declared.Refusal.the-variants.{NoSuchCard, TooShort, BadCabinet}
 use Rattle.sheet_lines.specs.Format.{formats}
 use Rattle.sheet_pages.specs.Pages.{Page, pageBytes, pagesBytes}
-use Rattle.theory_protocol.specs.Model.{Model, isCard}
-use Rattle.theory_protocol.specs.Plan.{Reply, accepted, written, Check, _⇒_, Plan, checked}
+use Rattle.theory_protocol.specs.Model.{isCard}
+use Rattle.theory_protocol.specs.Plan.{accepted, written, _⇒_, checked}
 use Rattle.theory_protocol.specs.Valid.{valid}
 use Rattle.theory_protocol.specs.Codec.{sheetPlan}
-use Rattle.theory_codec.specs.Sheets.{sheetOf, sheets, joinedSheets, codec}
+use Rattle.theory_codec.specs.Sheets.{sheetOf, joinedSheets, codec}
 use Rattle.theory_codec.proofs.Written.{sheets-are}
 use Rattle.cabinet_layout.specs.Shape.{limits16, presentOf}
 use Rattle.cabinet_layout.proofs.Limits.{width16}
 use Rattle.sheet_page_writer.specs.declared.Written.{Written}
 use Rattle.sheet_page_writer.specs.declared.Written.the-variants.{Length, Refused}
-use Rattle.cabinet_sheet.specs.Card.{sheetReplyOf, lengthTold, bufferAfter, SheetResult}
+use Rattle.cabinet_sheet.specs.Card.{sheetReplyOf, lengthTold}
 use Rattle.cabinet.specs.declared.Cabinet.{Cabinet}
 use Rattle.cabinet.specs.View.{view}
 use Rattle.cabinet.specs.Writing.{SheetCarried}

@@ -11,11 +11,11 @@ ghost use Rattle.cabinet_layout.specs.Answers.{replyOf};
 ghost use Rattle.cabinet_sheet.specs.Card.{lengthTold};
 ghost use Rattle.cabinet.specs.View.{view};
 ghost use Rattle.cabinet_joined.specs.Joined.{goingOn, FromOwnSheets};
-use cabinet::Answer;
-use cabinet::Cabinet;
 use base_limits::Limits;
 use base_refusal::Refusal;
 use base_refusal::Reply;
+use cabinet::Answer;
+use cabinet::Cabinet;
 use sheet_page_writer::Written;
 
 // How long the sheet is that was written; 0 with a refusal.

@@ -5,6 +5,7 @@ use mathlib.Core.Bool.{cond}
 use mathlib.Core.List.{List, [], _∷_}
 use lib.ListN.{set}
 use lib.Seq.{sets}
+use Rattle.base_limits.specs.Ring.{ringPlace}
 use Rattle.base_limits.specs.Document.{mostCards}
 use Rattle.base_laws.specs.Below.{tabulate}
 use Rattle.base_bits.specs.Member.{member}
@@ -17,7 +18,7 @@ use Rattle.theory_protocol.specs.Plan.{Plan, Reply}
 use Rattle.cabinet_layout.specs.declared.Phase.the-variants.{Up, Down, Rolling}
 use Rattle.cabinet_layout.specs.declared.Head.{Head}
 use Rattle.cabinet_layout.specs.declared.Core.{Core}
-use Rattle.cabinet_layout.specs.Shape.{limits16, at, vectorAt, ringPlace, openAt, setOf, listOf, vectorFor, slotFor, headOf, inPhase, counted, withHead, withVectors, withSlots, withNumbers, withLine}
+use Rattle.cabinet_layout.specs.Shape.{limits16, at, vectorAt, openAt, setOf, listOf, vectorFor, slotFor, headOf, inPhase, counted, withHead, withVectors, withSlots, withNumbers, withLine}
 
 -- the head of the next session
 abbrev pub nextHead : Head → Head

@@ -1,10 +1,11 @@
 -- How a cabinet of 16 cards is held in lists of numbers, and what each list says in the model.
-use Prim.Native.Nat.{ℕ, _+_, _*_, _%_}
+use Prim.Native.Nat.{ℕ, _+_, _*_}
 use mathlib.Core.Bool.{Bool, _&&_, cond}
 use mathlib.Core.List.{List, []}
 use lib.Dec.{leb, ltb}
 use lib.ListN.{getD, replicate}
-use Rattle.base_limits.specs.Document.{mostCards, mostInHand, mostOpen}
+use Rattle.base_limits.specs.Ring.{ringPlace}
+use Rattle.base_limits.specs.Document.{mostCards, mostOpen}
 use Rattle.base_laws.specs.Below.{tabulate}
 unfoldable pub use Rattle.base_limits.specs.Document.{limits16}
 use Rattle.base_bits.specs.Member.{member, number}
@@ -39,10 +40,6 @@ presentOf n c = ltb c n
 -- the vector that a list of vectors holds for card c
 abbrev pub vectorAt : List Vector → ℕ → history.Vector
 vectorAt l c = at (getD l c (record { entries = [] }) .entries)
-
--- Frames stand in a ring: state x of card c has the place c * 48 + x % 48, and its entries begin at 16 times that place.
-abbrev pub ringPlace : ℕ → ℕ → ℕ
-ringPlace c x = c * mostInHand + x % mostInHand
 
 -- what stands at the ring's places, whether or not the state is in hand
 abbrev pub ringChange : List ℕ → ℕ → ℕ → ℕ

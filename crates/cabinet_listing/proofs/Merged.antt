@@ -1,6 +1,6 @@
 -- One turn of the merge that lists the changes lost. What it met is right where the numbers rise; that it ends, and keeps
 -- the length of the list, asks nothing of them. Assumes nothing.
-use Prim.Native.Nat.{ℕ, _+_, _-_, _≤_, _<_, zero-le}
+use Prim.Native.Nat.{ℕ, _+_, _≤_, _<_, zero-le}
 use mathlib.Core.Path.{_≡_, refl, sym, _∙_, ap, subst}
 use mathlib.Core.Bool.{Bool}
 use mathlib.Core.List.{List}

@@ -1,5 +1,5 @@
 // The changes lost: one merge over the cards' frames above the line and the changes that a loss ended.
-ghost use Prim.Native.Nat.{ℕ, _<_};
+ghost use Prim.Native.Nat.{_<_};
 ghost use mathlib.Core.Path.{_≡_};
 ghost use mathlib.Core.Bool.{cond};
 ghost use lib.ListN.{set};

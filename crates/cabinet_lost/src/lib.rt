@@ -1,5 +1,4 @@
 // The core of fix, over numbers and lent arrays: the line of each card, and the changes lost.
-ghost use Prim.Native.Nat.{ℕ};
 ghost use mathlib.Core.Path.{_≡_};
 ghost use mathlib.Core.Bool.{not, _||_};
 ghost use mathlib.Core.List.{[]};
@@ -11,15 +10,15 @@ ghost use Rattle.cabinet_layout.specs.Shape.{limits16, listOf, presentOf, headM
 ghost use Rattle.cabinet_layout.specs.Answers.{firstFailing, after28};
 ghost use Rattle.cabinet_recovery.specs.Fix.{butLast, FixWorked};
 use base_limits::Limits;
-use cabinet_listing::list_lost;
-use cabinet_recovery::FixReply;
-use cabinet_recovery::Outcome;
 use base_refusal::Refusal;
 use base_refusal::Reply;
-use cabinet_replies::next;
 use cabinet_layout::Core;
 use cabinet_layout::Head;
 use cabinet_layout::is_down;
+use cabinet_listing::list_lost;
+use cabinet_recovery::FixReply;
+use cabinet_recovery::Outcome;
+use cabinet_replies::next;
 
 // The checks before the last: 28, 20, 24.
 fn fix_verdict(valid: bool, head: Head) -> Reply

@@ -10,9 +10,9 @@ ghost use Rattle.cabinet_opening.specs.Opening.{OpenVerdict};
 use base_limits::Limits;
 use base_refusal::Refusal;
 use base_refusal::Reply;
-use cabinet_replies::next;
 use cabinet_layout::Head;
 use cabinet_layout::Slot;
+use cabinet_replies::next;
 
 // The cards that an open change bars for an opening.
 fn bar_set(o: Slot, reads: u16, writes: u16) -> u16

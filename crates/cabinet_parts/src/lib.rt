@@ -1,5 +1,5 @@
 // What the calls write into a cabinet's lists, what an opening answers, and how a cabinet begins.
-ghost use Prim.Native.Nat.{ℕ, _<_};
+ghost use Prim.Native.Nat.{_<_};
 ghost use mathlib.Core.Path.{_≡_};
 ghost use mathlib.Core.Bool.{not, cond};
 ghost use Rattle.base_laws.specs.Below.{tabulate};

@@ -3,8 +3,8 @@ use Prim.Native.Nat.{ℕ, _+_, _≤_, _<_}
 use mathlib.Core.Path.{_≡_, refl, sym, _∙_}
 use mathlib.Core.Bool.{Bool, true, false, not, _&&_, _||_}
 use native.Mathlib.Omega.{arith}
-use lib.Dec.{eqb, leb, ltb}
-use borrow.Author.Tests.{ltb-true, leb-true, eq-eqb, ltb-false}
+use lib.Dec.{eqb, ltb}
+use borrow.Author.Tests.{ltb-true, eq-eqb, ltb-false}
 use Rattle.base_laws.specs.Below.{allBelow, anyBelow}
 use Rattle.base_laws.proofs.Logic.{test, clash, and-left, and-right, and-intro, or-right, not-true, not-intro}
 use Rattle.base_laws.proofs.Below.{all-at, any-intro}

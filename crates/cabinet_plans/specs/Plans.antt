@@ -6,6 +6,7 @@ use mathlib.Core.List.{List, [], _∷_}
 use lib.Dec.{eqb, ltb}
 use lib.ListN.{set}
 use lib.Seq.{sets}
+use Rattle.base_limits.specs.Ring.{ringPlace}
 use Rattle.base_limits.specs.Document.{mostCards, mostFrames}
 use Rattle.base_laws.specs.Below.{anyBelow, firstBelow}
 use Rattle.base_bits.specs.Member.{member}
@@ -17,7 +18,7 @@ use Rattle.theory_protocol.specs.Plan.{Answer, done, opened, Check, Plan, Reply
 use Rattle.theory_protocol.specs.Calls.{takeChecks, shareEdit, tookShare, storeChecks, loseChecks, rollChecks, allRolled, voteChecks, voted, withdrawChecks, openChecks, openedChange, barred}
 use Rattle.cabinet_layout.specs.Answers.{after28}
 use Rattle.cabinet_layout.specs.declared.Core.{Core}
-use Rattle.cabinet_layout.specs.Shape.{limits16, at, listOf, ringPlace, modelOf}
+use Rattle.cabinet_layout.specs.Shape.{limits16, at, listOf, modelOf}
 use Rattle.cabinet_layout.specs.Applied.{entriesAll, changesAll, CoreCarried}
 
 -- with some frames the core passes 28

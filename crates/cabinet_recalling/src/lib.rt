@@ -1,5 +1,5 @@
 // What a restart works out of a read-out's lists: the vectors of the last frames, the cards that count as rolled.
-ghost use Prim.Native.Nat.{ℕ, _<_};
+ghost use Prim.Native.Nat.{_<_};
 ghost use mathlib.Core.Path.{_≡_};
 ghost use mathlib.Core.Bool.{cond};
 ghost use lib.Dec.{ltb};
@@ -66,7 +66,11 @@ pub fn last_vectors(
 fn with_if(set: u16, ahead: bool, card: u32) -> u16
     ensures { λ r. ⌜ member r ≡ cond ahead (truncate 16 (either (member set) (one card))) (member set) ⌝ }
 {
-    if ahead { base_bits::with(set, card) } else { set }
+    if ahead {
+        base_bits::with(set, card)
+    } else {
+        set
+    }
 }
 
 // "cards one session ahead count as rolled"

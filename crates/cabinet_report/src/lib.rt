@@ -8,8 +8,8 @@ ghost use Rattle.base_text.specs.Put.{Put};
 ghost use Rattle.cabinet_layout.specs.Shape.{at};
 ghost use Rattle.cabinet_report.specs.Report.{textAt, textOf, rowText, rowsText, sessionText, refusedText, lineText};
 use base_limits::Limits;
-use base_text::Progress;
 use base_refusal::Reply;
+use base_text::Progress;
 
 // A text of so many bytes, at the front of an array.
 pub struct Text {

@@ -9,6 +9,7 @@ use native.Mathlib.Omega.{arith}
 use lib.Dec.{leb, ltb}
 use lib.ListN.{length, getD, List·getD-eq-default}
 use borrow.Author.Tests.{lt-ltb, le-ltb, ltb-true, leb-true}
+use Rattle.base_limits.specs.Ring.{ringPlace}
 use Rattle.base_laws.specs.Below.{tabulate}
 use Rattle.base_laws.proofs.Logic.{test, and-left, and-right, and-intro, cond-true, cond-false}
 use Rattle.base_laws.proofs.Fill.{length-tabulate, getD-tabulate}
@@ -16,7 +17,6 @@ use Rattle.sheet_lines.specs.declared.Frame.{Frame}
 use Rattle.sheet_lines.specs.Lines.{noFrame}
 use Rattle.sheet_pages.specs.declared.Readout.{Readout}
 use Rattle.sheet_pages.specs.Pages.{Page}
-use Rattle.sheet_pages.specs.Walk.{placeOf}
 use Rattle.sheet_pages.specs.Ring.{ringFrame, pageOf, pagesOf, noPage, pageAt}
 use Rattle.sheet_pages.proofs.Whole.{page-on}
 use Rattle.sheet_sessions.specs.Sessions.{lowestTo}
@@ -44,10 +44,10 @@ abbrev pub isIn : Readout → ℕ → ℕ → Bool
 isIn r c x = ltb (getD (r .bases) c 0) x && leb x (storedIn r c)
 
 abbrev pub changeIn : Readout → ℕ → ℕ → ℕ
-changeIn r c x = cond (isIn r c x) (getD (r .changes) (placeOf c x) 0) 0
+changeIn r c x = cond (isIn r c x) (getD (r .changes) (ringPlace c x) 0) 0
 
 abbrev pub vectorIn : Readout → ℕ → ℕ → Vector
-vectorIn r c x j = cond (isIn r c x && ltb j (limits16 .width)) (getD (r .entries) (placeOf c x * 16 + j) 0) 0
+vectorIn r c x j = cond (isIn r c x && ltb j (limits16 .width)) (getD (r .entries) (ringPlace c x * 16 + j) 0) 0
 
 abbrev modelBy : (session cards : ℕ) (sessions base stored : Numbers) (maker : ℕ → ℕ → ℕ) (frame : ℕ → ℕ → Vector) → Model
 modelBy session cards sessions base stored maker frame =
@@ -124,8 +124,8 @@ module _ (r : Readout) (w : Within r) where
   maker-fn : (c x : ℕ) → changeIn r c x ≡ changeOn (pageAt ps c) x
   maker-fn c x =
       test (isIn r c x)
-      (λ e. cond-true (getD (r .changes) (placeOf c x) 0) 0 e ∙ ap (λ (f : Frame). f .change) (sym (frame-same c x e)) ∙ sym (cond-true (frameFor (pageAt ps c) x .change) 0 (sym (is-same c x) ∙ e)))
-      (λ e. cond-false (getD (r .changes) (placeOf c x) 0) 0 e ∙ sym (cond-false (frameFor (pageAt ps c) x .change) 0 (sym (is-same c x) ∙ e)))
+      (λ e. cond-true (getD (r .changes) (ringPlace c x) 0) 0 e ∙ ap (λ (f : Frame). f .change) (sym (frame-same c x e)) ∙ sym (cond-true (frameFor (pageAt ps c) x .change) 0 (sym (is-same c x) ∙ e)))
+      (λ e. cond-false (getD (r .changes) (ringPlace c x) 0) 0 e ∙ sym (cond-false (frameFor (pageAt ps c) x .change) 0 (sym (is-same c x) ∙ e)))
 
   entry-fn : (c x j : ℕ) → isIn r c x ≡ true → vectorIn r c x j ≡ getD (ringFrame (r .changes) (r .entries) (r .cards) c x .entries) j 0
   entry-fn c x j e = by-cases (decLt j (r .cards)) here there
@@ -133,17 +133,17 @@ module _ (r : Readout) (w : Within r) where
       here : j < r .cards → vectorIn r c x j ≡ getD (ringFrame (r .changes) (r .entries) (r .cards) c x .entries) j 0
       here h =
           let few = w .few in
-          cond-true (getD (r .entries) (placeOf c x * 16 + j) 0) 0 (and-intro e (lt-ltb j (limits16 .width) (omega (arith, h, few, width16)))) ∙ sym (getD-tabulate (r .cards) (λ k. getD (r .entries) (placeOf c x * 16 + k) 0) 0 j h)
+          cond-true (getD (r .entries) (ringPlace c x * 16 + j) 0) 0 (and-intro e (lt-ltb j (limits16 .width) (omega (arith, h, few, width16)))) ∙ sym (getD-tabulate (r .cards) (λ k. getD (r .entries) (ringPlace c x * 16 + k) 0) 0 j h)
 
       none : r .cards ≤ j → getD (ringFrame (r .changes) (r .entries) (r .cards) c x .entries) j 0 ≡ 0
-      none h = List·getD-eq-default (tabulate (r .cards) (λ k. getD (r .entries) (placeOf c x * 16 + k) 0)) 0 (omega (arith, length-tabulate (r .cards) (λ k. getD (r .entries) (placeOf c x * 16 + k) 0)))
+      none h = List·getD-eq-default (tabulate (r .cards) (λ k. getD (r .entries) (ringPlace c x * 16 + k) 0)) 0 (omega (arith, length-tabulate (r .cards) (λ k. getD (r .entries) (ringPlace c x * 16 + k) 0)))
 
       zero-held : r .cards ≤ j → vectorIn r c x j ≡ 0
       zero-held h =
           by-cases (decLt j 16)
-          (λ l. cond-true (getD (r .entries) (placeOf c x * 16 + j) 0) 0 (and-intro e (lt-ltb j (limits16 .width) (omega (arith, l, width16))))
+          (λ l. cond-true (getD (r .entries) (ringPlace c x * 16 + j) 0) 0 (and-intro e (lt-ltb j (limits16 .width) (omega (arith, l, width16))))
           ∙ w .no-entry c x j (in-there c x e) (ltb-true (getD (r .bases) c 0) x (and-left (ltb (getD (r .bases) c 0) x) (leb x (storedIn r c)) e)) (leb-true x (storedIn r c) (and-right (ltb (getD (r .bases) c 0) x) (leb x (storedIn r c)) e)) h l)
-          (λ l. cond-false (getD (r .entries) (placeOf c x * 16 + j) 0) 0 (ap (λ (b : Bool). isIn r c x && b) (le-ltb j (limits16 .width) (omega (arith, l, width16))) ∙ no-and (isIn r c x)))
+          (λ l. cond-false (getD (r .entries) (ringPlace c x * 16 + j) 0) 0 (ap (λ (b : Bool). isIn r c x && b) (le-ltb j (limits16 .width) (omega (arith, l, width16))) ∙ no-and (isIn r c x)))
         where
           no-and : (b : Bool) → b && false ≡ false
           no-and true = refl
@@ -156,7 +156,7 @@ module _ (r : Readout) (w : Within r) where
   vector-fn c x j =
       test (isIn r c x)
       (λ e. entry-fn c x j e ∙ ap (λ (f : Frame). getD (f .entries) j 0) (sym (frame-same c x e)) ∙ sym (cond-true (getD (frameFor (pageAt ps c) x .entries) j 0) 0 (sym (is-same c x) ∙ e)))
-      (λ e. ap (λ (b : Bool). cond (b && ltb j (limits16 .width)) (getD (r .entries) (placeOf c x * 16 + j) 0) 0) e ∙ sym (cond-false (getD (frameFor (pageAt ps c) x .entries) j 0) 0 (sym (is-same c x) ∙ e)))
+      (λ e. ap (λ (b : Bool). cond (b && ltb j (limits16 .width)) (getD (r .entries) (ringPlace c x * 16 + j) 0) 0) e ∙ sym (cond-false (getD (frameFor (pageAt ps c) x .entries) j 0) 0 (sym (is-same c x) ∙ e)))
 
   -- the same model
   pub ring-law : ringModel r ≡ restarted limits16 (pagesOf r)

@@ -10,6 +10,7 @@ use native.Mathlib.Omega.{arith}
 use lib.Dec.{leb, ltb}
 use lib.ListN.{length, getD, replicate, List·getD-eq-default}
 use borrow.Author.Tests.{lt-ltb, le-leb, le-ltb, ltb-true, leb-true}
+use Rattle.base_limits.specs.Ring.{ringPlace}
 use Rattle.base_laws.specs.Below.{tabulate}
 use Rattle.base_laws.proofs.Logic.{clash, fails, and-left, and-right, and-intro, cond-true, cond-false}
 use Rattle.base_laws.proofs.Fill.{length-tabulate, getD-tabulate, tabulate-same}
@@ -31,7 +32,7 @@ use Rattle.cabinet_restart.proofs.Ring.{lowestIn, storedIn, isIn, vecto
 use Rattle.sheet_lines.specs.Lines.{noFrame}
 use Rattle.sheet_lines.proofs.Judged.{padded-at}
 use Rattle.sheet_pages.specs.Pages.{Page}
-use Rattle.sheet_pages.specs.Walk.{placeOf, noReadout, layPages}
+use Rattle.sheet_pages.specs.Walk.{noReadout, layPages}
 use Rattle.sheet_pages.specs.Ring.{pageAt}
 use Rattle.sheet_pages.specs.Whole.{Whole}
 use Rattle.sheet_pages.proofs.Lay.{Sized, Holds}
@@ -247,9 +248,9 @@ within bytes e = whole-within (pagesRead bytes .pages) (accepted-pages bytes e .
         beyond-all : (c : ℕ) → layPages ps noReadout .cards ≤ c → length ps ≤ c
         beyond-all c l = omega (arith, whole-cards ps w)
 
-        entry-none : (c x j : ℕ) → c < layPages ps noReadout .cards → at (layPages ps noReadout .bases) c < x → x ≤ at (layPages ps noReadout .bases) c + at (layPages ps noReadout .counts) c → layPages ps noReadout .cards ≤ j → j < 16 → at (layPages ps noReadout .entries) (placeOf c x * 16 + j) ≡ 0
+        entry-none : (c x j : ℕ) → c < layPages ps noReadout .cards → at (layPages ps noReadout .bases) c < x → x ≤ at (layPages ps noReadout .bases) c + at (layPages ps noReadout .counts) c → layPages ps noReadout .cards ≤ j → j < 16 → at (layPages ps noReadout .entries) (ringPlace c x * 16 + j) ≡ 0
         entry-none c x j h a b g k =
-            ap (λ (y : ℕ). at (layPages ps noReadout .entries) (placeOf c y * 16 + j)) (sym x-is) ∙ holds .entry c i j noFrame here inside k
+            ap (λ (y : ℕ). at (layPages ps noReadout .entries) (ringPlace c y * 16 + j)) (sym x-is) ∙ holds .entry c i j noFrame here inside k
             ∙ padded-at (getD (pageAt ps c .frames) i noFrame .entries) (let few : length ps ≤ 16 = w .few in omega (arith, long, few)) j
             ∙ List·getD-eq-default (getD (pageAt ps c .frames) i noFrame .entries) 0 (omega (arith, long, whole-cards ps w, g))
           where

@@ -3,13 +3,13 @@ use Prim.Native.Nat.{ℕ, _+_, _*_, _≤_, _<_}
 use mathlib.Core.Path.{_≡_}
 use mathlib.Core.Bool.{true, false}
 use mathlib.Core.List.{List}
+use Rattle.base_limits.specs.Ring.{ringPlace}
 use Rattle.base_limits.specs.Document.{mostCards, lastState}
 use Rattle.base_laws.specs.Below.{tabulate}
 use Rattle.sheet_lines.specs.Format.{formats}
 use Rattle.base_refusal.specs.declared.Reply as refusal
 use Rattle.base_refusal.specs.declared.Reply.the-variants.{Done, Refused}
 use Rattle.sheet_pages.specs.declared.Readout.{Readout}
-use Rattle.sheet_pages.specs.Walk.{placeOf}
 use Rattle.sheet_pages.specs.Ring.{pagesOf}
 use Rattle.sheet_readout.specs.Joint.{readoutOf}
 use Rattle.theory_history.specs.Vector as history
@@ -66,7 +66,7 @@ pub record Within (r : Readout) : Type 0 where
   pub no-session : (c : ℕ) → r .cards ≤ c → at (r .sessions) c ≡ 0
   pub no-base : (c : ℕ) → r .cards ≤ c → at (r .bases) c ≡ 0
   pub no-count : (c : ℕ) → r .cards ≤ c → at (r .counts) c ≡ 0
-  pub no-entry : (c x j : ℕ) → c < r .cards → at (r .bases) c < x → x ≤ at (r .bases) c + at (r .counts) c → r .cards ≤ j → j < mostCards → at (r .entries) (placeOf c x * mostCards + j) ≡ 0
+  pub no-entry : (c x j : ℕ) → c < r .cards → at (r .bases) c < x → x ≤ at (r .bases) c + at (r .counts) c → r .cards ≤ j → j < mostCards → at (r .entries) (ringPlace c x * mostCards + j) ≡ 0
 
 -- The cabinet behind an accepted restart shows the model that the demands speak of, is never refused with 28, and writes the very bytes that it restarted from.
 pub record GoesOn (bytes : List ℕ) (next : Cabinet) : Type 0 where

@@ -4,12 +4,12 @@ ghost use mathlib.Core.Path.{_≡_};
 ghost use Rattle.cabinet_layout.specs.Shape.{at, listOf};
 ghost use Rattle.cabinet_layout.specs.Answers.{replyOf};
 ghost use Rattle.cabinet_restart.specs.Restart.{Within, restartedCabinet, Restarted};
-use cabinet::Answer;
-use cabinet::Cabinet;
 use base_limits::Limits;
 use base_refusal::Reply;
-use sheet_pages::Readout;
+use cabinet::Answer;
+use cabinet::Cabinet;
 use cabinet_layout::Phase;
+use sheet_pages::Readout;
 
 // The state that each card has stored: base plus the count of its frames.
 fn stored_numbers(bases: [u32; Limits::CARDS], counts: [u32; Limits::CARDS]) -> [u32; Limits::CARDS]

@@ -11,13 +11,13 @@ ghost use Rattle.cabinet_layout.specs.Shape.{limits16, setOf, vectorFor, headMo
 ghost use Rattle.cabinet_layout.specs.Answers.{firstFailing, after28};
 use base_limits::Limits;
 use base_refusal::Refusal;
-use cabinet_replies::is_card;
-use cabinet_replies::next;
-use cabinet_layout::Head;
 use base_refusal::Reply;
+use cabinet_layout::Head;
 use cabinet_layout::Vector;
 use cabinet_layout::is_rolling;
 use cabinet_layout::is_up;
+use cabinet_replies::is_card;
+use cabinet_replies::next;
 
 // 6. trim
 pub fn trim_verdict(valid: bool, head: Head) -> Reply

@@ -13,10 +13,10 @@ ghost use Rattle.cabinet_safety.specs.Known.{InOrder, gradedOf};
 use base_limits::Limits;
 use base_refusal::Refusal;
 use base_refusal::Reply;
-use cabinet_replies::next;
 use cabinet_layout::Head;
-use cabinet_layout::Slot;
 use cabinet_layout::SafeReply;
+use cabinet_layout::Slot;
+use cabinet_replies::next;
 
 // How many states there are above x, up to reached.
 fn above(x: u32, reached: u32) -> u32

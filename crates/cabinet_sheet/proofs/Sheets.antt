@@ -6,6 +6,7 @@ use mathlib.Core.List.{List}
 use native.Mathlib.Omega.{arith}
 use lib.ListN.{getD}
 use borrow.Author.Tests.{le-leb, lt-ltb, eq-eqb, ne-eqb}
+use Rattle.base_limits.specs.Ring.{ringPlace}
 use Rattle.base_laws.specs.Below.{tabulate}
 use Rattle.base_laws.proofs.Logic.{and-intro, cond-case, cond-true, not-intro}
 use Rattle.base_laws.proofs.Fill.{tabulate-same}
@@ -13,7 +14,6 @@ use Rattle.base_bits.specs.Member.{member}
 use Rattle.sheet_lines.specs.declared.Header.{Header}
 use Rattle.sheet_lines.specs.Format.{format}
 use Rattle.sheet_lines.specs.Lines.{headerAllowed}
-use Rattle.sheet_pages.specs.Walk.{placeOf}
 use Rattle.sheet_pages.specs.Ring.{ringPage, ringFrame as frameAt}
 use Rattle.theory_protocol.specs.Model.{Model, isRolling}
 use Rattle.theory_codec.specs.Sheets.{cardCount, sheetFrame, sheetOf}
@@ -52,7 +52,7 @@ module _ (entries changes : List ℕ) (h : Head) (rolled : ℕ) (base stored : L
   entries-same i l =
       let x = suc (at base c + i) in
       let f = w .cards in
-      tabulate-same (h .cards) (λ j. getD entries (placeOf c x * 16 + j) 0) (frameInHand entries base stored c x) (λ j lj. sym (frame-held entries changes base stored c x (held i l) j (omega arith)))
+      tabulate-same (h .cards) (λ j. getD entries (ringPlace c x * 16 + j) 0) (frameInHand entries base stored c x) (λ j lj. sym (frame-held entries changes base stored c x (held i l) j (omega arith)))
       ∙ ap (λ (n : ℕ). tabulate n (frameInHand entries base stored c x)) (sym count-of)
 
   pub page-is : ringPage changes entries hd ≡ sheetOf limits16 m c

@@ -8,13 +8,13 @@ ghost use Rattle.theory_protocol.specs.Codec.{sheetPlan};
 ghost use Rattle.theory_codec.specs.Sheets.{codec};
 ghost use Rattle.cabinet_layout.specs.Shape.{limits16, phaseOf, modelOf};
 ghost use Rattle.cabinet_sheet.specs.Card.{sessionFor, cardHeader, Within, sheetModel, sheetPlanFor, SheetResult};
-use sheet_lines::Header;
 use base_limits::Limits;
 use base_refusal::Refusal;
-use cabinet_replies::is_card;
 use cabinet_layout::Core;
 use cabinet_layout::Head;
 use cabinet_layout::is_rolling;
+use cabinet_replies::is_card;
+use sheet_lines::Header;
 use sheet_page_writer::Written;
 
 // "A card already rolled writes the next session's number."

@@ -1,12 +1,13 @@
 -- What a take leaves is what its edits leave. Assumes nothing.
 use Prim.Native.Nat.{ℕ, suc, _*_, _<_}
-use mathlib.Core.Path.{_≡_, refl, sym, _∙_, ap, ap₂}
+use mathlib.Core.Path.{_≡_, sym, _∙_, ap, ap₂}
 use mathlib.Core.Bool.{Bool, true, false, not, cond}
 use mathlib.Core.List.{List, [], _∷_}
 use native.Mathlib.Omega.{arith}
 use lib.ListN.{set}
 use lib.Seq.{sets}
 use borrow.Author.Tests.{ne-eqb, lt-ltb}
+use Rattle.base_limits.specs.Ring.{ringPlace}
 use Rattle.base_laws.proofs.Logic.{and-intro, not-intro}
 use Rattle.base_bits.specs.Member.{member}
 use Rattle.base_refusal.specs.declared.Refusal.{Refusal}
@@ -22,7 +23,7 @@ use Rattle.cabinet_layout.specs.declared.Core.{Core}
 use Rattle.base_refusal.specs.declared.Reply.{Reply}
 use Rattle.base_refusal.specs.declared.Reply.the-variants.{Done, Refused}
 use Rattle.cabinet_layout.specs.Answers.{replyOf, firstFailing, after28}
-use Rattle.cabinet_layout.specs.Shape.{limits16, at, listOf, vectorAt, vectorFor, ringPlace, openOf, openAt, slotFor, withVectors, withNumbers, withSlots}
+use Rattle.cabinet_layout.specs.Shape.{limits16, at, listOf, vectorAt, vectorFor, openOf, openAt, slotFor, withVectors, withNumbers, withSlots}
 use Rattle.cabinet_layout.specs.Applied.{appliedAll, entriesAll, changesAll}
 use Rattle.cabinet_layout.proofs.Checks.{done-plan, refused-plan}
 use Rattle.cabinet_plans.specs.Plans.{alone, isMade, TakeCarriedOn}

@@ -5,9 +5,9 @@ ghost use Rattle.cabinet_layout.specs.Shape.{limits16, modelOf};
 ghost use Rattle.cabinet_layout.specs.Answers.{replyOf, safeReplyOf};
 ghost use Rattle.cabinet_layout.specs.Applied.{CoreCarried};
 use base_limits::Limits;
+use base_refusal::Reply;
 use cabinet_layout::Core;
 use cabinet_layout::CoreAnswer;
-use base_refusal::Reply;
 use cabinet_layout::SafeReply;
 
 // 6. trim: "every base moves to the line that the present stored numbers give."

@@ -1,7 +1,7 @@
 -- The frames in hand are those at the ring's places, where the check for 28 looks. Assumes nothing.
 use Prim.Native.Nat.{ℕ, zero, suc, _+_, _*_, _-_, _%_, _≤_, _<_}
-use mathlib.Core.Path.{_≡_, refl, sym, _∙_, ap, ap₂}
-use mathlib.Core.Bool.{Bool, true, false, not, _&&_, _||_, cond}
+use mathlib.Core.Path.{_≡_, sym, _∙_, ap, ap₂}
+use mathlib.Core.Bool.{Bool, true, not, _&&_, _||_, cond}
 use mathlib.Core.List.{List, []}
 use native.Mathlib.Omega.{arith}
 use lib.Dec.{eqb, leb, ltb}
@@ -11,7 +11,7 @@ use mathlib.Core.Logic.{by-cases}
 use borrow.Author.Tests.{lt-ltb, le-ltb, le-leb, eq-eqb, ne-eqb}
 use Rattle.base_laws.specs.Below.{allBelow, anyBelow}
 use Rattle.base_laws.proofs.Logic.{and-intro}
-use Rattle.base_laws.proofs.Fill.{all-same, not-any}
+use Rattle.base_laws.proofs.Fill.{all-same}
 use Rattle.base_bits.specs.Sets.{subset, below, either}
 use Rattle.base_bits.specs.Member.{member}
 use Rattle.theory_history.specs.Vector as history

@@ -1,15 +1,13 @@
 // The check for refusal 28: what a cabinet must be, level by level.
-ghost use Prim.Native.Nat.{ℕ, _+_, _*_, _<_, _≤_};
+ghost use Prim.Native.Nat.{_+_, _*_, _<_, _≤_};
 ghost use mathlib.Core.Path.{_≡_};
 ghost use mathlib.Core.Bool.{not, _&&_, _||_, cond};
 ghost use mathlib.Core.List.{[]};
-ghost use lib.ListN.{getD};
 ghost use lib.Dec.{eqb, leb, ltb};
 ghost use Rattle.base_laws.specs.Below.{allBelow};
-ghost use Rattle.base_bits.specs.Member.{member};
 ghost use Rattle.theory_protocol.specs.Model.{toWrite, up};
-ghost use Rattle.theory_protocol.specs.Valid.{entriesValid, frameValid, risesValid, framesValid, lineValid, cardValid, roomToWrite, slotValid, valid};
-ghost use Rattle.cabinet_layout.specs.Shape.{limits16, phaseOf, at, presentOf, ring, ringFrame, ringPlace, numbersOf, openOf, openAt, partOf, numbersModel, modelOf, thereValid};
+ghost use Rattle.theory_protocol.specs.Valid.{entriesValid, framesValid, lineValid, cardValid, roomToWrite, slotValid, valid};
+ghost use Rattle.cabinet_layout.specs.Shape.{limits16, phaseOf, at, presentOf, ring, numbersOf, openOf, openAt, partOf, numbersModel, modelOf, thereValid};
 use base_limits::Limits;
 use cabinet_layout::Core;
 use cabinet_layout::Head;

@@ -1,12 +1,12 @@
 // Lent lists and buffers: places beyond an answer, and all places of a refused call, keep what they held: 9 in a card record, 7 in
 // the list of changes lost, a dot in a buffer. Of each only a front is lent.
 use crate::lists::run;
+use base_limits::Limits;
 use cabinet::Cabinet;
 use cabinet::recover::RecordsAnswer;
-use libc::STDOUT_FILENO;
-use base_limits::Limits;
 use cabinet_records::CardRecord;
 use cabinet_recovery::FixReply;
+use libc::STDOUT_FILENO;
 use sheet_page_writer::Written;
 
 fn say(n: u32) {

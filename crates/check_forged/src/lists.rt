@@ -1,9 +1,9 @@
 // A list of calls on a cabinet at hand, each answer printed.
 ghost use Prim.Native.Nat.{_≤_};
 ghost use lib.ListN.{length};
-use list_results::Replay;
-use cabinet::Cabinet;
 use base_text::Progress;
+use cabinet::Cabinet;
+use list_results::Replay;
 
 fn print(out: &[u8], w: Progress) {
     match w {

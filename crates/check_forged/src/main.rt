@@ -1,11 +1,11 @@
 // What no list of calls from a fresh cabinet reaches: 28 of each kind, numbers at their limits, what is lent and kept beyond an
 // answer, and sheets of a ring with any numbers.
-use cabinet::Cabinet;
 use base_limits::Limits;
-use lists::run;
+use cabinet::Cabinet;
 use cabinet_layout::Core;
 use cabinet_layout::Head;
 use cabinet_layout::Phase;
+use lists::run;
 
 mod lent;
 mod lists;

@@ -1,9 +1,9 @@
 // The writer of one sheet, lent a ring with any numbers and told any header: 7, then 9, then 4. All other places of the ring hold
 // 77, and the buffer dots.
-use sheet_lines::Header;
 use base_limits::Limits;
-use sheet_writer::write_sheet;
+use sheet_lines::Header;
 use sheet_page_writer::Written;
+use sheet_writer::write_sheet;
 
 // Two frames of card 0 of two: the change of each, its own dependency and the other card's.
 struct Rows {

@@ -4,13 +4,13 @@
 // is printed, how many numbers of the read-out handed back are not 0, and the sheet as it is written again into so much room.
 ghost use Prim.Native.Nat.{_<_};
 use base_decimal::Reading;
-use sheet_lines::Header;
-use libc::STDOUT_FILENO;
 use base_limits::Limits;
 use base_refusal::Refusal;
 use base_refusal::Reply;
-use sheet_pages::Readout;
+use libc::STDOUT_FILENO;
+use sheet_lines::Header;
 use sheet_page_writer::Written;
+use sheet_pages::Readout;
 
 // The number at a place of a record's line, and 0 where there is none.
 fn number_at(line: &[u8], at: usize) -> u32 {

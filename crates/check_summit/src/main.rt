@@ -1,11 +1,11 @@
 // Brings card 0 to state 60,000, its last, in 100 sessions of 600 changes each, and then asks for more: refusal 24, which no short
 // list of calls reaches. It prints what is asked there; a climb that failed shows in it.
 ghost use Prim.Native.Nat.{_<_};
-use list_results::Replay;
-use cabinet::Cabinet;
 use base_limits::Limits;
-use cabinet_records::CardRecord;
 use base_text::Progress;
+use cabinet::Cabinet;
+use cabinet_records::CardRecord;
+use list_results::Replay;
 
 // Change k of the session takes card 0 to its next state, which is stored and trimmed.
 fn rise(c: Cabinet, k: u32, state: u32) -> Cabinet {

@@ -8,13 +8,13 @@ ghost use Rattle.cabinet_sheet.specs.Card.{sheetReplyOf};
 ghost use Rattle.cabinet.specs.Fresh.{Freshly};
 ghost use Rattle.theory_protocol.specs.Run.{voteCall, takeCall, withdrawCall, storeCall, trimCall, safeCall, rollCall};
 ghost use Rattle.demands_lists.specs.Lists.{opening, plain, lose, fix, sheet, restart, nothingLent, Answered};
+use base_limits::Limits;
 use cabinet::Answer;
 use cabinet::Cabinet;
 use cabinet::OpenAnswer;
 use cabinet::SafeAnswer;
 use cabinet::recover::RecordsAnswer;
 use cabinet::sheets::SheetAnswer;
-use base_limits::Limits;
 use cabinet_records::CardRecord;
 
 // A fresh cabinet, with which a list begins.

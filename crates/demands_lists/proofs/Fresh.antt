@@ -1,25 +1,23 @@
 -- A fresh cabinet shows the fresh model. Assumes nothing.
-use Prim.Native.Nat.{ℕ, zero, suc, _+_, _*_, _≤_, _<_}
-use mathlib.Core.Path.{_≡_, refl, sym, _∙_, ap, subst}
-use mathlib.Core.Bool.{Bool, true, false, not, _&&_, cond}
+use Prim.Native.Nat.{ℕ, _+_, _*_}
+use mathlib.Core.Path.{_≡_, refl, _∙_, ap}
+use mathlib.Core.Bool.{Bool, true, false, cond}
 use mathlib.Core.List.{List, []}
 use mathlib.Core.Logic.{by-cases}
 use native.Mathlib.Decide.{decLt}
 use native.Mathlib.Omega.{arith}
-use lib.Dec.{leb, ltb}
-use lib.ListN.{length, getD, replicate, length-replicate, getD-replicate, List·getD-eq-default}
-use Rattle.base_laws.proofs.Logic.{cond-case}
+use lib.Dec.{ltb}
+use lib.ListN.{getD, replicate, length-replicate, getD-replicate, List·getD-eq-default}
+use Rattle.base_limits.specs.Ring.{ringPlace}
 use Rattle.theory_history.specs.Vector.{noEntries}
-use Rattle.theory_history.specs.Vector as history
 use Rattle.theory_protocol.specs.Model.{freeSlot}
 use Rattle.theory_protocol.specs.Edit as edit
 use Rattle.theory_protocol.specs.Calls.{freshModel}
 use Rattle.cabinet_layout.specs.declared.Vector.{Vector}
-use Rattle.cabinet_layout.specs.Shape.{limits16, at, vectorAt, openOf, openAt, slotFor, ringPlace, inHand, changeInHand, frameInHand, emptySlot}
+use Rattle.cabinet_layout.specs.Shape.{limits16, at, vectorAt, openOf, openAt, slotFor, inHand, changeInHand, frameInHand, emptySlot}
 use Rattle.cabinet.specs.View.{view}
 use Rattle.cabinet.specs.Fresh.{zeroCabinet, freshHead}
 use Rattle.cabinet_layout.proofs.Held.{no-members, open-back, free-fits, no-slot}
-use Rattle.demands_lists.proofs.Narrow.{Narrow}
 use Rattle.demands_lists.proofs.Lengths.{zero-sized}
 use Rattle.demands_lists.proofs.Laws.{Shows}
 

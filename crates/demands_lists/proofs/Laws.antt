@@ -1,10 +1,8 @@
 -- The law of every edit at once: on a cabinet of its lengths, what it shows after an edit that fits is its view, edited. Assumes nothing.
-use Prim.Native.Nat.{ℕ, suc, _+_, _≤_, _<_}
-use mathlib.Core.Path.{_≡_, refl, sym, _∙_, ap, subst}
+use Prim.Native.Nat.{ℕ, _+_, _≤_, _<_}
+use mathlib.Core.Path.{_≡_, sym, _∙_, ap, subst}
 use mathlib.Core.List.{List, [], _∷_}
 use native.Mathlib.Omega.{arith}
-use lib.ListN.{length}
-use Rattle.theory_history.specs.Change.{Numbers}
 use Rattle.theory_protocol.specs.Model.{Model}
 use Rattle.theory_protocol.specs.Edit.{Edit, edited, editedAll}
 use Rattle.theory_protocol.specs.Edit as edit
@@ -14,8 +12,8 @@ use Rattle.cabinet.specs.View.{view}
 use Rattle.cabinet.specs.Apply.{apply, applyAll}
 use Rattle.cabinet_layout.proofs.Held.{Fits}
 use Rattle.cabinet.proofs.Laws.{keep-law, count-law, place-law, raise-law, fall-law, halt-law, fix-law, renew-law}
-use Rattle.cabinet.proofs.Grow.{Grows, grow-law}
-use Rattle.cabinet.proofs.Bases.{Lowers, rebase-law, lower-law}
+use Rattle.cabinet.proofs.Grow.{grow-law}
+use Rattle.cabinet.proofs.Bases.{rebase-law, lower-law}
 use Rattle.demands_lists.specs.Lists.{Sized}
 use Rattle.demands_lists.proofs.Lengths.{edit-sized}
 use Rattle.demands_lists.proofs.Narrow.{Short, Narrow, Brings, joined-short, edit-narrow}

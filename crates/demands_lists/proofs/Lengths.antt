@@ -1,20 +1,20 @@
 -- Every edit keeps the lengths of the cabinet's lists. Assumes nothing.
-use Prim.Native.Nat.{ℕ, suc, _*_, _<_, _≤_, _^_}
-use mathlib.Core.Path.{_≡_, refl, sym, _∙_, ap, subst}
+use Prim.Native.Nat.{ℕ, suc, _*_, _<_}
+use mathlib.Core.Path.{_≡_, sym, _∙_, subst}
 use mathlib.Core.List.{List}
-use native.Mathlib.Omega.{arith}
-use lib.ListN.{length, set, replicate, length-set, length-replicate}
-use lib.Seq.{sets, length-sets}
+use lib.ListN.{length, replicate, length-set, length-replicate}
+use lib.Seq.{length-sets}
 use lib.Dec.{lit<}
+use Rattle.base_limits.specs.Ring.{ringPlace}
 use Rattle.base_laws.specs.Below.{tabulate}
 use Rattle.base_laws.proofs.Fill.{length-tabulate}
 use Rattle.base_bits.specs.Member.{number}
 use Rattle.base_bits.proofs.Members.{number-lt}
-use Rattle.theory_history.specs.Change.{CardSet, Numbers}
+use Rattle.theory_history.specs.Change.{CardSet}
 use Rattle.theory_protocol.specs.Model.{freeSlot}
 use Rattle.theory_protocol.specs.Edit.{Edit}
 use Rattle.theory_protocol.specs.Edit as edit
-use Rattle.cabinet_layout.specs.Shape.{limits16, at, ringPlace, listOf, setOf, slotFor, withHead, withVectors, withSlots, withNumbers, withLine}
+use Rattle.cabinet_layout.specs.Shape.{limits16, at, listOf, setOf, slotFor, withHead, withVectors, withSlots, withNumbers, withLine}
 use Rattle.cabinet_layout.specs.Applied.{applied, entriesAfter, changesAfter}
 use Rattle.cabinet_layout.proofs.Limits.{width16, slots8}
 use Rattle.cabinet_layout.proofs.Made.{made-by}

@@ -1,14 +1,14 @@
 -- Nothing in a cabinet of 16 cards stands beyond card 15: kept by every edit that brings nothing beyond it. Assumes nothing.
-use Prim.Native.Nat.{ℕ, zero, suc, _+_, _≤_, _<_, max}
-use mathlib.Core.Path.{_≡_, refl, sym, _∙_, ap, ap₂}
-use mathlib.Core.Bool.{Bool, true, false, not, _&&_, _||_, cond}
+use Prim.Native.Nat.{ℕ, _≤_, _<_, max}
+use mathlib.Core.Path.{_≡_, refl, ap₂}
+use mathlib.Core.Bool.{Bool, false, _||_}
 use native.Mathlib.Omega.{arith}
-use lib.Dec.{eqb, ltb}
+use lib.Dec.{eqb}
 use borrow.Author.Tests.{ne-eqb}
 use Rattle.base_laws.proofs.Logic.{cond-case}
-use Rattle.theory_history.specs.Change.{CardSet, Numbers}
+use Rattle.theory_history.specs.Change.{CardSet}
 use Rattle.theory_history.specs.Vector.{Vector, joined}
-use Rattle.theory_protocol.specs.Model.{OpenChange, Model, freeSlot, withCard}
+use Rattle.theory_protocol.specs.Model.{Model, withCard}
 use Rattle.theory_protocol.specs.Edit.{Edit, edited}
 use Rattle.theory_protocol.specs.Edit as edit
 use Rattle.cabinet_layout.specs.Shape.{limits16}

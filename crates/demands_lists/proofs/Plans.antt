@@ -1,29 +1,27 @@
 -- The edits of every call fit the cabinet that they are made on. Assumes nothing.
-use Prim.Native.Nat.{ℕ, zero, suc, _+_, _-_, _≤_, _<_}
-use mathlib.Core.Path.{_≡_, refl, sym, _∙_, ap, ap₂, subst}
-use mathlib.Core.Bool.{Bool, true, false, not, _&&_, _||_, cond}
-use mathlib.Core.List.{List, [], _∷_}
+use Prim.Native.Nat.{ℕ, suc, _+_, _-_, _≤_, _<_}
+use mathlib.Core.Path.{_≡_, refl, _∙_, ap}
+use mathlib.Core.Bool.{Bool, true, false, not, _&&_, cond}
+use mathlib.Core.List.{List}
 use native.Mathlib.Nat.{le-refl}
 use native.Mathlib.Omega.{arith}
-use lib.Dec.{eqb, leb, ltb}
-use borrow.Author.Tests.{ne-eqb, le-ltb, ltb-true, leb-true}
-use Rattle.base_laws.specs.Below.{greatest}
+use lib.Dec.{eqb, ltb}
+use borrow.Author.Tests.{ne-eqb, le-ltb, ltb-true}
 use Rattle.base_laws.proofs.Logic.{cond-case, and-left, and-right, and-intro}
 use Rattle.base_laws.proofs.Below.{greatest-below}
 use Rattle.base_bits.specs.Member.{member}
 use Rattle.base_bits.proofs.Members.{member-above}
-use Rattle.theory_history.specs.Change.{CardSet, Change, Numbers, touches}
-use Rattle.theory_history.specs.Vector.{Vector, Tracked, share, vectorOf}
+use Rattle.theory_history.specs.Change.{CardSet, Change, touches}
+use Rattle.theory_history.specs.Vector.{Vector, share, vectorOf}
 use Rattle.theory_history.specs.Line.{orphan}
 use Rattle.theory_history.proofs.Climb.{climbed}
-use Rattle.theory_protocol.specs.Model.{OpenChange, Model, freeSlot, isUp, isCard, isOpen, decided, closed, toWrite, withCard, slotOf, freeAt, isKnown, tracked, withYes, withTaken}
+use Rattle.theory_protocol.specs.Model.{OpenChange, Model, isUp, isCard, isOpen, decided, closed, withCard, slotOf, freeAt, isKnown, tracked, withYes, withTaken}
 use Rattle.theory_protocol.specs.Valid.{valid, roomToWrite}
 use Rattle.theory_protocol.proofs.Passed.{NumbersPassed}
-use Rattle.theory_protocol.specs.Edit.{Edit}
 use Rattle.theory_protocol.specs.Edit as edit
-use Rattle.theory_protocol.specs.Plan.{Plan, Check, Passed}
+use Rattle.theory_protocol.specs.Plan.{Plan, Passed}
 use Rattle.theory_protocol.specs.Run.{Plain, voteCall, takeCall, withdrawCall, storeCall, trimCall, safeCall, rollCall, plainPlan}
-use Rattle.theory_protocol.specs.Calls.{openedChange, openChecks, openPlan, votedYes, voted, voteChecks, votePlan, tookShare, shareEdit, takeChecks, takePlan, withdrawChecks, withdrawPlan, storeChecks, storePlan, recoveryLine, lines, safeChecks, safePlan, trimChecks, trimPlan, loseChecks, losePlan, fixChecks, fixPlan, rollChecks, rollPlan, allRolled}
+use Rattle.theory_protocol.specs.Calls.{openChecks, openPlan, voted, voteChecks, votePlan, tookShare, shareEdit, takeChecks, takePlan, withdrawChecks, withdrawPlan, storeChecks, storePlan, recoveryLine, lines, safeChecks, safePlan, trimChecks, trimPlan, loseChecks, losePlan, fixChecks, fixPlan, rollChecks, rollPlan, allRolled}
 use Rattle.theory_protocol.proofs.Steps.{checked-case, not-not, card-below, known-slot}
 use Rattle.cabinet_layout.specs.Shape.{limits16, at}
 use Rattle.cabinet_layout.proofs.Limits.{width16, inHand48, slots8}

@@ -7,6 +7,7 @@ use native.Mathlib.Omega.{arith}
 use lib.Dec.{leb, ltb}
 use lib.ListN.{length, getD}
 use borrow.Author.Tests.{leb-true, lt-ltb, le-ltb}
+use Rattle.base_limits.specs.Ring.{ringPlace}
 use Rattle.base_laws.proofs.Logic.{test, and-left, and-right}
 use Rattle.base_bits.specs.Member.{member}
 use Rattle.base_refusal.specs.declared.Reply as refusal
@@ -21,7 +22,6 @@ use Rattle.theory_protocol.proofs.Steps.{checked-case, not-not}
 use Rattle.theory_protocol.proofs.Claims.{not-both}
 use Rattle.base_refusal.specs.declared.Refusal.the-variants.{CardCount, BadCabinet}
 use Rattle.sheet_pages.specs.declared.Readout.{Readout}
-use Rattle.sheet_pages.specs.Walk.{placeOf}
 use Rattle.sheet_readout.specs.Joint.{readoutOf}
 use Rattle.theory_protocol.specs.Valid.{valid}
 use Rattle.theory_protocol.specs.Codec.{sheetChecks, sheetPlan, verdictChecks}
@@ -93,8 +93,8 @@ restarted-narrow r = record { slots = λ p. free-fits; last = short; pending = s
     short : (c k : ℕ) → 16 ≤ k → vectorIn r c (storedIn r c) k ≡ 0
     short c k h = outside (isIn r c (storedIn r c)) (ltb k (limits16 .width)) (le-ltb k (limits16 .width) (omega (arith, h, width16)))
       where
-        outside : (a b : Bool) → b ≡ false → cond (a && b) (getD (r .entries) (placeOf c (storedIn r c) * 16 + k) 0) 0 ≡ 0
-        outside true b e = ap (λ (x : Bool). cond x (getD (r .entries) (placeOf c (storedIn r c) * 16 + k) 0) 0) e
+        outside : (a b : Bool) → b ≡ false → cond (a && b) (getD (r .entries) (ringPlace c (storedIn r c) * 16 + k) 0) 0 ≡ 0
+        outside true b e = ap (λ (x : Bool). cond x (getD (r .entries) (ringPlace c (storedIn r c) * 16 + k) 0) 0) e
         outside false b e = refl
 
 restarted-sized : (r : Readout) → lay.Sized r → Sized (restartedCabinet r)

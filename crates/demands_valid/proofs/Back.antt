@@ -7,6 +7,7 @@ use native.Mathlib.Omega.{arith}
 use lib.Dec.{ltb}
 use lib.ListN.{length, take}
 use borrow.Author.Tests.{le-ltb, ltb-true}
+use Rattle.base_limits.specs.Ring.{ringPlace}
 use Rattle.base_laws.proofs.Logic.{and-left, and-right, cond-case}
 use Rattle.base_refusal.specs.declared.Refusal.the-variants.{NoSuchCard, TooShort, BadCabinet}
 use Rattle.base_refusal.specs.declared.Reply.the-variants.{Done}
@@ -29,7 +30,7 @@ use Rattle.theory_protocol.proofs.Steps.{not-not}
 use Rattle.theory_codec.specs.Sheets.{sheetSession, sheetOf}
 use Rattle.theory_codec.specs.Claims.{SheetLimits}
 use Rattle.theory_codec.proofs.Valid.{sheet-of, sheet-few}
-use Rattle.cabinet_layout.specs.Shape.{limits16, phaseOf, ringPlace, inHand, presentOf}
+use Rattle.cabinet_layout.specs.Shape.{limits16, phaseOf, inHand, presentOf}
 use Rattle.cabinet_layout.proofs.Limits.{width16, inHand48, greatest60000, greatestNumber32}
 use Rattle.cabinet.specs.declared.Cabinet.{Cabinet}
 use Rattle.cabinet.specs.View.{view}

@@ -1,12 +1,12 @@
 -- What a line leaves open, the order of the lost changes, changes neither the replay after it nor the length of its answer's text. Assumes nothing.
-use Prim.Native.Nat.{ℕ, suc, _+_, _<_, _≤_}
+use Prim.Native.Nat.{ℕ, suc, _+_, _<_}
 use mathlib.Core.Path.{_≡_, refl, sym, _∙_, ap, ap₂}
 use mathlib.Core.Bool.{Bool, true, false, cond}
 use mathlib.Core.List.{List, [], _∷_, _++_}
 use native.Mathlib.Omega.{arith}
 use lib.Dec.{eqb}
 use lib.ListN.{length, length-append}
-use borrow.Author.Tests.{eqb-true, eqb-false, eq-eqb}
+use borrow.Author.Tests.{eqb-true, eq-eqb}
 use Rattle.base_laws.specs.Below.{occurs, one-if}
 use Rattle.base_laws.proofs.Logic.{test}
 use Rattle.base_decimal.specs.Digits.{decimal}
@@ -26,7 +26,7 @@ use Rattle.list_parse.specs.declared.Command.{Command}
 use Rattle.list_parse.specs.declared.Command.the-variants.{Fresh, Asks, Unreadable}
 use Rattle.list_results.specs.declared.Replay.{Replay}
 use Rattle.list_results.specs.Result.{Result, Continuing, Kept, Planned, OpenResult, readsBeyond, writesBeyond, openWithin, LoseResult, setBeyond, lostWithin, FixSaid, RestartResult}
-use Rattle.list_execute.specs.Step.{Steps, Asked, Stays, Freshened}
+use Rattle.list_execute.specs.Step.{Steps, Asked, Stays}
 
 -- ---- lists that have every number equally often
 

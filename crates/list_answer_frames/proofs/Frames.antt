@@ -1,5 +1,5 @@
 -- Laws of the text of frames: how it goes on, and that the ring has what the model says. Assumes nothing.
-use Prim.Native.Nat.{ℕ, zero, suc, _+_, _-_, _≤_, _<_}
+use Prim.Native.Nat.{ℕ, zero, suc, _+_, _-_, _<_}
 use mathlib.Core.Path.{_≡_, refl, sym, _∙_, ap, ap₂}
 use mathlib.Core.Bool.{Bool, true, false, not, cond}
 use mathlib.Core.List.{List, [], _∷_, _++_, append-assoc, append-nil}
@@ -9,7 +9,6 @@ use borrow.Author.Tests.{lt-ltb, le-leb, ltb-true, eq-eqb, ne-eqb, not-true, not
 use Rattle.base_laws.specs.Below.{tabulate, selected}
 use Rattle.base_laws.proofs.Logic.{cond-true, cond-false, and-left, and-intro}
 use Rattle.base_laws.proofs.Fill.{tabulate-same, getD-tabulate}
-use lib.ListN.{getD}
 use Rattle.base_decimal.specs.Digits.{decimal}
 use Rattle.theory_history.specs.Vector as history
 use Rattle.theory_history.specs.Vector.{noEntries}
@@ -21,7 +20,7 @@ use Rattle.sheet_pages.specs.Ring as frames
 use Rattle.sheet_page_writer.specs.Write.{heldFrame}
 use Rattle.sheet_lines.specs.Lines.{noFrame}
 use Rattle.cabinet_layout.specs.declared.Core.{Core}
-use Rattle.cabinet_layout.specs.Shape.{limits16, at, presentOf, inHand, changeInHand, frameInHand, ringPlace, ringChange, ringFrame, truncate, modelOf}
+use Rattle.cabinet_layout.specs.Shape.{limits16, at, presentOf, inHand, frameInHand, ringChange, ringFrame, truncate, modelOf}
 use Rattle.cabinet_layout.proofs.Limits.{width16}
 use Rattle.base_text.specs.Lines.{spaced, textLine, joined}
 use Rattle.base_text.proofs.Spaced.{selected-more}

@@ -8,12 +8,12 @@ ghost use Rattle.cabinet_layout.specs.Shape.{limits16, at, presentOf, modelOf};
 ghost use Rattle.base_text.specs.Put.{Put};
 ghost use Rattle.base_text.specs.Lines.{joined};
 ghost use Rattle.list_answer_frames.specs.Frames.{entryText, entriesText, frameText, framesAnswer, ringText};
-use sheet_lines::Frame;
 use base_limits::Limits;
 use base_refusal::Refusal;
-use cabinet_replies::is_card;
 use base_text::Progress;
 use cabinet_layout::Core;
+use cabinet_replies::is_card;
+use sheet_lines::Frame;
 
 // The entry of a card that the cabinet has: its state, none written `-`.
 fn put_entry(b: &mut [u8], w: Progress, there: bool, entry: u32) -> Progress

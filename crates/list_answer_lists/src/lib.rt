@@ -10,8 +10,8 @@ ghost use Rattle.base_text.specs.Lines.{textLine};
 ghost use Rattle.list_answers.specs.Texts.{rowsText, replyText, sheetWord};
 ghost use Rattle.list_answer_lists.specs.Fixed.{rowCount, fixedText};
 use base_limits::Limits;
-use cabinet_recovery::FixReply;
 use base_text::Progress;
+use cabinet_recovery::FixReply;
 use sheet_page_writer::Written;
 
 // The lines of fix's card records.

@@ -1,7 +1,6 @@
 -- The definitions at answers that are written out. Assumes nothing.
-use Prim.Native.Nat.{ℕ}
 use mathlib.Core.Path.{_≡_, refl}
-use mathlib.Core.List.{List, [], _∷_}
+use mathlib.Core.List.{[], _∷_}
 use Rattle.base_refusal.specs.declared.Refusal.the-variants.{WrongPhase, Barred}
 use Rattle.theory_protocol.specs.Plan.{fixed, accepted, refused, opened}
 use Rattle.list_answers.specs.Texts.{replyText}

@@ -1,5 +1,4 @@
 // How the answers to a list of calls are written: lines of text into a lent buffer, cut off where the buffer ends.
-ghost use mathlib.Core.Path.{_≡_};
 ghost use Rattle.cabinet_layout.specs.Answers.{replyOf, openReplyOf, safeReplyOf};
 ghost use Rattle.base_text.specs.Put.{Put};
 ghost use Rattle.list_answers.specs.Texts.{refusedText, replyText, noneText, unreadableText};

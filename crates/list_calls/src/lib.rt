@@ -5,12 +5,12 @@ ghost use Rattle.cabinet_layout.specs.Shape.{limits16};
 ghost use Rattle.cabinet.specs.View.{view};
 ghost use Rattle.list_answers.specs.Texts.{refusedText};
 ghost use Rattle.list_results.specs.Result.{Planned, OpenResult, LoseResult, Kept, Written, Continuing};
-use list_results::Replay;
-use list_results::Stepped;
-use cabinet::Cabinet;
 use base_limits::Limits;
 use base_refusal::Refusal;
 use base_text::Progress;
+use cabinet::Cabinet;
+use list_results::Replay;
+use list_results::Stepped;
 
 // The call is refused for a card that no cabinet has.
 fn no_such_card(c: Cabinet, b: &mut [u8], w: Progress) -> Stepped

@@ -9,12 +9,12 @@ ghost use Rattle.cabinet.specs.View.{view};
 ghost use Rattle.list_answer_show.specs.Show.{showText};
 ghost use Rattle.list_answer_frames.specs.Frames.{framesAnswer};
 ghost use Rattle.list_results.specs.Result.{Planned, FixSaid, RestartResult, Kept, Written, Continuing};
+use base_limits::Limits;
+use base_text::Progress;
+use cabinet::Cabinet;
+use cabinet_records::CardRecord;
 use list_results::Replay;
 use list_results::Stepped;
-use cabinet::Cabinet;
-use base_limits::Limits;
-use cabinet_records::CardRecord;
-use base_text::Progress;
 
 // How many places for change numbers are lent: at most 776.
 fn lent_places(numbers: u32) -> usize

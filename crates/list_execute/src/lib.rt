@@ -2,13 +2,13 @@
 ghost use Rattle.list_answers.specs.Texts.{noneText, unreadableText};
 ghost use Rattle.list_results.specs.Result.{Written};
 ghost use Rattle.list_execute.specs.Step.{Steps, Stays, Freshened};
+use base_refusal::Reply;
+use base_text::Progress;
+use cabinet::Cabinet;
+use list_parse::Command;
+use list_parse::Request;
 use list_results::Replay;
 use list_results::Stepped;
-use cabinet::Cabinet;
-use base_text::Progress;
-use base_refusal::Reply;
-use list_parse::Request;
-use list_parse::Command;
 
 // A fresh cabinet in the place of the present one.
 fn freshen(r: Replay, cards: u32, b: &mut [u8], w: Progress) -> Stepped
@@ -73,7 +73,13 @@ pub fn done(r: Replay, said: Command, b: &mut [u8], w: Progress) -> Stepped
                 Request::Trim => list_calls::trim(c, b, w),
                 Request::Safe(change) => list_calls::safe(c, change, b, w),
                 Request::Lose(cards) => list_calls::lose(c, cards, b, w),
-                Request::Fix { records, numbers } => list_calls_lent::fix(c, records, numbers, b, w),
+                Request::Fix { records, numbers } => list_calls_lent::fix(
+                    c,
+                    records,
+                    numbers,
+                    b,
+                    w,
+                ),
                 Request::Roll(card) => list_calls::roll(c, card, b, w),
                 Request::Sheet { card, bytes } => list_calls_lent::sheet(c, card, bytes, b, w),
                 Request::Restart => list_calls_lent::restart(c, b, w),

@@ -1,6 +1,6 @@
 // What a line of a list leaves behind.
-use cabinet::Cabinet;
 use base_text::Progress;
+use cabinet::Cabinet;
 
 // The present cabinet, and whether there is one.
 pub struct Replay {

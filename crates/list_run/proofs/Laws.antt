@@ -1,7 +1,6 @@
 -- Laws of the lines of a text. Assumes nothing.
 use Prim.Native.Nat.{ℕ, _+_, _-_, _≤_, _<_}
 use mathlib.Core.Path.{_≡_, refl, sym, _∙_, ap, ap₂, subst}
-use mathlib.Core.Bool.{Bool}
 use mathlib.Core.List.{List, [], _++_}
 use native.Mathlib.Omega.{arith}
 use lib.Dec.{leb}
@@ -16,7 +15,7 @@ use Rattle.list_parse.specs.declared.Command.{Command}
 use Rattle.list_parse.specs.declared.Token.{Token}
 use Rattle.list_parse.specs.declared.Token.the-variants.{Line, End}
 use Rattle.list_parse.specs.Calls.{tokenAt}
-use Rattle.base_text.specs.Put.{greatest, countedOn, placeAfter, bufferAfter, Put, wholeAfter, Whole, fittingOf}
+use Rattle.base_text.specs.Put.{greatest, countedOn, placeAfter, bufferAfter, Put, wholeAfter, fittingOf}
 use Rattle.base_text.proofs.Puts.{place-fits, place-beyond, count-fits, count-beyond, put-nothing, put-then, put-length}
 use Rattle.base_text.proofs.Wholes.{whole-fits, whole-kept, whole-length, fitting-fits, fitting-beyond}
 use Rattle.list_results.specs.declared.Replay.{Replay}

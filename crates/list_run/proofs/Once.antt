@@ -1,13 +1,12 @@
 -- Two runs of one list: texts of one length. Assumes nothing.
 use Prim.Native.Nat.{ℕ, suc, _+_, _<_, _≤_}
-use mathlib.Core.Path.{_≡_, refl, sym, _∙_, ap, ap₂, subst, subst₂}
-use mathlib.Core.List.{List, [], _++_}
+use mathlib.Core.Path.{_≡_, refl, sym, _∙_, ap, ap₂, subst₂}
+use mathlib.Core.List.{List, _++_}
 use mathlib.Core.Logic.{by-cases}
 use native.Mathlib.Decide.{decLe}
 use native.Mathlib.Omega.{arith}
 use lib.ListN.{length, length-append}
 use Rattle.list_parse.specs.declared.Command.{Command}
-use Rattle.list_parse.specs.declared.Token.{Token}
 use Rattle.list_parse.specs.declared.Token.the-variants.{Line, End}
 use Rattle.list_parse.specs.Calls.{tokenAt}
 use Rattle.list_results.specs.declared.Replay.{Replay}

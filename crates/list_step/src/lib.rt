@@ -3,11 +3,11 @@ ghost use mathlib.Core.Path.{_≡_};
 ghost use Rattle.base_text.specs.declared.Progress.the-variants.{Next};
 ghost use Rattle.list_parse.specs.Calls.{parseLine};
 ghost use Rattle.list_step.specs.Executed.{nothingYet, Executed};
+use base_text::Progress;
+use cabinet::Cabinet;
+use list_parse::Command;
 use list_results::Replay;
 use list_results::Stepped;
-use cabinet::Cabinet;
-use base_text::Progress;
-use list_parse::Command;
 
 // What a line says is done, but nothing where the answer has no room.
 pub fn execute(r: Replay, said: Command, b: &mut [u8], w: Progress) -> Stepped

@@ -9,7 +9,6 @@ ghost use Rattle.list_answers.specs.Texts.{refusedText, replyText, noneText, un
 ghost use Rattle.list_answer_show.specs.Show.{showText};
 ghost use Rattle.list_answer_frames.specs.Frames.{framesAnswer};
 use base_limits::Limits;
-use cabinet_recovery::FixReply;
 use base_refusal::Refusal;
 use base_refusal::Reply;
 use base_text::Progress;
@@ -17,6 +16,7 @@ use cabinet_layout::Core;
 use cabinet_layout::Head;
 use cabinet_layout::OpenReply;
 use cabinet_layout::SafeReply;
+use cabinet_recovery::FixReply;
 use sheet_page_writer::Written;
 
 // Before the first cabinet.
@@ -151,7 +151,14 @@ pub fn put_frames<'a, 'b>(
 ) -> Progress
     ensures { λ x. ⌜ Whole (now (b .entry)) w (framesAnswer limits16 (modelOf (now (entries .entry)) (now (changes .entry)) core) card) x (now (b .exit)) ⌝ }
 {
-    let counted = list_answer_frames::put_frames(b, Progress::Counting(0), entries, changes, core, card);
+    let counted = list_answer_frames::put_frames(
+        b,
+        Progress::Counting(0),
+        entries,
+        changes,
+        core,
+        card,
+    );
     let from = base_text::fitting(b.len(), w, counted);
     list_answer_frames::put_frames(b, from, entries, changes, core, card)
 }

@@ -2,8 +2,8 @@
 // It ends where a read or a write fails, and a line that was cut off there is no call.
 ghost use Prim.Native.Nat.{_<_, _≤_};
 ghost use lib.ListN.{length};
-use list_results::Replay;
 use base_text::Progress;
+use list_results::Replay;
 
 // The replay, the bytes of a line that has not ended yet (129 of them tell that it is too long), and whether a read or a
 // write failed.

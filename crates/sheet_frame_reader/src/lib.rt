@@ -7,14 +7,14 @@ ghost use Rattle.sheet_digits.specs.declared.Line.the-variants.{Whole};
 ghost use Rattle.base_refusal.specs.declared.Reply.{Reply};
 ghost use Rattle.sheet_lines.specs.Format.{formatOf, Fits, heldBy};
 ghost use Rattle.sheet_lines.specs.Lines.{entriesBy, frameIn, frameVerdict, frameReadOf, padded, noFrame};
+use base_limits::Limits;
+use base_refusal::Refusal;
 use sheet_digits::Line;
 use sheet_digits::Sums;
 use sheet_lines::Frame;
 use sheet_lines::FrameLine;
 use sheet_lines::FrameRead;
 use sheet_lines::Layout;
-use base_limits::Limits;
-use base_refusal::Refusal;
 
 // What is held for an entry.
 fn held(short: bool, none: u32, e: u32) -> u32
@@ -45,7 +45,11 @@ fn entries_at(
     let mut entries = [0u32; Limits::CARDS];
     let mut j = 0;
     while j < n {
-        entries[j] = held(short, none, sheet_digits::state_at(s, at + j * width, width));
+        entries[j] = held(
+            short,
+            none,
+            sheet_digits::state_at(s, at + j * width, width),
+        );
         j += 1;
     }
     entries

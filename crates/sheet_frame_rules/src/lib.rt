@@ -6,9 +6,9 @@ ghost use lib.Dec.{eqb, leb};
 ghost use Rattle.base_laws.specs.Below.{allBelow};
 ghost use Rattle.sheet_lines.specs.Format.{formatOf};
 ghost use Rattle.sheet_lines.specs.Lines.{entriesAllowed, frameAllowed, entryAllowed};
+use base_limits::Limits;
 use sheet_lines::Frame;
 use sheet_lines::Layout;
-use base_limits::Limits;
 
 // Whether an entry may follow p: it may not fall, but in a short sheet it may.
 fn follows(short: bool, p: u32, e: u32) -> bool

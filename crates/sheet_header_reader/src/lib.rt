@@ -9,12 +9,12 @@ ghost use Rattle.sheet_digits.specs.Line.{shapeOf};
 ghost use Rattle.sheet_digits.specs.declared.Line.the-variants.{Whole};
 ghost use Rattle.sheet_lines.specs.Format.{formatOf};
 ghost use Rattle.sheet_lines.specs.Lines.{headerIn, headerAllowed, headerVerdict, headerOr};
+use base_limits::Limits;
+use base_refusal::Refusal;
 use sheet_digits::Line;
 use sheet_lines::Header;
 use sheet_lines::HeaderLine;
 use sheet_lines::Layout;
-use base_limits::Limits;
-use base_refusal::Refusal;
 
 // The number of cards that the header line at `at` tells, from as many of its digits as there are.
 pub fn told_at(s: &[u8], at: usize) -> u32

@@ -6,9 +6,9 @@ ghost use lib.ListN.{length, take, drop};
 ghost use lib.Seq.{sets};
 ghost use Rattle.sheet_digits.specs.Digits.{allDigits, digits};
 ghost use Rattle.sheet_digits.specs.Line.{summed, checkOf, checked, shapeOf};
+use base_refusal::Refusal;
 use sheet_digits::Line;
 use sheet_digits::Sums;
-use base_refusal::Refusal;
 
 // Whether the n bytes from `at` on are digits.
 fn all_digits(s: &[u8], at: usize, n: usize) -> bool

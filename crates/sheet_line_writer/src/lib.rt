@@ -7,11 +7,11 @@ ghost use lib.Seq.{sets};
 ghost use Rattle.sheet_digits.specs.Digits.{written};
 ghost use Rattle.sheet_lines.specs.Format.{formatOf, Fits, shownBy};
 ghost use Rattle.sheet_lines.specs.Lines.{headerLine, frameLine};
+use base_limits::Limits;
 use sheet_digits::Sums;
 use sheet_lines::Frame;
 use sheet_lines::Header;
 use sheet_lines::Layout;
-use base_limits::Limits;
 
 // The entry that a sheet has for what is held.
 fn entry_of(short: bool, none: u32, d: u32) -> u32

@@ -1,26 +1,25 @@
 -- The tests of the code, put together as the definitions have them, for any format. Assumes nothing.
-use Prim.Native.Nat.{ℕ, zero, suc, _+_, _*_, _-_, _^_, _≤_, _<_}
+use Prim.Native.Nat.{ℕ, zero, suc, _+_, _*_, _-_, _≤_, _<_}
 use mathlib.Core.Path.{_≡_, refl, sym, _∙_, ap}
 use mathlib.Core.Bool.{Bool, true, false, not, _&&_, _||_, cond}
-use mathlib.Core.List.{List, [], _∷_, _++_, map}
+use mathlib.Core.List.{List, [], _∷_, _++_}
 use native.Mathlib.Nat.{mul-le-mul, mul-le-mul-right}
 use native.Mathlib.Omega.{arith}
 use native.Mathlib.Decide.{decLe}
 use mathlib.Core.Logic.{by-cases}
 use lib.Dec.{leb, ltb, eqb}
-use lib.ListN.{length, take, drop, getD, set, replicate, length-drop, length-map, length-replicate}
+use lib.ListN.{length, take, drop, getD, set, replicate, length-map, length-replicate}
 use lib.Seq.{sets, sets-eq, getD-drop, drop-drop}
 use borrow.Author.Tests.{le-leb, lt-leb}
 use Rattle.base_refusal.specs.declared.Refusal.{Refusal}
 use Rattle.base_refusal.specs.declared.Refusal.the-variants.{BadCheck, BadHeader, BadFrame}
 use Rattle.base_laws.specs.Below.{allBelow}
-use Rattle.base_laws.proofs.Below.{all-at, all-intro}
-use Rattle.base_laws.proofs.Logic.{same-test, and-left, and-right, clash}
+use Rattle.base_laws.proofs.Below.{all-at}
+use Rattle.base_laws.proofs.Logic.{clash}
 use Rattle.sheet_digits.specs.declared.Sums.{Sums}
 use Rattle.sheet_digits.specs.declared.Line.the-variants.{Whole, Fault}
 use Rattle.sheet_digits.specs.Digits.{number, numbers}
 use Rattle.sheet_digits.specs.Line.{checked, shapeOf}
-use Rattle.base_refusal.specs.declared.Reply.{Reply}
 use Rattle.base_refusal.specs.declared.Reply.the-variants.{Done, Refused}
 use Rattle.sheet_lines.specs.declared.Header.{Header}
 use Rattle.sheet_lines.specs.declared.Frame.{Frame}

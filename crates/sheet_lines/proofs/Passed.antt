@@ -1,22 +1,19 @@
 -- What an accepted line tells, for any format. Assumes nothing.
-use Prim.Native.Nat.{ℕ, zero, suc, _+_, _*_, _-_, _≤_, _<_}
-use mathlib.Core.Path.{_≡_, refl, sym, _∙_, ap}
-use mathlib.Core.Bool.{Bool, true, false, not, _&&_, _||_, cond}
-use mathlib.Core.List.{List, [], _∷_, _++_}
+use Prim.Native.Nat.{ℕ, _+_, _≤_, _<_}
+use mathlib.Core.Path.{_≡_, refl}
+use mathlib.Core.Bool.{Bool, true, false, not, _&&_, _||_}
+use mathlib.Core.List.{List}
 use native.Mathlib.Omega.{arith}
 use lib.Dec.{leb, ltb, eqb}
-use lib.ListN.{length, drop}
 use borrow.Author.Tests.{leb-true, ltb-true, eqb-true, eqb-false}
 use Rattle.base_refusal.specs.declared.Refusal.{Refusal}
 use Rattle.base_refusal.specs.declared.Refusal.the-variants.{BadHeader, BadFrame}
-use Rattle.base_laws.proofs.Logic.{test, and-left, and-right, not-true}
+use Rattle.base_laws.proofs.Logic.{and-left, and-right, not-true}
 use Rattle.sheet_digits.specs.declared.Sums.{Sums}
 use Rattle.sheet_digits.specs.declared.Line.{Line}
 use Rattle.sheet_digits.specs.declared.Line.the-variants.{Whole, Fault}
-use Rattle.sheet_digits.specs.Line.{checked, shaped, shapeOf}
-use Rattle.sheet_digits.proofs.Lines.{whole-shaped, shaped-whole}
-use Rattle.base_refusal.specs.declared.Reply.{Reply}
-use Rattle.base_refusal.specs.declared.Reply.the-variants.{Done, Refused}
+use Rattle.sheet_digits.specs.Line.{checked, shapeOf}
+use Rattle.base_refusal.specs.declared.Reply.the-variants.{Done}
 use Rattle.sheet_lines.specs.declared.Header.{Header}
 use Rattle.sheet_lines.specs.declared.Frame.{Frame}
 use Rattle.sheet_lines.specs.Format.{Format}

@@ -1,9 +1,9 @@
 -- Document 01's header line and frame line: their bytes, and what their readers answer.
-use Prim.Native.Nat.{ℕ, _+_, _*_, _-_}
-use mathlib.Core.Bool.{Bool, true, false, not, _&&_, _||_, cond}
+use Prim.Native.Nat.{ℕ, _+_, _*_}
+use mathlib.Core.Bool.{Bool, not, _&&_, _||_, cond}
 use mathlib.Core.List.{List, [], _∷_, map}
 use lib.Dec.{leb, ltb, eqb}
-use lib.ListN.{length, take, drop, getD, replicate}
+use lib.ListN.{take, drop, getD, replicate}
 use lib.Seq.{sets}
 use Rattle.base_limits.specs.Document.{mostCards}
 use Rattle.base_refusal.specs.declared.Refusal.{Refusal}

@@ -2,10 +2,10 @@
 ghost use mathlib.Core.Path.{_≡_};
 ghost use Rattle.sheet_lines.specs.Format.{format, formatOf, Fits, plain, formats};
 ghost use Rattle.sheet_lines.specs.Lines.{headerReply, frameReply};
-use sheet_digits::Sums;
 use base_limits::Limits;
 use base_refusal::Refusal;
 use base_refusal::Reply;
+use sheet_digits::Sums;
 
 // What the readers and writers of lines are told of a sheet's format: the number that says none, the greatest state,
 // what a header's number of cards is raised by, the digits of a state and of an entry, and whether entries are needs.

@@ -8,6 +8,7 @@ use native.Mathlib.Omega.{arith}
 use lib.ListN.{length, getD, replicate, length-append}
 use lib.Seq.{sets}
 use borrow.Author.Tests.{le-leb, lt-leb, lt-ltb}
+use Rattle.base_limits.specs.Ring.{ringPlace}
 use Rattle.base_laws.specs.Below.{tabulate}
 use Rattle.base_laws.proofs.Logic.{cond-true}
 use Rattle.base_laws.proofs.Seq.{sets-append}
@@ -24,7 +25,6 @@ use Rattle.sheet_lines.specs.Lines.{cardsOf, formatFor, startOf, headerDigits, 
 use Rattle.sheet_lines.proofs.Passed.{header-limits}
 use Rattle.sheet_line_writer.proofs.Puts.{frame-line-length, header-line-length}
 use Rattle.sheet_pages.specs.Pages.{framesBytes, bytesIn, pageBytes}
-use Rattle.sheet_pages.specs.Walk.{placeOf}
 use Rattle.sheet_pages.specs.Ring.{ringFrame, ringPage}
 use Rattle.sheet_page_writer.specs.declared.Written.{Written}
 use Rattle.sheet_page_writer.specs.declared.Written.the-variants.{Length, Refused as written-refused}
@@ -102,7 +102,7 @@ next-row changes entries card base k h e =
     e ∙ cond-true (ringFrame changes entries 16 card (base + 1 + k)) noFrame (lt-ltb card 16 h) ∙ ap (ringFrame changes entries 16 card) z
 
 pub row-length : (changes entries : List ℕ) (card base k : ℕ) → length (rowsOf changes entries card base k .entries) ≡ 16
-row-length changes entries card base k = length-tabulate 16 (λ j. getD entries (placeOf card (suc (base + k)) * 16 + j) 0)
+row-length changes entries card base k = length-tabulate 16 (λ j. getD entries (ringPlace card (suc (base + k)) * 16 + j) 0)
 
 pub sheet-length : (f : Format) (changes entries : List ℕ) (h : Header) {n : ℕ} → n ≡ cardsOf f h → n ≤ 16 → length (bytesIn f (ringRows changes entries h)) ≡ headerDigits f + 5 + h .count * (frameDigits f n + 5)
 sheet-length f changes entries h {n} e few =
@@ -168,7 +168,7 @@ module _ (changes entries : List ℕ) (h : Header) (few : cardsOf (formatFor for
 
   pub ring-alike : (c x : ℕ) → Alike n (ringFrame changes entries 16 c x) (ringFrame changes entries n c x)
   ring-alike c x =
-      let entry : ℕ → ℕ = λ j. getD entries (placeOf c x * 16 + j) 0 in
+      let entry : ℕ → ℕ = λ j. getD entries (ringPlace c x * 16 + j) 0 in
       record {
         change = refl;
         left = rw (length-tabulate 16 entry) few;

@@ -11,11 +11,11 @@ ghost use Rattle.sheet_pages.specs.Pages.{bytesIn, pageBytes};
 ghost use Rattle.sheet_pages.specs.Ring.{ringPage};
 ghost use Rattle.base_refusal.specs.declared.Reply.the-variants.{Done};
 ghost use Rattle.sheet_page_writer.specs.Write.{heldFrame, ringRows, wroteBytes};
+use base_limits::Limits;
+use base_refusal::Refusal;
 use sheet_lines::Frame;
 use sheet_lines::Header;
 use sheet_lines::Layout;
-use base_limits::Limits;
-use base_refusal::Refusal;
 
 pub enum Written {
     Length(usize),

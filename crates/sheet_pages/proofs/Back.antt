@@ -6,6 +6,7 @@ use native.Mathlib.Nat.{not-suc-le-zero, le-of-suc-le-suc}
 use native.Mathlib.Omega.{arith}
 use lib.ListN.{length, getD}
 use lib.Seq.{getD-set-same}
+use Rattle.base_limits.specs.Ring.{ringPlace}
 use Rattle.base_laws.specs.Below.{tabulate}
 use Rattle.base_laws.proofs.Fill.{tabulate-ext}
 use Rattle.sheet_lines.specs.declared.Header.{Header}
@@ -17,7 +18,7 @@ use Rattle.sheet_lines.proofs.Passed.{header-limits}
 use Rattle.sheet_pages.specs.declared.Readout.{Readout}
 use Rattle.sheet_pages.specs.Pages.{Page}
 use Rattle.sheet_pages.specs.Allowed.{Formed, Allowed}
-use Rattle.sheet_pages.specs.Walk.{placeOf, noReadout, layHeader, layPage}
+use Rattle.sheet_pages.specs.Walk.{noReadout, layHeader, layPage}
 use Rattle.sheet_pages.specs.Ring.{ringFrame, ringPage, headerOf, pageOf}
 use Rattle.sheet_pages.proofs.Lay.{Sized, none-sized, header-sized, frames-heads, counts-own, changes-own, entries-own, zeros}
 
@@ -69,9 +70,9 @@ module _ (p : Page) (r : Readout) (s : Sized r) (is-card : p .header .card < 16)
         let es = getD (p .frames) k noFrame .entries in
         let long : length es ≡ n = formed-at n (p .frames) formed k l in
         let short : length es ≤ 16 = omega arith in
-        let change : getD (p .frames) k noFrame .change ≡ getD (laid-page .changes) (placeOf c (suc (h .base + k))) 0 = rw (← z) (sym (changes-own c is-card (h .base + 1) 0 (p .frames) (layHeader h r) sized few k noFrame l)) in
-        let entries : es ≡ tabulate n (λ j. getD (laid-page .entries) (placeOf c (suc (h .base + k)) * 16 + j) 0) =
-        tabulate-ext 0 n (λ j. getD (laid-page .entries) (placeOf c (suc (h .base + k)) * 16 + j) 0) es long
+        let change : getD (p .frames) k noFrame .change ≡ getD (laid-page .changes) (ringPlace c (suc (h .base + k))) 0 = rw (← z) (sym (changes-own c is-card (h .base + 1) 0 (p .frames) (layHeader h r) sized few k noFrame l)) in
+        let entries : es ≡ tabulate n (λ j. getD (laid-page .entries) (ringPlace c (suc (h .base + k)) * 16 + j) 0) =
+        tabulate-ext 0 n (λ j. getD (laid-page .entries) (ringPlace c (suc (h .base + k)) * 16 + j) 0) es long
         (λ j b. sym (padded-at es short j) ∙ rw (← z) (sym (entries-own c is-card (h .base + 1) 0 (p .frames) (layHeader h r) sized few k j noFrame l (omega arith)))) in
         λ i. record { change = change i; entries = entries i }
 

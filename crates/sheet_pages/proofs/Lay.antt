@@ -8,6 +8,7 @@ use native.Mathlib.Decide.{decLt}
 use native.Mathlib.Omega.{arith}
 use lib.ListN.{length, getD, set, replicate, length-set, length-replicate}
 use lib.Seq.{sets, length-sets, getD-set-same, getD-set-other}
+use Rattle.base_limits.specs.Ring.{ringPlace}
 use Rattle.base_laws.specs.Below.{tabulate}
 use Rattle.base_laws.proofs.Below.{below-suc}
 use Rattle.sheet_lines.specs.declared.Header.{Header}
@@ -15,7 +16,7 @@ use Rattle.sheet_lines.specs.declared.Frame.{Frame}
 use Rattle.sheet_lines.specs.Lines.{padded}
 use Rattle.sheet_pages.specs.declared.Readout.{Readout}
 use Rattle.sheet_pages.specs.Pages.{Page}
-use Rattle.sheet_pages.specs.Walk.{placeOf, noReadout, layHeader, layFrame, layFrames, layPage, layPages}
+use Rattle.sheet_pages.specs.Walk.{noReadout, layHeader, layFrame, layFrames, layPage, layPages}
 
 -- ---- a run of values stored
 module _ {A : Type 0} (d : A) where
@@ -80,8 +81,8 @@ header-sized h r s =
 frame-sized : (card state k : ℕ) (fr : Frame) (r : Readout) → Sized r → Sized (layFrame card state k fr r)
 frame-sized card state k fr r s =
     record {
-      changes = length-set (r .changes) (placeOf card state) (fr .change) ∙ s .changes;
-      entries = length-sets (r .entries) (placeOf card state * 16) (padded (fr .entries)) ∙ s .entries;
+      changes = length-set (r .changes) (ringPlace card state) (fr .change) ∙ s .changes;
+      entries = length-sets (r .entries) (ringPlace card state * 16) (padded (fr .entries)) ∙ s .entries;
       sessions = s .sessions;
       bases = s .bases;
       counts = length-set (r .counts) card (k + 1) ∙ s .counts;
@@ -116,11 +117,11 @@ module _ (card : ℕ) (is-card : card < 16) where
       back : k + 1 + length frs ≡ k + suc (length frs)
       back = omega arith
 
-  changes-other : (state k : ℕ) (frs : List Frame) (r : Readout) (q : ℕ) → ((i : ℕ) → i < length frs → ¬ (q ≡ placeOf card (state + i))) → getD (layFrames card state k frs r .changes) q 0 ≡ getD (r .changes) q 0
+  changes-other : (state k : ℕ) (frs : List Frame) (r : Readout) (q : ℕ) → ((i : ℕ) → i < length frs → ¬ (q ≡ ringPlace card (state + i))) → getD (layFrames card state k frs r .changes) q 0 ≡ getD (r .changes) q 0
   changes-other state k [] r q f = refl
   changes-other state k (fr ∷ frs) r q f =
-      changes-other (state + 1) (k + 1) frs (layFrame card state k fr r) q (λ i h e. f (suc i) (later h) (e ∙ ap (placeOf card) (next i)))
-      ∙ getD-set-other (r .changes) (placeOf card state) q (fr .change) 0 (λ e. f 0 first (e ∙ ap (placeOf card) now))
+      changes-other (state + 1) (k + 1) frs (layFrame card state k fr r) q (λ i h e. f (suc i) (later h) (e ∙ ap (ringPlace card) (next i)))
+      ∙ getD-set-other (r .changes) (ringPlace card state) q (fr .change) 0 (λ e. f 0 first (e ∙ ap (ringPlace card) now))
     where
       later : {i : ℕ} → i < length frs → suc i < suc (length frs)
       later h = omega arith
@@ -134,24 +135,24 @@ module _ (card : ℕ) (is-card : card < 16) where
       now : state ≡ state + 0
       now = omega arith
 
-  pub changes-own : (state k : ℕ) (frs : List Frame) (r : Readout) → Sized r → length frs ≤ 48 → (i : ℕ) (fr₀ : Frame) → i < length frs → getD (layFrames card state k frs r .changes) (placeOf card (state + i)) 0 ≡ getD frs i fr₀ .change
+  pub changes-own : (state k : ℕ) (frs : List Frame) (r : Readout) → Sized r → length frs ≤ 48 → (i : ℕ) (fr₀ : Frame) → i < length frs → getD (layFrames card state k frs r .changes) (ringPlace card (state + i)) 0 ≡ getD frs i fr₀ .change
   changes-own state k [] r s few i fr₀ h = absurd (not-suc-le-zero h)
   changes-own state k (fr ∷ frs) r s few zero fr₀ h =
       let now : state + 0 ≡ state = omega arith in
-      let room : placeOf card state < length (r .changes) = omega (arith, s .changes) in
+      let room : ringPlace card state < length (r .changes) = omega (arith, s .changes) in
       rw now
-      (changes-other (state + 1) (k + 1) frs (layFrame card state k fr r) (placeOf card state) (λ i l e. absurd (omega (arith, few, l, e)))
-      ∙ getD-set-same (r .changes) (placeOf card state) (fr .change) 0 room)
+      (changes-other (state + 1) (k + 1) frs (layFrame card state k fr r) (ringPlace card state) (λ i l e. absurd (omega (arith, few, l, e)))
+      ∙ getD-set-same (r .changes) (ringPlace card state) (fr .change) 0 room)
   changes-own state k (fr ∷ frs) r s few (suc i) fr₀ h =
       let next : state + suc i ≡ state + 1 + i = omega arith in
       let fewer : length frs ≤ 48 = omega arith in
       rw next (changes-own (state + 1) (k + 1) frs (layFrame card state k fr r) (frame-sized card state k fr r s) fewer i fr₀ (le-of-suc-le-suc h))
 
-  entries-other : (state k : ℕ) (frs : List Frame) (r : Readout) (q j : ℕ) → j < 16 → ((i : ℕ) → i < length frs → ¬ (q ≡ placeOf card (state + i))) → getD (layFrames card state k frs r .entries) (q * 16 + j) 0 ≡ getD (r .entries) (q * 16 + j) 0
+  entries-other : (state k : ℕ) (frs : List Frame) (r : Readout) (q j : ℕ) → j < 16 → ((i : ℕ) → i < length frs → ¬ (q ≡ ringPlace card (state + i))) → getD (layFrames card state k frs r .entries) (q * 16 + j) 0 ≡ getD (r .entries) (q * 16 + j) 0
   entries-other state k [] r q j lj f = refl
   entries-other state k (fr ∷ frs) r q j lj f =
-      entries-other (state + 1) (k + 1) frs (layFrame card state k fr r) q j lj (λ i h e. f (suc i) (later h) (e ∙ ap (placeOf card) (next i)))
-      ∙ sets-outside 0 (padded (fr .entries)) (r .entries) (placeOf card state * 16) (q * 16 + j) apart
+      entries-other (state + 1) (k + 1) frs (layFrame card state k fr r) q j lj (λ i h e. f (suc i) (later h) (e ∙ ap (ringPlace card) (next i)))
+      ∙ sets-outside 0 (padded (fr .entries)) (r .entries) (ringPlace card state * 16) (q * 16 + j) apart
     where
       later : {i : ℕ} → i < length frs → suc i < suc (length frs)
       later h = omega arith
@@ -159,8 +160,8 @@ module _ (card : ℕ) (is-card : card < 16) where
       next : (i : ℕ) → state + 1 + i ≡ state + suc i
       next i = omega arith
 
-      differs : ¬ (q ≡ placeOf card state)
-      differs e = f 0 (first) (e ∙ ap (placeOf card) now)
+      differs : ¬ (q ≡ ringPlace card state)
+      differs e = f 0 (first) (e ∙ ap (ringPlace card) now)
         where
           first : 0 < suc (length frs)
           first = omega arith
@@ -168,26 +169,26 @@ module _ (card : ℕ) (is-card : card < 16) where
           now : state ≡ state + 0
           now = omega arith
 
-      apart : (q * 16 + j < placeOf card state * 16) ⊎ (placeOf card state * 16 + length (padded (fr .entries)) ≤ q * 16 + j)
+      apart : (q * 16 + j < ringPlace card state * 16) ⊎ (ringPlace card state * 16 + length (padded (fr .entries)) ≤ q * 16 + j)
       apart =
-          by-cases (decLt q (placeOf card state)) (λ h. inl (below h)) (λ h. inr (above h))
+          by-cases (decLt q (ringPlace card state)) (λ h. inl (below h)) (λ h. inr (above h))
         where
-          below : q < placeOf card state → q * 16 + j < placeOf card state * 16
+          below : q < ringPlace card state → q * 16 + j < ringPlace card state * 16
           below h = omega arith
 
-          above : ¬ (q < placeOf card state) → placeOf card state * 16 + length (padded (fr .entries)) ≤ q * 16 + j
+          above : ¬ (q < ringPlace card state) → ringPlace card state * 16 + length (padded (fr .entries)) ≤ q * 16 + j
           above h = let ne = differs in omega (arith, h, ne, length-padded (fr .entries))
 
   pub entries-own : (state k : ℕ) (frs : List Frame) (r : Readout) → Sized r → length frs ≤ 48 → (i j : ℕ) (fr₀ : Frame) → i < length frs → j < 16
-      → getD (layFrames card state k frs r .entries) (placeOf card (state + i) * 16 + j) 0 ≡ getD (padded (getD frs i fr₀ .entries)) j 0
+      → getD (layFrames card state k frs r .entries) (ringPlace card (state + i) * 16 + j) 0 ≡ getD (padded (getD frs i fr₀ .entries)) j 0
   entries-own state k [] r s few i j fr₀ h lj = absurd (not-suc-le-zero h)
   entries-own state k (fr ∷ frs) r s few zero j fr₀ h lj =
       let now : state + 0 ≡ state = omega arith in
-      let room : placeOf card state * 16 + length (padded (fr .entries)) ≤ length (r .entries) = omega (arith, s .entries, length-padded (fr .entries)) in
+      let room : ringPlace card state * 16 + length (padded (fr .entries)) ≤ length (r .entries) = omega (arith, s .entries, length-padded (fr .entries)) in
       let in-row : j < length (padded (fr .entries)) = omega (arith, length-padded (fr .entries)) in
       rw now
-      (entries-other (state + 1) (k + 1) frs (layFrame card state k fr r) (placeOf card state) j lj (λ i l e. absurd (omega (arith, few, l, e)))
-      ∙ sets-inside 0 (padded (fr .entries)) (r .entries) (placeOf card state * 16) j room in-row)
+      (entries-other (state + 1) (k + 1) frs (layFrame card state k fr r) (ringPlace card state) j lj (λ i l e. absurd (omega (arith, few, l, e)))
+      ∙ sets-inside 0 (padded (fr .entries)) (r .entries) (ringPlace card state * 16) j room in-row)
   entries-own state k (fr ∷ frs) r s few (suc i) j fr₀ h lj =
       let next : state + suc i ≡ state + 1 + i = omega arith in
       let fewer : length frs ≤ 48 = omega arith in
@@ -205,8 +206,8 @@ pub record Holds (n : ℕ) (page : ℕ → Page) (r : Readout) : Type 0 where
   pub session : (c : ℕ) → c < n → getD (r .sessions) c 0 ≡ page c .header .session
   pub base : (c : ℕ) → c < n → getD (r .bases) c 0 ≡ page c .header .base
   pub count : (c : ℕ) → c < n → getD (r .counts) c 0 ≡ length (page c .frames)
-  pub change : (c i : ℕ) (fr₀ : Frame) → c < n → i < length (page c .frames) → getD (r .changes) (placeOf c (page c .header .base + 1 + i)) 0 ≡ getD (page c .frames) i fr₀ .change
-  pub entry : (c i j : ℕ) (fr₀ : Frame) → c < n → i < length (page c .frames) → j < 16 → getD (r .entries) (placeOf c (page c .header .base + 1 + i) * 16 + j) 0 ≡ getD (padded (getD (page c .frames) i fr₀ .entries)) j 0
+  pub change : (c i : ℕ) (fr₀ : Frame) → c < n → i < length (page c .frames) → getD (r .changes) (ringPlace c (page c .header .base + 1 + i)) 0 ≡ getD (page c .frames) i fr₀ .change
+  pub entry : (c i j : ℕ) (fr₀ : Frame) → c < n → i < length (page c .frames) → j < 16 → getD (r .entries) (ringPlace c (page c .header .base + 1 + i) * 16 + j) 0 ≡ getD (padded (getD (page c .frames) i fr₀ .entries)) j 0
   pub no-base : (c : ℕ) → n ≤ c → getD (r .bases) c 0 ≡ 0
   pub no-count : (c : ℕ) → n ≤ c → getD (r .counts) c 0 ≡ 0
   pub no-session : (c : ℕ) → n ≤ c → getD (r .sessions) c 0 ≡ 0
@@ -262,10 +263,10 @@ laid-holds page (suc n) few cards short =
           count = λ c h. ⊎-elim (λ (q : c ≡ n). rw q (counts-own n is-card (h₀ .base + 1) 0 (page n .frames) headed headed-sized (k .no-count n (same n)) ∙ zero-add′ (length (page n .frames)))) (λ (l : c < n). counts-other n is-card (h₀ .base + 1) 0 (page n .frames) headed c (λ q. absurd (omega (arith, l, q))) ∙ k .count c l) (below-suc h);
           change = λ c i fr₀ h li. ⊎-elim
               (λ (q : c ≡ n). rw q (changes-own n is-card (h₀ .base + 1) 0 (page n .frames) headed headed-sized (short n (next n)) i fr₀ (rw q at li)))
-              (λ (l : c < n). changes-other n is-card (h₀ .base + 1) 0 (page n .frames) headed (placeOf c (page c .header .base + 1 + i)) (λ i′ l′ e. absurd (omega (arith, l, e))) ∙ k .change c i fr₀ l li) (below-suc h);
+              (λ (l : c < n). changes-other n is-card (h₀ .base + 1) 0 (page n .frames) headed (ringPlace c (page c .header .base + 1 + i)) (λ i′ l′ e. absurd (omega (arith, l, e))) ∙ k .change c i fr₀ l li) (below-suc h);
           entry = λ c i j fr₀ h li lj. ⊎-elim
               (λ (q : c ≡ n). rw q (entries-own n is-card (h₀ .base + 1) 0 (page n .frames) headed headed-sized (short n (next n)) i j fr₀ (rw q at li) lj))
-              (λ (l : c < n). entries-other n is-card (h₀ .base + 1) 0 (page n .frames) headed (placeOf c (page c .header .base + 1 + i)) j lj (λ i′ l′ e. absurd (omega (arith, l, e))) ∙ k .entry c i j fr₀ l li lj) (below-suc h);
+              (λ (l : c < n). entries-other n is-card (h₀ .base + 1) 0 (page n .frames) headed (ringPlace c (page c .header .base + 1 + i)) j lj (λ i′ l′ e. absurd (omega (arith, l, e))) ∙ k .entry c i j fr₀ l li lj) (below-suc h);
           no-base = λ c h. at-heads .1 c ∙ getD-set-other (r .bases) n c (h₀ .base) 0 (λ q. absurd (omega (arith, h, q))) ∙ k .no-base c (fewer h);
           no-count = λ c h. counts-other n is-card (h₀ .base + 1) 0 (page n .frames) headed c (λ q. absurd (omega (arith, h, q))) ∙ k .no-count c (fewer h);
           no-session = λ c h. at-heads .0 c ∙ getD-set-other (r .sessions) n c (h₀ .session) 0 (λ q. absurd (omega (arith, h, q))) ∙ k .no-session c (fewer h);

@@ -1,20 +1,19 @@
 -- Sheets and read-outs: written and read back, read and written again, one byte altered, one frame too few; for any format, any number of entries and any width.
 -- Assumes nothing.
-use Prim.Native.Nat.{ℕ, zero, suc, _+_, _*_, _-_, _^_, _≤_, _<_}
+use Prim.Native.Nat.{ℕ, zero, suc, _+_, _-_, _≤_, _<_}
 use mathlib.Core.Path.{_≡_, refl, sym, _∙_, ap}
-use mathlib.Core.Bool.{Bool, true, false, _&&_, cond}
+use mathlib.Core.Bool.{Bool, true, false, cond}
 use mathlib.Core.List.{List, [], _∷_, _++_, append-assoc, append-nil}
 use mathlib.Core.Logic.{_⊎_, inl, inr, ⊎-elim, by-cases}
 use native.Mathlib.Nat.{suc-add, zero-add, add-zero}
 use native.Mathlib.Decide.{decLt}
 use native.Mathlib.Omega.{arith}
 use lib.Dec.{eqb, eqb·suc-zero}
-use lib.ListN.{length, take, drop, getD, set, length-append, length-set, length-drop}
+use lib.ListN.{length, drop, getD, set, length-drop}
 use lib.Seq.{getD-drop, drop-set-add}
-use borrow.Author.Tests.{eqb-true, eq-eqb}
 use Rattle.base_refusal.specs.declared.Refusal.{Refusal}
 use Rattle.base_refusal.specs.declared.Refusal.the-variants.{BadLine, BadCheck, BadFrame, EndOrMore}
-use Rattle.base_laws.proofs.Logic.{test, and-left, and-right}
+use Rattle.base_laws.proofs.Logic.{and-left, and-right}
 use Rattle.sheet_digits.specs.declared.Sums.{Sums}
 use Rattle.sheet_digits.specs.declared.Line.the-variants.{Whole, Fault}
 use Rattle.sheet_digits.specs.Line.{shaped, checked, shapeOf}
@@ -23,8 +22,8 @@ use Rattle.base_refusal.specs.declared.Reply.the-variants.{Done, Refused}
 use Rattle.sheet_lines.specs.declared.Header.{Header}
 use Rattle.sheet_lines.specs.declared.Frame.{Frame}
 use Rattle.sheet_lines.specs.Format.{Format, Formats, formats}
-use Rattle.sheet_lines.specs.Lines.{cardsOf, formatIn, formatFor, startOf, headerDigits, headerLine, headerIn, headerAllowed, headerVerdict, frameDigits, frameLine, frameIn, stateIn, judged, frameAllowed, frameVerdict, noFrame}
-use Rattle.sheet_lines.proofs.Passed.{header-passed, header-within, frame-passed, header-limits}
+use Rattle.sheet_lines.specs.Lines.{cardsOf, formatIn, formatFor, startOf, headerDigits, headerLine, headerIn, headerVerdict, frameDigits, frameLine, frameIn, stateIn, judged, frameAllowed, frameVerdict, noFrame}
+use Rattle.sheet_lines.proofs.Passed.{header-limits}
 use Rattle.sheet_line_round.proofs.Round.{Valid, format-valid, header-back, header-rest, header-accepted, header-again, frame-back, frame-rest, frame-accepted, frame-again, told-again, told-untouched, Alike, header-altered, frame-altered, header-untouched, frame-untouched, header-room, frame-room}
 use Rattle.sheet_pages.specs.Pages.{Page, framesBytes, bytesIn, pageBytes, pagesBytes, Frames, withFrame, readFrames, framesOf, Sheets, withSheet, sheetIn, readSheet, ended, moreSheets, readSheets}
 use Rattle.sheet_pages.proofs.Walk.{accepts-or}

@@ -1,34 +1,32 @@
 -- The walk over sheets and frames: what is left of it at each place gives the whole. Assumes nothing.
-use Prim.Native.Nat.{ℕ, zero, suc, _+_, _*_, _-_, _%_, _≤_, _<_, zero-le}
+use Prim.Native.Nat.{ℕ, zero, suc, _+_, _*_, _-_, _≤_, _<_, zero-le}
 use mathlib.Core.Path.{_≡_, refl, sym, _∙_, ap}
 use mathlib.Core.Bool.{Bool, true, false, _||_, cond}
-use mathlib.Core.List.{List, [], _∷_, _++_}
+use mathlib.Core.List.{List, []}
 use mathlib.Core.Logic.{_⊎_, inl, inr, ⊎-elim}
 use native.Mathlib.Omega.{arith}
 use lib.Dec.{eqb}
-use lib.ListN.{length, take, drop, getD, set, replicate, length-set}
-use lib.Seq.{sets, drop-drop, length-sets}
+use lib.ListN.{length, drop, set}
+use lib.Seq.{sets, drop-drop}
 use borrow.Author.Tests.{eq-eqb, ne-eqb, eqb-true}
+use Rattle.base_limits.specs.Ring.{ringPlace}
 use Rattle.base_refusal.specs.declared.Refusal.{Refusal}
-use Rattle.base_laws.proofs.Logic.{test, or-elim, cond-case}
+use Rattle.base_laws.proofs.Logic.{or-elim, cond-case}
 use Rattle.sheet_digits.specs.declared.Sums.{Sums}
-use Rattle.sheet_digits.proofs.Lines.{whole-room}
 use Rattle.base_refusal.specs.declared.Reply.{Reply}
 use Rattle.base_refusal.specs.declared.Reply.the-variants.{Done, Refused}
 use Rattle.sheet_lines.specs.declared.Header.{Header}
 use Rattle.sheet_lines.specs.declared.HeaderLine.the-variants.{Read as header-read, Fault as header-fault}
 use Rattle.sheet_lines.specs.declared.Frame.{Frame}
-use Rattle.sheet_lines.specs.declared.FrameRead.{FrameRead}
-use Rattle.sheet_lines.specs.declared.FrameLine.{FrameLine}
 use Rattle.sheet_lines.specs.declared.FrameLine.the-variants.{Read as frame-read, Fault as frame-fault}
-use Rattle.sheet_lines.specs.Format.{Format, Formats, formatOf}
-use Rattle.sheet_lines.specs.Lines.{cardsOf, formatIn, startOf, headerDigits, headerIn, headerVerdict, headerOr, headerReply, frameDigits, frameIn, frameAllowed, frameVerdict, frameReadOf, frameReply, padded, noFrame, entriesIn}
-use Rattle.sheet_lines.proofs.Passed.{header-passed, header-within, frame-passed, Header-in-limits}
+use Rattle.sheet_lines.specs.Format.{Format, Formats}
+use Rattle.sheet_lines.specs.Lines.{cardsOf, formatIn, headerDigits, headerIn, headerVerdict, headerOr, frameDigits, frameIn, frameAllowed, frameVerdict, frameReadOf, padded, noFrame}
+use Rattle.sheet_lines.proofs.Passed.{header-within, Header-in-limits}
 use Rattle.sheet_lines.proofs.Judged.{entries-same, padded-at, entries-count}
 use Rattle.sheet_pages.specs.declared.Readout.{Readout}
 use Rattle.sheet_pages.specs.declared.Reading.{Reading}
-use Rattle.sheet_pages.specs.Pages.{Page, Frames, withFrame, readFrames, framesOf, Sheets, withSheet, sheetIn, readSheet, ended, moreSheets, readSheets}
-use Rattle.sheet_pages.specs.Walk.{placeOf, noReadout, layHeader, layFrame, layFrames, layPage, layPages, laid, readUpTo, answered, readingIn}
+use Rattle.sheet_pages.specs.Pages.{Frames, withFrame, readFrames, framesOf, Sheets, withSheet, ended, moreSheets, readSheets}
+use Rattle.sheet_pages.specs.Walk.{noReadout, layHeader, layFrame, layFrames, laid, readUpTo, answered, readingIn}
 
 -- ---- answers told apart
 
@@ -300,9 +298,9 @@ module _ {F : Formats} {f : Format} {s : List ℕ} {card : ℕ} {all : Bool} {du
       frameVerdict f (f .start due session) due n (base + 1 + k) last (drop at s) ≡ Done →
       frameIn f n (drop at s) .change ≡ change →
       es ≡ padded (frameIn f n (drop at s) .entries) →
-      stored ≡ sets (r .entries) (placeOf due (base + 1 + k) * 16) es →
+      stored ≡ sets (r .entries) (ringPlace due (base + 1 + k) * 16) es →
       Inner F f s card all due left n base count session i
-      (record { changes = set (r .changes) (placeOf due (base + 1 + k)) change; entries = stored; sessions = r .sessions; bases = r .bases; counts = set (r .counts) i (k + 1); cards = r .cards })
+      (record { changes = set (r .changes) (ringPlace due (base + 1 + k)) change; entries = stored; sessions = r .sessions; bases = r .bases; counts = set (r .counts) i (k + 1); cards = r .cards })
       (at + (frameDigits f n + 5))
       (record { change = change; entries = es })
       (k + 1)

@@ -9,6 +9,7 @@ use native.Mathlib.Omega.{arith}
 use lib.Dec.{eqb, ltb}
 use lib.ListN.{length, getD}
 use borrow.Author.Tests.{eqb-true, ltb-true, eq-eqb, ne-eqb, lt-ltb, le-leb}
+use Rattle.base_limits.specs.Ring.{ringPlace}
 use Rattle.base_laws.specs.Below.{tabulate}
 use Rattle.base_laws.proofs.Logic.{and-left, and-right, or-right, or-elim}
 use Rattle.base_laws.proofs.Fill.{length-tabulate, getD-tabulate, tabulate-ext}
@@ -20,7 +21,7 @@ use Rattle.sheet_lines.proofs.Passed.{header-limits}
 use Rattle.sheet_lines.proofs.Judged.{header-tests, padded-at}
 use Rattle.sheet_pages.specs.declared.Readout.{Readout}
 use Rattle.sheet_pages.specs.Pages.{Page, pagesBytes, readSheets}
-use Rattle.sheet_pages.specs.Walk.{placeOf, noReadout, layPages}
+use Rattle.sheet_pages.specs.Walk.{noReadout, layPages}
 use Rattle.sheet_pages.specs.Allowed.{framesAllowed, Formed, Allowed, AllAllowed}
 use Rattle.sheet_pages.specs.Ring.{ringFrame, headerOf, pageOf, pagesOf, pageAt, noPage}
 use Rattle.sheet_pages.specs.Whole.{SheetOf, Whole}
@@ -229,23 +230,23 @@ module _ (ps : List Page) (w : Whole formats ps) where
         x-is : pageAt ps c .header .base + 1 + k ≡ suc (getD (layPages ps noReadout .bases) c 0 + k)
         x-is = let b : getD (layPages ps noReadout .bases) c 0 ≡ pageAt ps c .header .base = whole-holds .base c h in omega arith
 
-        change-is : getD (pageAt ps c .frames) k noFrame .change ≡ getD (out .changes) (placeOf c (suc (getD (out .bases) c 0 + k))) 0
-        change-is = sym (whole-holds .change c k noFrame h l) ∙ ap (λ (x : ℕ). getD (out .changes) (placeOf c x) 0) x-is
+        change-is : getD (pageAt ps c .frames) k noFrame .change ≡ getD (out .changes) (ringPlace c (suc (getD (out .bases) c 0 + k))) 0
+        change-is = sym (whole-holds .change c k noFrame h l) ∙ ap (λ (x : ℕ). getD (out .changes) (ringPlace c x) 0) x-is
 
         long : length (getD (pageAt ps c .frames) k noFrame .entries) ≡ length ps
         long = formed-at (length ps) (pageAt ps c .frames) (w .sheet c h .formed) k l
 
-        entry-is : (j : ℕ) → j < length ps → getD (getD (pageAt ps c .frames) k noFrame .entries) j 0 ≡ getD (out .entries) (placeOf c (suc (getD (out .bases) c 0 + k)) * 16 + j) 0
+        entry-is : (j : ℕ) → j < length ps → getD (getD (pageAt ps c .frames) k noFrame .entries) j 0 ≡ getD (out .entries) (ringPlace c (suc (getD (out .bases) c 0 + k)) * 16 + j) 0
         entry-is j g =
             let few : length ps ≤ 16 = w .few in
             let n = long in
             sym (padded-at (getD (pageAt ps c .frames) k noFrame .entries) (omega arith) j) ∙ sym (whole-holds .entry c k j noFrame h l (omega arith))
-            ∙ ap (λ (x : ℕ). getD (out .entries) (placeOf c x * 16 + j) 0) x-is
+            ∙ ap (λ (x : ℕ). getD (out .entries) (ringPlace c x * 16 + j) 0) x-is
 
-        entries-are : getD (pageAt ps c .frames) k noFrame .entries ≡ tabulate (out .cards) (λ j. getD (out .entries) (placeOf c (suc (getD (out .bases) c 0 + k)) * 16 + j) 0)
+        entries-are : getD (pageAt ps c .frames) k noFrame .entries ≡ tabulate (out .cards) (λ j. getD (out .entries) (ringPlace c (suc (getD (out .bases) c 0 + k)) * 16 + j) 0)
         entries-are =
-            tabulate-ext 0 (length ps) (λ j. getD (out .entries) (placeOf c (suc (getD (out .bases) c 0 + k)) * 16 + j) 0) (getD (pageAt ps c .frames) k noFrame .entries) long entry-is
-            ∙ ap (λ (n : ℕ). tabulate n (λ j. getD (out .entries) (placeOf c (suc (getD (out .bases) c 0 + k)) * 16 + j) 0)) (sym whole-cards)
+            tabulate-ext 0 (length ps) (λ j. getD (out .entries) (ringPlace c (suc (getD (out .bases) c 0 + k)) * 16 + j) 0) (getD (pageAt ps c .frames) k noFrame .entries) long entry-is
+            ∙ ap (λ (n : ℕ). tabulate n (λ j. getD (out .entries) (ringPlace c (suc (getD (out .bases) c 0 + k)) * 16 + j) 0)) (sym whole-cards)
 
     page-back : pageAt ps c ≡ pageOf (layPages ps noReadout) c
     page-back = λ i. record { header = header-is i; frames = frames-are i }

@@ -1,10 +1,9 @@
 -- Document 01's sheets and read-outs as lists of frames: their bytes, and what a reader answers to any bytes.
 use Prim.Native.Nat.{ℕ, zero, suc, _+_, _-_}
-use mathlib.Core.Bool.{Bool, true, false, cond}
+use mathlib.Core.Bool.{Bool, cond}
 use mathlib.Core.List.{List, [], _∷_, _++_}
 use lib.Dec.{eqb}
 use lib.ListN.{length, drop}
-use Rattle.base_refusal.specs.declared.Refusal.{Refusal}
 use Rattle.base_refusal.specs.declared.Refusal.the-variants.{EndOrMore}
 use Rattle.sheet_digits.specs.declared.Sums.{Sums}
 use Rattle.base_refusal.specs.declared.Reply.{Reply}

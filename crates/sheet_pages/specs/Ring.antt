@@ -2,6 +2,7 @@
 use Prim.Native.Nat.{ℕ, suc, _+_, _*_}
 use mathlib.Core.List.{List, []}
 use lib.ListN.{getD}
+use Rattle.base_limits.specs.Ring.{ringPlace}
 use Rattle.base_limits.specs.Document.{mostCards}
 use Rattle.base_laws.specs.Below.{tabulate}
 use Rattle.sheet_lines.specs.declared.Header.{Header}
@@ -10,11 +11,10 @@ use Rattle.sheet_lines.specs.Format.{formats}
 use Rattle.sheet_lines.specs.Lines.{cardsOf, formatFor}
 use Rattle.sheet_pages.specs.declared.Readout.{Readout}
 use Rattle.sheet_pages.specs.Pages.{Page}
-use Rattle.sheet_pages.specs.Walk.{placeOf}
 
 -- the frame of state x of card c: its change, and an entry for each of n cards
 abbrev pub ringFrame : (changes entries : List ℕ) → (n c x : ℕ) → Frame
-ringFrame changes entries n c x = record { change = getD changes (placeOf c x) 0; entries = tabulate n (λ j. getD entries (placeOf c x * mostCards + j) 0) }
+ringFrame changes entries n c x = record { change = getD changes (ringPlace c x) 0; entries = tabulate n (λ j. getD entries (ringPlace c x * mostCards + j) 0) }
 
 -- the sheet of a header: "Frames run from base + 1 to stored."
 abbrev pub ringPage : (changes entries : List ℕ) → Header → Page

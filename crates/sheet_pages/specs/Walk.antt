@@ -1,10 +1,11 @@
 -- What was read, as a read-out by value: for each card its session, base and count of frames; frames in a ring of 48 for each card, as a cabinet has them.
-use Prim.Native.Nat.{ℕ, _+_, _*_, _%_}
+use Prim.Native.Nat.{ℕ, _+_, _*_}
 use mathlib.Core.Bool.{Bool}
 use mathlib.Core.List.{List, [], _∷_}
 use lib.ListN.{set, replicate}
 use lib.Seq.{sets}
-use Rattle.base_limits.specs.Document.{mostCards, mostInHand, mostFrames, mostEntries}
+use Rattle.base_limits.specs.Ring.{ringPlace}
+use Rattle.base_limits.specs.Document.{mostCards, mostFrames, mostEntries}
 use Rattle.base_refusal.specs.declared.Reply.{Reply}
 use Rattle.base_refusal.specs.declared.Reply.the-variants.{Done, Refused}
 use Rattle.sheet_lines.specs.declared.Header.{Header}
@@ -14,10 +15,6 @@ use Rattle.sheet_lines.specs.Lines.{padded}
 use Rattle.sheet_pages.specs.declared.Readout.{Readout}
 use Rattle.sheet_pages.specs.declared.Reading.{Reading}
 use Rattle.sheet_pages.specs.Pages.{Page, Sheets, readSheets}
-
--- the place of a card's state among the frames
-abbrev pub placeOf : ℕ → ℕ → ℕ
-placeOf card state = card * mostInHand + state % mostInHand
 
 -- the read-out of zeros
 abbrev pub noReadout : Readout
@@ -47,8 +44,8 @@ layHeader h r =
 abbrev pub layFrame : ℕ → ℕ → ℕ → Frame → Readout → Readout
 layFrame card state k fr r =
     record {
-      changes = set (r .changes) (placeOf card state) (fr .change);
-      entries = sets (r .entries) (placeOf card state * mostCards) (padded (fr .entries));
+      changes = set (r .changes) (ringPlace card state) (fr .change);
+      entries = sets (r .entries) (ringPlace card state * mostCards) (padded (fr .entries));
       sessions = r .sessions;
       bases = r .bases;
       counts = set (r .counts) card (k + 1);

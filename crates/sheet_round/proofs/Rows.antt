@@ -3,13 +3,14 @@ use Prim.Native.Nat.{ℕ, zero, suc, _+_, _*_, _^_, _<_}
 use mathlib.Core.List.{List, [], _∷_, _++_}
 use native.Mathlib.Omega.{arith}
 use lib.ListN.{getD, set, replicate}
+use Rattle.base_limits.specs.Ring.{ringPlace}
 use Rattle.base_laws.specs.Below.{tabulate}
 use Rattle.base_laws.proofs.Fill.{length-tabulate}
 use Rattle.sheet_lines.specs.declared.Frame.{Frame}
 use Rattle.sheet_pages.specs.declared.Readout.{Readout}
 use Rattle.sheet_pages.specs.Pages.{Page}
 use Rattle.sheet_pages.specs.Allowed.{Formed}
-use Rattle.sheet_pages.specs.Walk.{placeOf, noReadout, layHeader, layFrame, layFrames, layPage}
+use Rattle.sheet_pages.specs.Walk.{noReadout, layHeader, layFrame, layFrames, layPage}
 use Rattle.sheet_pages.specs.Ring.{ringFrame}
 use Rattle.sheet_pages.proofs.Lay.{zeros, frames-heads}
 
@@ -23,7 +24,7 @@ pub ring-formed : (changes entries : List ℕ) → ((i : ℕ) → getD changes i
 ring-formed changes entries small n c state zero = tt
 ring-formed changes entries small n c state (suc k) =
     formed-more n (tabulate k (λ i. ringFrame changes entries n c (state i))) (ringFrame changes entries n c (state k)) (ring-formed changes entries small n c state k)
-    (length-tabulate n (λ j. getD entries (placeOf c (state k) * 16 + j) 0), small (placeOf c (state k)), tt)
+    (length-tabulate n (λ j. getD entries (ringPlace c (state k) * 16 + j) 0), small (ringPlace c (state k)), tt)
 
 -- ---- numbers below a bound stay so
 
@@ -36,7 +37,7 @@ set-small b (x ∷ l) (suc p) v h s (suc i) = set-small b l p v h (λ j. s (suc 
 
 frames-small : (n card state k : ℕ) (frs : List Frame) (r : Readout) → Formed n frs → ((i : ℕ) → getD (r .changes) i 0 < 16 ^ 8) → (i : ℕ) → getD (layFrames card state k frs r .changes) i 0 < 16 ^ 8
 frames-small n card state k [] r m s i = s i
-frames-small n card state k (fr ∷ frs) r m s i = frames-small n card (state + 1) (k + 1) frs (layFrame card state k fr r) (m .2) (set-small (16 ^ 8) (r .changes) (placeOf card state) (fr .change) (m .1) s) i
+frames-small n card state k (fr ∷ frs) r m s i = frames-small n card (state + 1) (k + 1) frs (layFrame card state k fr r) (m .2) (set-small (16 ^ 8) (r .changes) (ringPlace card state) (fr .change) (m .1) s) i
 
 zeros-small : (k i : ℕ) → getD {A = ℕ} (replicate k 0) i 0 < 16 ^ 8
 zeros-small k i = omega (arith, zeros k i)

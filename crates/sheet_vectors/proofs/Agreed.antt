@@ -9,6 +9,7 @@ use native.Mathlib.Omega.{arith}
 use lib.Dec.{eqb, ltb}
 use lib.ListN.{length, getD}
 use borrow.Author.Tests.{lt-ltb, le-ltb, eq-eqb, eqb-true, ltb-true}
+use Rattle.base_limits.specs.Ring.{ringPlace}
 use Rattle.base_laws.specs.Below.{anyBelow, tabulate}
 use Rattle.base_laws.proofs.Logic.{test, clash, fails, and-intro, and-left, and-right, not-true, not-intro, cond-true, cond-false}
 use Rattle.base_laws.proofs.Below.{Found, all-at, all-intro, all-same, any-intro, any-elim, first-below, first-at}
@@ -16,7 +17,6 @@ use Rattle.base_laws.proofs.Fill.{length-tabulate, getD-tabulate}
 use Rattle.base_merge.specs.Merge.{at, changeAt, headNumbers, leastOf, allPast, Rises, cardAhead, ahead, NextOf, Passed}
 use Rattle.base_merge.proofs.Walk.{head-is, head-at, walk-start, walk-next, walk-past, walk-low}
 use Rattle.sheet_pages.specs.declared.Readout.{Readout}
-use Rattle.sheet_pages.specs.Walk.{placeOf}
 use Rattle.sheet_pages.specs.Ring.{pageOf, pagesOf}
 use Rattle.sheet_pages.proofs.Whole.{count-on, frame-on}
 use Rattle.sheet_vectors.specs.Vectors.{frameOn, differ, twoVectors}
@@ -120,7 +120,7 @@ module _ (changes entries bases counts : List ℕ) (n : ℕ) where
 
   -- the place of frame a of card i
   abbrev ring-at : ℕ → ℕ → ℕ
-  ring-at i a = placeOf i (suc (at bases i + a))
+  ring-at i a = ringPlace i (suc (at bases i + a))
 
   pages-count : length (pagesOf out) ≡ n
   pages-count = length-tabulate n (pageOf out)
@@ -254,7 +254,7 @@ module _ (changes entries bases ends : List ℕ) (n : ℕ) (r : Rises changes ba
               let e : placesDiffer changes entries bases counts n (headPlace i (at passed i)) (headPlace j (at passed j)) ≡ true =
               and-intro (eq-eqb (changeAt changes i (suc (at passed i))) (changeAt changes j (suc (at passed j))) (pi .1 ∙ sym (pj .1))) (not-intro d) in
               ring-some changes entries bases counts n i j (at passed i - at bases i) (at passed j - at bases j) (ti .0) l (omega arith) (omega arith)
-              (ap₂ (λ (a b : ℕ). placesDiffer changes entries bases counts n (placeOf i a) (placeOf j b)) si sj ∙ e)
+              (ap₂ (λ (a b : ℕ). placesDiffer changes entries bases counts n (ringPlace i a) (ringPlace j b)) si sj ∙ e)
 
       pub looked-found : {t : Bool} → t ≡ headsDiffer entries heads passed n x → t ≡ true → true ≡ twoVectors (pagesOf (listsRead changes entries [] bases counts n))
       looked-found d f = two-here (heads-two entries heads passed n x (sym d ∙ f))
@@ -275,11 +275,11 @@ module _ (changes entries bases ends : List ℕ) (n : ℕ) (r : Rises changes ba
       end-at i h =
           ap (λ (m : List ℕ). at m i) es ∙ getD-tabulate 16 (λ c. cond (ltb c n) (at bases c + at counts c) 0) 0 i (omega arith) ∙ cond-true (at bases i + at counts i) 0 (lt-ltb i n h)
 
-      each : (i j a b : ℕ) → i < n → j < i → a < at counts i → b < at counts j → placesDiffer changes entries bases counts n (placeOf i (suc (at bases i + a))) (placeOf j (suc (at bases j + b))) ≡ false
+      each : (i j a b : ℕ) → i < n → j < i → a < at counts i → b < at counts j → placesDiffer changes entries bases counts n (ringPlace i (suc (at bases i + a))) (ringPlace j (suc (at bases j + b))) ≡ false
       each i j a b hi hj ha hb =
           let x : ℕ = suc (at bases i + a) in
           let y : ℕ = suc (at bases j + b) in
-          let same : Bool = sameEntries entries n (placeOf i x) (placeOf j y) in
+          let same : Bool = sameEntries entries n (ringPlace i x) (ringPlace j y) in
           fails (eqb (changeAt changes i x) (changeAt changes j y) && not same)
           (λ (t : eqb (changeAt changes i x) (changeAt changes j y) && not same ≡ true).
           let ei : at ends i ≡ at bases i + at counts i = end-at i hi in

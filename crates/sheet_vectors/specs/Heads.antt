@@ -1,10 +1,11 @@
 -- Refusal 10 by one merge over the sheets' frames: at each change number the vectors of the cards that have it at their heads are compared.
-use Prim.Native.Nat.{ℕ, suc, _+_, _*_, _%_, _≤_, _<_}
+use Prim.Native.Nat.{ℕ, suc, _+_, _*_, _≤_, _<_}
 use mathlib.Core.Bool.{Bool, false, not, _&&_, cond}
 use mathlib.Core.List.{List}
 use lib.Dec.{eqb, ltb}
 use lib.ListN.{getD}
-use Rattle.base_limits.specs.Document.{mostCards, mostInHand, lastState}
+use Rattle.base_limits.specs.Document.{mostCards, lastState}
+use Rattle.base_limits.specs.Ring.{ringPlace}
 use Rattle.base_laws.specs.Below.{allBelow, anyBelow, firstBelow, tabulate}
 use Rattle.base_merge.specs.Merge.{at, Rises}
 use Rattle.sheet_pages.specs.declared.Readout.{Readout}
@@ -20,7 +21,7 @@ pub record Orderly (changes bases counts : List ℕ) (n : ℕ) : Type 0 where
 
 -- the place of the state behind the one passed of card c
 abbrev pub headPlace : ℕ → ℕ → ℕ
-headPlace c passed = c * mostInHand + suc passed % mostInHand
+headPlace c passed = ringPlace c (suc passed)
 
 -- the vectors at two places have the same n entries
 abbrev pub sameEntries : List ℕ → ℕ → ℕ → ℕ → Bool

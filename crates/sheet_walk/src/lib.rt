@@ -5,11 +5,11 @@ ghost use mathlib.Core.Bool.{cond};
 ghost use lib.Seq.{sets};
 ghost use lib.Dec.{eqb};
 ghost use Rattle.sheet_pages.specs.Walk.{readingOf};
+use base_limits::Limits;
+use base_refusal::Reply;
 use sheet_lines::Frame;
 use sheet_lines::FrameLine;
 use sheet_lines::HeaderLine;
-use base_limits::Limits;
-use base_refusal::Reply;
 use sheet_pages::Reading;
 use sheet_pages::Readout;
 

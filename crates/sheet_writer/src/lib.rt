@@ -8,11 +8,11 @@ ghost use Rattle.sheet_pages.specs.Allowed.{framesAllowed};
 ghost use Rattle.sheet_pages.specs.Ring.{ringPage};
 ghost use Rattle.sheet_page_writer.specs.Write.{ringRows};
 ghost use Rattle.sheet_writer.specs.Single.{wrote};
+use base_limits::Limits;
+use base_refusal::Refusal;
 use sheet_lines::Frame;
 use sheet_lines::Header;
 use sheet_lines::Layout;
-use base_limits::Limits;
-use base_refusal::Refusal;
 use sheet_page_writer::Written;
 
 // Whether refusal 9 lets all frames pass.

@@ -1,5 +1,5 @@
 -- The samples and the worked read-out, as lists of calls, come out as document 01 says: computed. Assumes nothing.
-use Prim.Native.Nat.{suc, _-_}
+use Prim.Native.Nat.{suc}
 use lib.Dec.{ltb}
 use mathlib.Core.Path.{_≡_, refl}
 use mathlib.Core.List.{[], _∷_, map}

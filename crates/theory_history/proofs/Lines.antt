@@ -1,9 +1,9 @@
 -- The recovery line: it is a cut, no cut is above it, and it lets a change through exactly where all that the change depends on is stored.
 -- Over any vectors that are the vectors, apart from how they are worked out. Assumes nothing.
-use Prim.Native.Nat.{ℕ, _+_, _-_, _≤_, _<_}
+use Prim.Native.Nat.{ℕ, _+_, _≤_, _<_}
 use mathlib.Core.Path.{_≡_, refl}
 use mathlib.Core.Bool.{Bool, true, false, not}
-use mathlib.Core.Logic.{_⊎_, inl, inr, by-cases, ⊎-elim}
+use mathlib.Core.Logic.{inl, inr, by-cases, ⊎-elim}
 use native.Mathlib.Nat.{le-trans, le-antisymm}
 use native.Mathlib.Decide.{decLt, ℕ-discrete}
 use native.Mathlib.Omega.{arith}

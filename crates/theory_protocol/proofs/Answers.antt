@@ -1,8 +1,8 @@
 -- What accepted calls of a list answer and do: takes, fixes, rolls, losses and safe questions; and with it demands 2 and 3. Assumes nothing.
-use Prim.Native.Nat.{ℕ, zero, suc, _+_, _-_, _≤_, _<_}
+use Prim.Native.Nat.{ℕ, zero, suc, _≤_, _<_}
 use mathlib.Core.Path.{_≡_, refl, sym, _∙_, ap, ap₂, subst}
 use mathlib.Core.Bool.{Bool, true, false, not, _&&_, _||_, cond}
-use mathlib.Core.Logic.{_⊎_, by-cases, ⊎-elim}
+use mathlib.Core.Logic.{by-cases, ⊎-elim}
 use mathlib.Core.List.{_++_, List, [], _∷_}
 use native.Mathlib.Nat.{le-refl, le-trans}
 use native.Mathlib.Decide.{decLe, decLt, ℕ-discrete}

@@ -1,8 +1,8 @@
 -- Every list of calls keeps the invariant, and what follows of the cabinet after each call. Assumes nothing.
-use Prim.Native.Nat.{ℕ, suc, _+_, _-_, _≤_, _<_}
+use Prim.Native.Nat.{ℕ, suc, _+_, _≤_, _<_}
 use mathlib.Core.Path.{_≡_, refl, sym, _∙_, ap, subst}
 use mathlib.Core.Bool.{true, false, cond}
-use mathlib.Core.Logic.{_⊎_, inl, inr, by-cases, ⊎-elim}
+use mathlib.Core.Logic.{inl, inr, by-cases, ⊎-elim}
 use mathlib.Core.List.{List, []}
 use native.Mathlib.Nat.{le-trans}
 use native.Mathlib.Decide.{decLt, ℕ-discrete}

@@ -1,8 +1,8 @@
 -- What a restarted cabinet has of the old one, running or rolling back, and that the invariant follows from that alone: the line that the journal notes is fixed, and the same cards have rolled. Assumes nothing.
-use Prim.Native.Nat.{ℕ, _+_, _-_, _≤_, _<_}
+use Prim.Native.Nat.{ℕ, _+_, _≤_, _<_}
 use mathlib.Core.Path.{_≡_, refl, sym, _∙_, ap, ap₂, subst}
 use mathlib.Core.Bool.{Bool, true, false, not, _&&_, _||_, cond}
-use mathlib.Core.Logic.{_⊎_, inr, by-cases, ⊎-elim}
+use mathlib.Core.Logic.{inr, by-cases, ⊎-elim}
 use native.Mathlib.Nat.{le-refl, le-trans, le-of-eq}
 use native.Mathlib.Decide.{decLt}
 use native.Mathlib.Omega.{arith}

@@ -7,8 +7,6 @@ use Rattle.base_bits.proofs.Sets.{either-truncate}
 use Rattle.base_bits.proofs.Members.{member-above}
 use Rattle.base_bits.proofs.with.Statement.{statement}
 use Rattle.base_bits.proofs.with.Tie as tie
-use Rattle.base_bits.proofs.single.Reads as single-reads
-use Rattle.base_bits.proofs.union.Reads as union-reads
 
 single-requires : tie.Need-single-requires
 single-requires c κs = search needs

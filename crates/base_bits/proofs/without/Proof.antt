@@ -7,8 +7,6 @@ use Rattle.base_bits.proofs.Sets.{except-truncate}
 use Rattle.base_bits.proofs.Members.{member-above}
 use Rattle.base_bits.proofs.without.Statement.{statement}
 use Rattle.base_bits.proofs.without.Tie as tie
-use Rattle.base_bits.proofs.difference.Reads as difference-reads
-use Rattle.base_bits.proofs.single.Reads as single-reads
 
 single-requires : tie.Need-single-requires
 single-requires c κs = search needs

@@ -3,8 +3,6 @@ use Rattle.base_merge.proofs.Head.{past-head, past-other, past-end}
 use borrow.Author.Needs.{needs}
 use Rattle.base_merge.proofs.card_past.Statement.{statement}
 use Rattle.base_merge.proofs.card_past.Tie as tie
-use Rattle.base_merge.proofs.card_past.Reads as reads
-use Rattle.base_merge.proofs.card_past.Lts as lts
 
 add-result : tie.Need-add-result
 add-result c = search needs

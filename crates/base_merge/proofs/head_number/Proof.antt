@@ -4,8 +4,6 @@ use Rattle.base_merge.specs.Merge.{changeAt}
 use Rattle.base_merge.proofs.Head.{head-there, head-none}
 use Rattle.base_merge.proofs.head_number.Statement.{statement}
 use Rattle.base_merge.proofs.head_number.Tie as tie
-use Rattle.base_merge.proofs.head_number.Reads as reads
-use Rattle.base_merge.proofs.head_number.Lts as lts
 
 add-x : tie.Need-add-x
 add-x c = search needs

@@ -6,9 +6,6 @@ use Rattle.base_merge.specs.Merge.{at, changeAt, headNumber}
 use borrow.Author.Needs.{needs}
 use Rattle.base_merge.proofs.heads.Statement.{statement}
 use Rattle.base_merge.proofs.heads.Tie as tie
-use Rattle.base_merge.proofs.heads.Reads as reads
-use Rattle.base_merge.proofs.heads.Lts as lts
-use Rattle.base_merge.proofs.head_number.Reads as head-number-reads
 
 abbrev Inv-loop : tie.InvT-loop
 Inv-loop changes passed ends out₀ c₀ out c = FilledSoFar 0 16 (λ i. headNumber (changeAt changes i) (at passed i) (at ends i)) out c

@@ -6,9 +6,6 @@ use Rattle.base_merge.proofs.Next.{LeastSoFar, least-none, least-more, 
 use borrow.Author.Needs.{needs}
 use Rattle.base_merge.proofs.least.Statement.{statement}
 use Rattle.base_merge.proofs.least.Tie as tie
-use Rattle.base_merge.proofs.least.Reads as reads
-use Rattle.base_merge.proofs.least.Lts as lts
-use Rattle.base_merge.proofs.lesser.Reads as lesser-reads
 
 abbrev Inv-loop : tie.InvT-loop
 Inv-loop heads best₀ c₀ best c = LeastSoFar 16 (at heads) best c

@@ -2,8 +2,6 @@
 use borrow.Author.Tests.{eq-eqb, ne-eqb, lt-ltb, le-ltb}
 use Rattle.base_merge.proofs.lesser.Statement.{statement}
 use Rattle.base_merge.proofs.lesser.Tie as tie
-use Rattle.base_merge.proofs.lesser.Reads as reads
-use Rattle.base_merge.proofs.lesser.Lts as lts
 
 returns : tie.Need-returns
 returns c = let a : _ = c .before .args in rw (eq-eqb (a .a) 0 (c .if1 .taken))

@@ -6,9 +6,6 @@ use Rattle.base_merge.specs.Merge.{at, cardPast}
 use borrow.Author.Needs.{needs}
 use Rattle.base_merge.proofs.past.Statement.{statement}
 use Rattle.base_merge.proofs.past.Tie as tie
-use Rattle.base_merge.proofs.past.Reads as reads
-use Rattle.base_merge.proofs.past.Lts as lts
-use Rattle.base_merge.proofs.card_past.Reads as card-past-reads
 
 abbrev Inv-loop : tie.InvT-loop
 Inv-loop k passed ends heads out₀ c₀ out c = FilledSoFar 0 16 (λ i. cardPast (at passed i) (at ends i) (at heads i) k) out c

@@ -1,5 +1,4 @@
 -- `base_text::fitting` says where a text goes that was counted. Assumes nothing.
-use native.Mathlib.Omega.{arith}
 use Rattle.base_text.proofs.Wholes.{fitting-short, fitting-there, fitting-count}
 use borrow.Author.Needs.{needs}
 use Rattle.base_text.proofs.fitting.Statement.{statement}

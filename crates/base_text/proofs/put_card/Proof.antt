@@ -1,6 +1,5 @@
 -- `base_text::put_card` writes the line of a card that the cabinet has. Assumes nothing.
 use mathlib.Core.Path.{sym}
-use mathlib.Core.List.{List, []}
 use Rattle.base_laws.proofs.Logic.{cond-true, cond-false}
 use borrow.Author.Tests.{lt-ltb, le-ltb}
 use Rattle.base_text.proofs.Puts.{put-nothing, put-as}

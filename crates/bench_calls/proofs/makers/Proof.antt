@@ -3,7 +3,6 @@ use Prim.Native.Nat.{_-_}
 use borrow.Author.Needs.{needs}
 use Rattle.bench_calls.proofs.changes.Statement.{statement}
 use Rattle.bench_calls.proofs.changes.Tie as tie
-use Rattle.bench_calls.proofs.kept.Reads as kept-reads
 
 abbrev Inv-loop : tie.InvT-loop
 Inv-loop cards states out₀ p₀ out p = Unit {0}

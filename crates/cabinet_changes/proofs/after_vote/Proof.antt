@@ -1,4 +1,3 @@
-use Prim.Native.Nat.{_-_}
 use borrow.Author.Needs.{needs}
 use Rattle.cabinet_changes.proofs.after_vote.Statement.{statement}
 use Rattle.cabinet_changes.proofs.after_vote.Tie as tie

@@ -6,7 +6,6 @@ use Rattle.cabinet_layout.specs.Shape.{limits16, slotFor}
 use Rattle.cabinet_layout.proofs.Held.{list-known, set-known, slot-by, all-put, set-put}
 use Rattle.base_laws.proofs.Logic.{cond-true, cond-false}
 use Rattle.base_laws.specs.Below.{allBelow}
-use Prim.Native.Nat.{_-_}
 use mathlib.Core.Path.{_≡_, refl, sym, _∙_, ap}
 use mathlib.Core.Bool.{true, false, not, _||_}
 use Rattle.cabinet_slots.proofs.Votes.{none-awaited}

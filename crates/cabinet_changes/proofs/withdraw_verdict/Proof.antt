@@ -8,7 +8,7 @@ use Rattle.cabinet_layout.proofs.Checks.{folded, folded-first}
 use Rattle.theory_protocol.specs.Model.{decided}
 use Rattle.cabinet_layout.specs.Shape.{limits16, openOf, openAt}
 use Rattle.cabinet_layout.proofs.Limits.{slots8}
-use Prim.Native.Nat.{ℕ, _-_}
+use Prim.Native.Nat.{ℕ}
 use mathlib.Core.Path.{_≡_, sym, _∙_, ap, ap₂}
 use mathlib.Core.Bool.{not}
 use mathlib.Core.List.{List, []}

@@ -1,6 +1,5 @@
 -- `cabinet_fixing::numbers_of` gathers what goes into the list of card records. Assumes nothing.
 use mathlib.Core.Path.{_≡_, sym, ap}
-use Prim.Native.Nat.{ℕ}
 use Rattle.cabinet_layout.specs.declared.Core.{Core}
 use Rattle.cabinet_recovery.specs.declared.FixReply.{FixReply}
 use Rattle.cabinet_records.specs.declared.CardNumbers.{CardNumbers}

@@ -1,12 +1,12 @@
 -- `cabinet_frames::put_change`: the change that made a state, at its place in the ring. Assumes nothing.
 use Prim.Native.Nat.{ℕ}
 use mathlib.Core.Path.{_≡_, sym, _∙_, ap}
-use mathlib.Core.Bool.{Bool, true, false, not, _&&_}
+use mathlib.Core.Bool.{not, _&&_}
 use lib.Dec.{eqb, ltb}
 use lib.ListN.{set}
 use borrow.Author.Tests.{ltb-true}
+use Rattle.base_limits.specs.Ring.{ringPlace}
 use Rattle.base_laws.proofs.Logic.{and-right, cond-true, cond-false}
-use Rattle.cabinet_layout.specs.Shape.{ringPlace}
 use Rattle.cabinet_plans.specs.Plans.{isMade}
 use borrow.Author.Needs.{needs}
 use Rattle.cabinet_frames.proofs.put_change.Statement.{statement}

@@ -6,8 +6,9 @@ use native.Mathlib.Omega.{arith}
 use lib.Dec.{eqb, ltb}
 use lib.Seq.{sets}
 use borrow.Author.Tests.{ltb-true}
+use Rattle.base_limits.specs.Ring.{ringPlace}
 use Rattle.base_laws.proofs.Logic.{and-right, cond-true, cond-false}
-use Rattle.cabinet_layout.specs.Shape.{at, ringPlace, listOf}
+use Rattle.cabinet_layout.specs.Shape.{at, listOf}
 use Rattle.cabinet_plans.specs.Plans.{isMade}
 use borrow.Author.Needs.{needs}
 use Rattle.cabinet_frames.proofs.put_vector.Statement.{statement}

@@ -1,6 +1,5 @@
 -- `cabinet_joined::join` writes the sheets of all cards one after the other. The invariant: those of the first cards stand at the front of the buffer. Assumes nothing.
-use Prim.Native.Nat.{_-_, _+_, _≤_}
-use mathlib.Core.Path.{_≡_, sym, _∙_, ap, subst}
+use Prim.Native.Nat.{_-_, _≤_}
 use native.Mathlib.Omega.{arith}
 use lib.ListN.{length}
 use borrow.Rule.Slice.PartMut.{same-len-mid}

@@ -1,4 +1,3 @@
-use Prim.Native.Nat.{_-_}
 use borrow.Author.Tests.{lt-ltb, le-ltb}
 use Rattle.cabinet_listing.proofs.number_above.Statement.{statement}
 use Rattle.cabinet_listing.proofs.number_above.Tie as tie

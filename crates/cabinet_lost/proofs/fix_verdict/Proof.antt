@@ -4,7 +4,6 @@ use Rattle.base_refusal.specs.declared.Reply.the-variants.{Done}
 use Rattle.cabinet_layout.specs.Answers.{after28}
 use Rattle.cabinet_layout.proofs.Checks.{folded, folded-first}
 use Rattle.cabinet_recovery.specs.Fix.{butLast}
-use Prim.Native.Nat.{_-_}
 use mathlib.Core.Path.{_≡_, _∙_}
 use mathlib.Core.Bool.{not}
 use mathlib.Core.List.{List, []}
@@ -14,23 +13,18 @@ use borrow.Author.Needs.{needs}
 use Rattle.cabinet_lost.proofs.fix_verdict.Statement.{statement}
 use Rattle.cabinet_lost.proofs.fix_verdict.Tie as tie
 
--- src/core.rt:28:9
 is-down-requires : tie.Need-is-down-requires
 is-down-requires c κs = search needs
 
--- src/core.rt:29:9
 next-requires : tie.Need-next-requires
 next-requires c κs = search needs
 
--- src/core.rt:30:9
 next-requires-2 : tie.Need-next-requires-2
 next-requires-2 c κs = search needs
 
--- src/core.rt:31:5
 next-requires-3 : tie.Need-next-requires-3
 next-requires-3 c κs = search needs
 
--- src/core.rt:24:1
 returns : tie.Need-returns
 returns c = let a : _ = c .before .before .before .before .before .args in let cs : List Check = butLast (after28 (not (a .valid)) (fixChecks limits16 (headModel (a .head)) 0 0 [])) in let e : c .next3 .result ≡ folded cs Done = rw (c .next3 .ensures, c .before .before .next2 .ensures, c .before .before .before .next .ensures, c .before .before .before .before .is-down .ensures, greatestNumber32) in e ∙ folded-first cs
 

@@ -1,23 +1,18 @@
 use Rattle.cabinet_lost.proofs.Told.{rows-count}
-use Prim.Native.Nat.{_-_}
 use mathlib.Core.Path.{_∙_}
 use borrow.Author.Needs.{needs}
 use Rattle.cabinet_lost.proofs.is_short.Statement.{statement}
 use Rattle.cabinet_lost.proofs.is_short.Tie as tie
 
--- src/core.rt:38:9
 all-below-requires : tie.Need-all-below-requires
 all-below-requires c κs = search needs
 
--- src/core.rt:39:9
 count-requires : tie.Need-count-requires
 count-requires c κs = search needs
 
--- src/core.rt:40:15
 cast-result : tie.Need-cast-result
 cast-result c = search needs
 
--- src/core.rt:35:1
 returns : tie.Need-returns
 returns c = let e : _ = c .count .ensures ∙ rows-count (c .before .all-below .result) (c .before .before .args .head .cards) (c .before .all-below .ensures) in rw e
 

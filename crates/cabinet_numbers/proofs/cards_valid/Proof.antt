@@ -1,4 +1,4 @@
-use Prim.Native.Nat.{ℕ, _-_}
+use Prim.Native.Nat.{ℕ}
 use mathlib.Core.Path.{sym, _∙_, ap}
 use mathlib.Core.Bool.{not, _&&_}
 use native.Mathlib.Omega.{arith}
@@ -9,10 +9,7 @@ use Rattle.cabinet_layout.proofs.Limits.{width16}
 use Rattle.cabinet_numbers.proofs.Tests.{cards-limits}
 use Rattle.cabinet_numbers.proofs.cards_valid.Statement.{statement}
 use Rattle.cabinet_numbers.proofs.cards_valid.Tie as tie
-use Rattle.cabinet_numbers.proofs.cards_valid.Reads as reads
-use Rattle.cabinet_numbers.proofs.cards_valid.Lts as lts
 
--- src/valid.rt:29:1
 returns : tie.Need-returns
 returns c = sym (cards-limits 16 (c .before .before .args .head .cards) (omega arith)) ∙ ap (λ (w : ℕ). anyBelow w (presentOf (c .before .before .args .head .cards)) && not (ltb w (c .before .before .args .head .cards))) (sym width16)
 

@@ -7,9 +7,6 @@ use Rattle.cabinet_layout.proofs.Limits.{width16}
 use borrow.Author.Needs.{needs}
 use Rattle.cabinet_numbers.proofs.entries_valid.Statement.{statement}
 use Rattle.cabinet_numbers.proofs.entries_valid.Tie as tie
-use Rattle.cabinet_numbers.proofs.entries_valid.Reads as reads
-use Rattle.cabinet_numbers.proofs.entries_valid.Lts as lts
-use Rattle.cabinet_numbers.proofs.top.Reads as top-reads
 
 abbrev Inv-loop : tie.InvT-loop
 Inv-loop cards v ok₀ j₀ ok j = AllSoFar 16 (λ k. leb (at v k) (cond (ltb k cards) (limits16 .greatestState) 0)) ok j
@@ -17,35 +14,27 @@ Inv-loop cards v ok₀ j₀ ok j = AllSoFar 16 (λ k. leb (at v k) (cond (ltb k 
 abbrev μ-loop : tie.MeasureT-loop
 μ-loop cards v ok₀ j₀ ok j = 16 - j
 
--- src/valid.rt:56:5
 loop-holds : tie.Need-loop-holds Inv-loop μ-loop
 loop-holds c = all-none
 
--- src/valid.rt:57:20
 mul-ok : tie.Need-mul-ok Inv-loop μ-loop
 mul-ok c = search needs
 
--- src/valid.rt:57:20
 array-read-ok : tie.Need-array-read-ok Inv-loop μ-loop
 array-read-ok c = search needs
 
--- src/valid.rt:57:28
 top-requires : tie.Need-top-requires Inv-loop μ-loop
 top-requires c κs = search needs
 
--- src/valid.rt:58:9
 add-j : tie.Need-add-j Inv-loop μ-loop
 add-j c = search needs
 
--- src/valid.rt:56:5
 loop-less : tie.Need-loop-less Inv-loop μ-loop
 loop-less c = search needs
 
--- src/valid.rt:56:5
 loop-again : tie.Need-loop-again Inv-loop μ-loop
 loop-again c = all-more (c .before .before .loop .inv) (c .before .loop-test .taken) (rw (c .top .ensures))
 
--- src/valid.rt:51:1
 returns : tie.Need-returns Inv-loop μ-loop
 returns c = all-done (c .before .loop .inv) (c .loop-test .left) width16
 

@@ -1,17 +1,12 @@
 use Rattle.cabinet_layout.specs.Shape.{limits16}
-use Prim.Native.Nat.{_-_}
 use mathlib.Core.Path.{refl}
 use borrow.Author.Needs.{needs}
 use Rattle.cabinet_numbers.proofs.room.Statement.{statement}
 use Rattle.cabinet_numbers.proofs.room.Tie as tie
-use Rattle.cabinet_numbers.proofs.room.Reads as reads
-use Rattle.cabinet_numbers.proofs.room.Lts as lts
 
--- src/valid.rt:197:25
 add-result : tie.Need-add-result
 add-result c = search needs
 
--- src/valid.rt:194:1
 returns : tie.Need-returns
 unfolding limits16
 returns c = refl

@@ -1,17 +1,11 @@
-use Prim.Native.Nat.{_-_}
 use Rattle.cabinet_layout.specs.Shape.{limits16}
 use borrow.Author.Needs.{needs}
 use Rattle.cabinet_numbers.proofs.session_valid.Statement.{statement}
 use Rattle.cabinet_numbers.proofs.session_valid.Tie as tie
-use Rattle.cabinet_numbers.proofs.session_valid.Reads as reads
-use Rattle.cabinet_numbers.proofs.session_valid.Lts as lts
-use Rattle.cabinet_layout.proofs.is_rolling.Reads as is-rolling-reads
 
--- src/valid.rt:24:9
 is-rolling-requires : tie.Need-is-rolling-requires
 is-rolling-requires c κs = search needs
 
--- src/valid.rt:20:1
 returns : tie.Need-returns
 unfolding limits16
 returns c = rw (c .before .before .is-rolling .ensures)

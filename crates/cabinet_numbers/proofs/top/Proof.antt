@@ -1,16 +1,11 @@
-use Prim.Native.Nat.{_-_}
 use Rattle.cabinet_layout.specs.Shape.{limits16}
 use Rattle.cabinet_numbers.proofs.top.Statement.{statement}
 use Rattle.cabinet_numbers.proofs.top.Tie as tie
-use Rattle.cabinet_numbers.proofs.top.Reads as reads
-use Rattle.cabinet_numbers.proofs.top.Lts as lts
 
--- src/valid.rt:44:1
 returns : tie.Need-returns
 unfolding limits16
 returns c = rw (c .if1 .taken)
 
--- src/valid.rt:44:1
 returns-2 : tie.Need-returns-2
 returns-2 c = rw (c .if1 .left)
 

@@ -1,5 +1,4 @@
 use Rattle.cabinet_opening.proofs.Bars.{bars-set, bars-none}
-use Prim.Native.Nat.{_-_}
 use borrow.Author.Needs.{needs}
 use Rattle.cabinet_opening.proofs.bar_set.Statement.{statement}
 use Rattle.cabinet_opening.proofs.bar_set.Tie as tie

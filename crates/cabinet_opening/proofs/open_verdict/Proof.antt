@@ -15,7 +15,7 @@ use Rattle.cabinet_layout.specs.Shape.{limits16}
 use Rattle.cabinet_layout.proofs.Held.{not-not}
 use Rattle.cabinet_layout.proofs.Limits.{width16, slots8, greatestNumber32}
 use Rattle.base_laws.specs.Below.{anyBelow, firstBelow}
-use Prim.Native.Nat.{ℕ, _-_}
+use Prim.Native.Nat.{ℕ}
 use mathlib.Core.Path.{_≡_, sym, _∙_, ap, ap₂}
 use mathlib.Core.Bool.{Bool, true, not, _&&_, _||_}
 use mathlib.Core.List.{List}

@@ -1,6 +1,5 @@
 use Rattle.cabinet_layout.specs.declared.Slot.{Slot}
 use Rattle.cabinet_layout.proofs.Held.{set-known, slot-by}
-use Prim.Native.Nat.{_-_}
 use mathlib.Core.Path.{refl, ap}
 use borrow.Author.Needs.{needs}
 use Rattle.cabinet_opening.proofs.opened.Statement.{statement}

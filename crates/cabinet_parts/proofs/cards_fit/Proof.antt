@@ -1,6 +1,6 @@
 use Prim.Native.Nat.{ℕ}
-use mathlib.Core.Path.{_≡_, refl, sym, _∙_, ap}
-use mathlib.Core.Bool.{Bool, true, false, not, _&&_}
+use mathlib.Core.Path.{sym, _∙_, ap}
+use mathlib.Core.Bool.{_&&_}
 use lib.Dec.{leb}
 use Rattle.cabinet_layout.proofs.Limits.{width16}
 use Rattle.cabinet_layout.proofs.Held.{not-not}

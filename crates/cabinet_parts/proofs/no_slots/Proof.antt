@@ -1,5 +1,4 @@
 use Rattle.cabinet_layout.specs.Shape.{limits16}
-use Prim.Native.Nat.{_-_}
 use borrow.Author.Needs.{needs}
 use Rattle.cabinet_parts.proofs.no_slots.Statement.{statement}
 use Rattle.cabinet_parts.proofs.no_slots.Tie as tie

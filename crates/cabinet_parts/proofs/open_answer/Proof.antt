@@ -1,4 +1,3 @@
-use Prim.Native.Nat.{_-_}
 use borrow.Author.Needs.{needs}
 use Rattle.cabinet_parts.proofs.open_answer.Statement.{statement}
 use Rattle.cabinet_parts.proofs.open_answer.Tie as tie

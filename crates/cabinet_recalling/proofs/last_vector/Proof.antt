@@ -1,25 +1,13 @@
 -- `cabinet_restart::last_vector` is the vector of a card's last frame, or none. Assumes nothing.
-use Prim.Native.Nat.{ℕ, zero, suc, _+_, _*_, _-_, _%_, _≤_, _<_}
-use mathlib.Core.Path.{_≡_, refl, sym, _∙_, ap}
-use mathlib.Core.Bool.{Bool, true, false, cond}
-use mathlib.Core.List.{List, []}
-use native.Mathlib.Omega.{arith}
-use lib.Dec.{ltb}
-use lib.ListN.{length, getD}
+use mathlib.Core.Path.{sym, _∙_, ap}
 use borrow.Author.Tests.{lt-ltb, le-ltb}
 use Rattle.base_laws.proofs.Logic.{cond-true, cond-false}
-use Rattle.base_laws.proofs.Fill.{FilledSoFar, filled-none, filled-more, filled-done}
 use Rattle.theory_history.specs.Vector.{noEntries}
-use Rattle.theory_history.specs.Vector as history
-use Rattle.cabinet_layout.specs.Shape.{at, listOf, vectorFor, ringFrame}
-use Rattle.cabinet_layout.proofs.Limits.{width16}
+use Rattle.cabinet_layout.specs.Shape.{listOf, ringFrame}
 use Rattle.cabinet_layout.proofs.Held.{zero-listed}
 use borrow.Author.Needs.{needs}
 use Rattle.cabinet_recalling.proofs.last_vector.Statement.{statement}
 use Rattle.cabinet_recalling.proofs.last_vector.Tie as tie
-use Rattle.cabinet_recalling.proofs.last_vector.Reads as reads
-use Rattle.cabinet_recalling.proofs.last_vector.Lts as lts
-use Rattle.cabinet_recalling.proofs.vector_of.Reads as vector-of-reads
 
 vector-of-requires : tie.Need-vector-of-requires
 vector-of-requires c κs = search needs

@@ -1,25 +1,16 @@
 -- `cabinet_restart::last_vectors` is the vector of each card's last frame. Assumes nothing.
-use Prim.Native.Nat.{ℕ, zero, suc, _+_, _*_, _-_, _%_, _≤_, _<_}
-use mathlib.Core.Path.{_≡_, refl, sym, _∙_, ap}
-use mathlib.Core.Bool.{Bool, true, false, cond}
-use mathlib.Core.List.{List, []}
-use native.Mathlib.Omega.{arith}
+use Prim.Native.Nat.{_-_}
+use mathlib.Core.Path.{refl}
+use mathlib.Core.Bool.{cond}
+use mathlib.Core.List.{[]}
 use lib.Dec.{ltb}
-use lib.ListN.{length, getD}
-use borrow.Author.Tests.{lt-ltb, le-ltb}
-use Rattle.base_laws.proofs.Logic.{cond-true, cond-false}
 use Rattle.base_laws.proofs.Fill.{FilledSoFar, filled-none, filled-more, filled-done}
 use Rattle.theory_history.specs.Vector.{noEntries}
-use Rattle.theory_history.specs.Vector as history
-use Rattle.cabinet_layout.specs.Shape.{at, listOf, vectorFor, ringFrame}
+use Rattle.cabinet_layout.specs.Shape.{at, vectorFor, ringFrame}
 use Rattle.cabinet_layout.proofs.Limits.{width16}
-use Rattle.cabinet_layout.proofs.Held.{zero-listed}
 use borrow.Author.Needs.{needs}
 use Rattle.cabinet_recalling.proofs.last_vectors.Statement.{statement}
 use Rattle.cabinet_recalling.proofs.last_vectors.Tie as tie
-use Rattle.cabinet_recalling.proofs.last_vectors.Reads as reads
-use Rattle.cabinet_recalling.proofs.last_vectors.Lts as lts
-use Rattle.cabinet_recalling.proofs.last_vector.Reads as last-vector-reads
 
 abbrev Inv-loop : tie.InvT-loop
 Inv-loop entries base stored out₀ c₀ out c = FilledSoFar (record { entries = [] }) 16 (λ k. vectorFor (cond (ltb (at base k) (at stored k)) (ringFrame entries k (at stored k)) noEntries)) out c

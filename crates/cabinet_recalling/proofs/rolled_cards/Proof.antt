@@ -1,20 +1,12 @@
 -- `cabinet_restart::rolled_cards` is the set of the cards ahead. Assumes nothing.
 use Rattle.cabinet_recalling.proofs.Rolled.{AheadSoFar, ahead-none, ahead-more, ahead-done}
-use Prim.Native.Nat.{ℕ, zero, suc, _+_, _*_, _-_, _%_, _≤_, _<_}
-use mathlib.Core.Path.{_≡_, refl, sym, _∙_, ap}
-use mathlib.Core.Bool.{Bool, true, false, cond}
-use native.Mathlib.Omega.{arith}
+use Prim.Native.Nat.{_-_, _<_}
+use mathlib.Core.Path.{refl}
 use lib.Dec.{ltb}
-use lib.ListN.{length, getD}
-use Rattle.base_laws.proofs.Fill.{FilledSoFar, filled-none, filled-more, filled-done}
-use Rattle.cabinet_layout.specs.Shape.{at, ringFrame}
-use Rattle.cabinet_layout.proofs.Limits.{width16}
+use Rattle.cabinet_layout.specs.Shape.{at}
 use borrow.Author.Needs.{needs}
 use Rattle.cabinet_recalling.proofs.rolled_cards.Statement.{statement}
 use Rattle.cabinet_recalling.proofs.rolled_cards.Tie as tie
-use Rattle.cabinet_recalling.proofs.rolled_cards.Reads as reads
-use Rattle.cabinet_recalling.proofs.rolled_cards.Lts as lts
-use Rattle.cabinet_recalling.proofs.with_if.Reads as with-if-reads
 
 abbrev Inv-loop : tie.InvT-loop
 Inv-loop low sessions rolled₀ c₀ rolled c = AheadSoFar (λ k. ltb low (at sessions k)) rolled c

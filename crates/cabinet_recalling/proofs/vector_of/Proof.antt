@@ -1,18 +1,12 @@
 -- `cabinet_restart::vector_of` copies a vector out of the ring. Assumes nothing.
-use Prim.Native.Nat.{ℕ, zero, suc, _+_, _*_, _-_, _%_, _≤_, _<_}
-use mathlib.Core.Path.{_≡_, refl, sym, _∙_, ap}
-use mathlib.Core.Bool.{Bool, true, false, cond}
-use native.Mathlib.Omega.{arith}
-use lib.Dec.{ltb}
-use lib.ListN.{length, getD}
+use Prim.Native.Nat.{_-_}
+use mathlib.Core.Path.{refl}
 use Rattle.base_laws.proofs.Fill.{FilledSoFar, filled-none, filled-more, filled-done}
-use Rattle.cabinet_layout.specs.Shape.{at, ringFrame}
+use Rattle.cabinet_layout.specs.Shape.{ringFrame}
 use Rattle.cabinet_layout.proofs.Limits.{width16}
 use borrow.Author.Needs.{needs}
 use Rattle.cabinet_recalling.proofs.vector_of.Statement.{statement}
 use Rattle.cabinet_recalling.proofs.vector_of.Tie as tie
-use Rattle.cabinet_recalling.proofs.vector_of.Reads as reads
-use Rattle.cabinet_recalling.proofs.vector_of.Lts as lts
 
 abbrev Inv-loop : tie.InvT-loop
 Inv-loop entries card x place out₀ j₀ out j = FilledSoFar 0 16 (ringFrame entries card x) out j

@@ -1,19 +1,9 @@
 -- `cabinet_restart::with_if` puts a card in, or does not. Assumes nothing.
-use Prim.Native.Nat.{ℕ, zero, suc, _+_, _*_, _-_, _%_, _≤_, _<_}
-use mathlib.Core.Path.{_≡_, refl, sym, _∙_, ap}
-use mathlib.Core.Bool.{Bool, true, false, cond}
-use native.Mathlib.Omega.{arith}
-use lib.Dec.{ltb}
-use lib.ListN.{length, getD}
-use Rattle.base_laws.proofs.Fill.{FilledSoFar, filled-none, filled-more, filled-done}
+use mathlib.Core.Path.{sym, _∙_}
 use Rattle.base_laws.proofs.Logic.{cond-true, cond-false}
-use Rattle.cabinet_layout.proofs.Limits.{width16}
 use borrow.Author.Needs.{needs}
 use Rattle.cabinet_recalling.proofs.with_if.Statement.{statement}
 use Rattle.cabinet_recalling.proofs.with_if.Tie as tie
-use Rattle.cabinet_recalling.proofs.with_if.Reads as reads
-use Rattle.cabinet_recalling.proofs.with_if.Lts as lts
-use Rattle.base_bits.proofs.with.Reads as with-reads
 
 with-requires : tie.Need-with-requires
 with-requires c κs = search needs

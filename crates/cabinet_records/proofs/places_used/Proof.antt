@@ -3,11 +3,9 @@ use Rattle.base_laws.proofs.Logic.{cond-true, cond-false}
 use Rattle.cabinet_records.proofs.places_used.Statement.{statement}
 use Rattle.cabinet_records.proofs.places_used.Tie as tie
 
--- src/lib.rt:34:1
 returns : tie.Need-returns
 returns c = sym (cond-true _ _ (c .if1 .taken))
 
--- src/lib.rt:34:1
 returns-2 : tie.Need-returns-2
 returns-2 c = sym (cond-false _ _ (c .if1 .left))
 

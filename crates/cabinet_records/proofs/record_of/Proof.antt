@@ -3,25 +3,21 @@ use borrow.Author.Needs.{needs}
 use Rattle.cabinet_records.proofs.record_of.Statement.{statement}
 use Rattle.cabinet_records.proofs.record_of.Tie as tie
 
--- src/lib.rt:27:15
 cast-t4 : tie.Need-cast-t4
 cast-t4 c = search needs
 
--- src/lib.rt:28:17
 mul-t5 : tie.Need-mul-t5
 mul-t5 c = search needs
 
 element-copy-out-t8 : tie.Need-element-copy-out-t8
 element-copy-out-t8 c = search needs
 
--- src/lib.rt:29:15
 mul-t9 : tie.Need-mul-t9
 mul-t9 c = search needs
 
 element-copy-out-t12 : tie.Need-element-copy-out-t12
 element-copy-out-t12 c = search needs
 
--- src/lib.rt:22:1
 returns : tie.Need-returns
 returns c = refl
 

@@ -13,35 +13,27 @@ Inv-loop entries stored card base reached x₀ x = ClimbedSoFar (λ s. orphan (l
 abbrev μ-loop : tie.MeasureT-loop
 μ-loop entries stored card base reached x₀ x = reached - x
 
--- src/lib.rt:53:5
 loop-holds : tie.Need-loop-holds Inv-loop μ-loop
 loop-holds c = climbed-none
 
--- src/lib.rt:54:52
 add-is-orphan : tie.Need-add-is-orphan Inv-loop μ-loop
 add-is-orphan c = search needs
 
--- src/lib.rt:54:13
 is-orphan-requires : tie.Need-is-orphan-requires Inv-loop μ-loop
 is-orphan-requires c κs = search needs
 
--- src/lib.rt:56:13
 returns : tie.Need-returns Inv-loop μ-loop
 returns c = climbed-hit (c .before .before .before .loop .inv) (c .before .before .loop-test .taken) (sym (c .before .is-orphan .ensures) ∙ c .if1 .taken)
 
--- src/lib.rt:58:9
 add-x : tie.Need-add-x Inv-loop μ-loop
 add-x c = search needs
 
--- src/lib.rt:53:5
 loop-less : tie.Need-loop-less Inv-loop μ-loop
 loop-less c = search needs
 
--- src/lib.rt:53:5
 loop-again : tie.Need-loop-again Inv-loop μ-loop
 loop-again c = climbed-more (c .before .before .before .loop .inv) (c .before .before .loop-test .taken) (sym (c .before .is-orphan .ensures) ∙ c .if1 .left)
 
--- src/lib.rt:43:1
 returns-2 : tie.Need-returns-2 Inv-loop μ-loop
 returns-2 c = climbed-done (c .before .loop .inv) (c .loop-test .left)
 

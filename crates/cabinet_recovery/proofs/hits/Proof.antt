@@ -7,11 +7,9 @@ use borrow.Author.Needs.{needs}
 use Rattle.cabinet_recovery.proofs.hits.Statement.{statement}
 use Rattle.cabinet_recovery.proofs.hits.Tie as tie
 
--- src/lib.rt:43:5
 add-result : tie.Need-add-result
 add-result c = search needs
 
--- src/lib.rt:40:1
 returns : tie.Need-returns
 returns c = ap (λ (n : ℕ). leb n (c .args .entry)) (add-one _)
 

@@ -13,55 +13,42 @@ Inv-loop entries head stored base reached out₀ c₀ out c = FilledSoFar 0 16 (
 abbrev μ-loop : tie.MeasureT-loop
 μ-loop entries head stored base reached out₀ c₀ out c = 16 - c
 
--- src/lib.rt:92:5
 loop-holds : tie.Need-loop-holds Inv-loop μ-loop
 loop-holds c = filled-none refl
 
--- src/lib.rt:93:48
 cast-line-of : tie.Need-cast-line-of Inv-loop μ-loop
 cast-line-of c = search needs
 
--- src/lib.rt:93:58
 mul-line-of : tie.Need-mul-line-of Inv-loop μ-loop
 mul-line-of c = search needs
 
--- src/lib.rt:93:58
 array-read-line-of : tie.Need-array-read-line-of Inv-loop μ-loop
 array-read-line-of c = search needs
 
--- src/lib.rt:93:67
 mul-line-of-2 : tie.Need-mul-line-of-2 Inv-loop μ-loop
 mul-line-of-2 c = search needs
 
--- src/lib.rt:93:67
 array-read-line-of-2 : tie.Need-array-read-line-of-2 Inv-loop μ-loop
 array-read-line-of-2 c = search needs
 
--- src/lib.rt:93:13
 line-of-requires : tie.Need-line-of-requires Inv-loop μ-loop
 line-of-requires c κs = search needs
 
--- src/lib.rt:94:9
 mul-out : tie.Need-mul-out Inv-loop μ-loop
 mul-out c = search needs
 
--- src/lib.rt:94:9
 array-write-out : tie.Need-array-write-out Inv-loop μ-loop
 array-write-out c = search needs
 
--- src/lib.rt:95:9
 add-c : tie.Need-add-c Inv-loop μ-loop
 add-c c = search needs
 
--- src/lib.rt:92:5
 loop-less : tie.Need-loop-less Inv-loop μ-loop
 loop-less c = search needs
 
--- src/lib.rt:92:5
 loop-again : tie.Need-loop-again Inv-loop μ-loop
 loop-again c = filled-more (c .before .before .loop .inv) (c .before .loop-test .taken) (c .line-of .ensures)
 
--- src/lib.rt:81:1
 returns : tie.Need-returns Inv-loop μ-loop
 returns c = let a : _ = c .before .before .args in filled-done (c .before .loop .inv) (c .loop-test .left) width16 ∙ lines-ring (a .entries .now) (a .t3) (a .stored) (a .t5) (a .head)
 

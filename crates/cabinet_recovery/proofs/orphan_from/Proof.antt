@@ -15,47 +15,36 @@ Inv-loop entries from stored hit₀ j₀ hit j = AnySoFar 16 (λ k. ltb (at stor
 abbrev μ-loop : tie.MeasureT-loop
 μ-loop entries from stored hit₀ j₀ hit j = 16 - j
 
--- src/lib.rt:53:5
 loop-holds : tie.Need-loop-holds Inv-loop μ-loop
 loop-holds c = any-none
 
--- src/lib.rt:54:34
 add-hits : tie.Need-add-hits Inv-loop μ-loop
 add-hits c = search needs
 
--- src/lib.rt:54:26
 mul-hits : tie.Need-mul-hits Inv-loop μ-loop
 mul-hits c = search needs
 
--- src/lib.rt:54:26
 element-copy-out-hits : tie.Need-element-copy-out-hits Inv-loop μ-loop
 element-copy-out-hits c = search needs
 
--- src/lib.rt:54:45
 mul-hits-2 : tie.Need-mul-hits-2 Inv-loop μ-loop
 mul-hits-2 c = search needs
 
--- src/lib.rt:54:45
 array-read-hits : tie.Need-array-read-hits Inv-loop μ-loop
 array-read-hits c = search needs
 
--- src/lib.rt:54:21
 hits-requires : tie.Need-hits-requires Inv-loop μ-loop
 hits-requires c κs = search needs
 
--- src/lib.rt:55:9
 add-j : tie.Need-add-j Inv-loop μ-loop
 add-j c = search needs
 
--- src/lib.rt:53:5
 loop-less : tie.Need-loop-less Inv-loop μ-loop
 loop-less c = search needs
 
--- src/lib.rt:53:5
 loop-again : tie.Need-loop-again Inv-loop μ-loop
 loop-again c = any-more (c .before .before .before .loop .inv) (c .before .before .loop-test .taken) (c .hits .ensures)
 
--- src/lib.rt:47:1
 returns : tie.Need-returns Inv-loop μ-loop
 returns c = let a : _ = c .before .before .args in any-done (c .before .loop .inv) (c .loop-test .left) width16 ∙ orphan-held (limits16 .width) (at (a .t2)) (λ j. at (a .entries .now) (a .from + j))
 

@@ -1,10 +1,8 @@
 use Rattle.cabinet_layout.specs.Shape.{limits16}
-use Prim.Native.Nat.{_-_}
 use mathlib.Core.Path.{refl}
 use Rattle.cabinet_replies.proofs.is_card.Statement.{statement}
 use Rattle.cabinet_replies.proofs.is_card.Tie as tie
 
--- src/lib.rt:35:1
 returns : tie.Need-returns
 unfolding limits16
 returns c = refl

@@ -1,25 +1,19 @@
-use Prim.Native.Nat.{_-_}
 use borrow.Author.Needs.{needs}
 use Rattle.cabinet_replies.proofs.next.Statement.{statement}
 use Rattle.cabinet_replies.proofs.next.Tie as tie
 
--- src/lib.rt:25:16
 enum-told : tie.Need-enum-told
 enum-told c = search needs
 
--- src/lib.rt:31:24
 enum-known-earlier : tie.Need-enum-known-earlier
 enum-known-earlier c = search needs
 
--- src/lib.rt:20:1
 returns : tie.Need-returns
 returns c = rw (c .before .enum-told .given .1, c .if1 .taken)
 
--- src/lib.rt:20:1
 returns-2 : tie.Need-returns-2
 returns-2 c = rw (c .before .enum-told .given .1, c .if1 .left)
 
--- src/lib.rt:20:1
 returns-3 : tie.Need-returns-3
 returns-3 c = rw (c .before .earlier .given .1)
 

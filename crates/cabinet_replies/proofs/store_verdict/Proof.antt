@@ -5,7 +5,6 @@ use Rattle.base_refusal.specs.declared.Reply.the-variants.{Done}
 use Rattle.cabinet_layout.specs.Answers.{after28}
 use Rattle.cabinet_layout.proofs.Checks.{folded, folded-first}
 use Rattle.cabinet_layout.specs.Shape.{limits16, at}
-use Prim.Native.Nat.{_-_}
 use mathlib.Core.Path.{_≡_, _∙_}
 use mathlib.Core.Bool.{not}
 use mathlib.Core.List.{List, []}
@@ -13,39 +12,30 @@ use borrow.Author.Needs.{needs}
 use Rattle.cabinet_replies.proofs.store_verdict.Statement.{statement}
 use Rattle.cabinet_replies.proofs.store_verdict.Tie as tie
 
--- src/lib.rt:45:9
 is-card-requires : tie.Need-is-card-requires
 is-card-requires c κs = search needs
 
--- src/lib.rt:47:9
 is-rolling-requires : tie.Need-is-rolling-requires
 is-rolling-requires c κs = search needs
 
--- src/lib.rt:48:9
 at-requires : tie.Need-at-requires
 at-requires c κs = search needs
 
--- src/lib.rt:49:9
 at-requires-2 : tie.Need-at-requires-2
 at-requires-2 c κs = search needs
 
--- src/lib.rt:50:9
 next-requires : tie.Need-next-requires
 next-requires c κs = search needs
 
--- src/lib.rt:51:9
 next-requires-2 : tie.Need-next-requires-2
 next-requires-2 c κs = search needs
 
--- src/lib.rt:52:9
 next-requires-3 : tie.Need-next-requires-3
 next-requires-3 c κs = search needs
 
--- src/lib.rt:53:5
 next-requires-4 : tie.Need-next-requires-4
 next-requires-4 c κs = search needs
 
--- src/lib.rt:42:1
 returns : tie.Need-returns
 returns c = let a : _ = c .before .before .before .before .before .before .before .before .args in let cs : List Check = after28 (not (a .valid)) (storeChecks limits16 (numbersModel (a .head) [] (a .stored) (a .held) []) (a .card) (a .state)) in let e : c .next4 .result ≡ folded cs Done = rw (c .next4 .ensures, c .before .next3 .ensures, c .before .before .next2 .ensures, c .before .before .before .next .ensures, c .before .before .before .before .before .before .before .is-card .ensures, c .before .before .before .before .before .before .is-rolling .ensures, c .before .before .before .before .before .at .ensures, c .before .before .before .before .at2 .ensures) in e ∙ folded-first cs
 

@@ -8,7 +8,7 @@ use Rattle.cabinet_layout.specs.Answers.{after28}
 use Rattle.cabinet_layout.proofs.Checks.{folded, folded-first}
 use Rattle.cabinet_layout.specs.Shape.{limits16, openOf, openAt}
 use Rattle.cabinet_layout.proofs.Limits.{slots8}
-use Prim.Native.Nat.{ℕ, _-_}
+use Prim.Native.Nat.{ℕ}
 use mathlib.Core.Path.{_≡_, sym, _∙_, ap, ap₂}
 use mathlib.Core.Bool.{not, _&&_}
 use mathlib.Core.List.{List, []}
@@ -17,55 +17,42 @@ use borrow.Author.Needs.{needs}
 use Rattle.cabinet_replies.proofs.take_verdict.Statement.{statement}
 use Rattle.cabinet_replies.proofs.take_verdict.Tie as tie
 
--- src/lib.rt:60:9
 is-card-requires : tie.Need-is-card-requires
 is-card-requires c κs = search needs
 
--- src/lib.rt:62:9
 is-up-requires : tie.Need-is-up-requires
 is-up-requires c κs = search needs
 
--- src/lib.rt:63:9
 slot-of-requires : tie.Need-slot-of-requires
 slot-of-requires c κs = search needs
 
--- src/lib.rt:64:9
 slot-at-requires : tie.Need-slot-at-requires
 slot-at-requires c κs = search needs
 
--- src/lib.rt:65:9
 is-decided-requires : tie.Need-is-decided-requires
 is-decided-requires c κs = search needs
 
--- src/lib.rt:66:9
 is-awaited-requires : tie.Need-is-awaited-requires
 is-awaited-requires c κs = search needs
 
--- src/lib.rt:67:9
 next-requires : tie.Need-next-requires
 next-requires c κs = search needs
 
--- src/lib.rt:68:9
 next-requires-2 : tie.Need-next-requires-2
 next-requires-2 c κs = search needs
 
--- src/lib.rt:69:9
 next-requires-3 : tie.Need-next-requires-3
 next-requires-3 c κs = search needs
 
--- src/lib.rt:70:9
 next-requires-4 : tie.Need-next-requires-4
 next-requires-4 c κs = search needs
 
--- src/lib.rt:71:9
 next-requires-5 : tie.Need-next-requires-5
 next-requires-5 c κs = search needs
 
--- src/lib.rt:72:5
 next-requires-6 : tie.Need-next-requires-6
 next-requires-6 c κs = search needs
 
--- src/lib.rt:57:1
 returns : tie.Need-returns
 returns c = let a : _ = c .before .before .before .before .before .before .before .before .before .before .before .before .args in let P : ℕ = slotOf limits16 (slotsModel (a .head) (a .all) [] []) (a .k) in let cs : List Check = after28 (not (a .valid)) (takeChecks limits16 (slotsModel (a .head) (a .all) [] []) (a .k) (a .card)) in let ep : c .before .before .before .before .before .before .before .before .before .slot-of .result ≡ P = c .before .before .before .before .before .before .before .before .before .slot-of .ensures in let eo : openOf (c .before .before .before .before .before .before .before .before .slot-at .result) ≡ openAt (a .all) P = c .before .before .before .before .before .before .before .before .slot-at .ensures ∙ ap (openAt (a .all)) ep in let em : c .before .before .before .before .before .before .before .is-decided .result ≡ decided limits16 (openAt (a .all) P) = c .before .before .before .before .before .before .before .is-decided .ensures ∙ ap (decided limits16) eo in let ed : c .before .before .before .before .before .before .is-awaited .result ≡ (touches (openAt (a .all) P .change) (a .card) && not (openAt (a .all) P .taken (a .card))) = c .before .before .before .before .before .before .is-awaited .ensures ∙ ap (λ (x : OpenChange). touches (x .change) (a .card) && not (x .taken (a .card))) eo in let ek : not (ltb (c .before .before .before .before .before .before .before .before .before .slot-of .result) 8) ≡ not (ltb P (limits16 .slots)) = ap₂ (λ (x y : ℕ). not (ltb x y)) ep (sym slots8) in let e : c .next6 .result ≡ folded cs Done = rw (c .next6 .ensures, c .before .next5 .ensures, c .before .before .next4 .ensures, c .before .before .before .next3 .ensures, c .before .before .before .before .next2 .ensures, c .before .before .before .before .before .next .ensures, c .before .before .before .before .before .before .before .before .before .before .before .is-card .ensures, c .before .before .before .before .before .before .before .before .before .before .is-up .ensures, ek, em, ed) in e ∙ folded-first cs
 

@@ -1,15 +1,10 @@
 -- `cabinet_restart::restart` answers what the read-out's verdict says. Assumes nothing.
-use mathlib.Core.Path.{_≡_, _∙_, ap}
+use mathlib.Core.Path.{_∙_, ap}
 use Rattle.cabinet.specs.Fresh.{zeroCabinet}
 use Rattle.cabinet_restart.proofs.Shows.{read-within, restart-done, restart-refused}
 use borrow.Author.Needs.{needs}
 use Rattle.cabinet_restart.proofs.restart.Statement.{statement}
 use Rattle.cabinet_restart.proofs.restart.Tie as tie
-use Rattle.cabinet_restart.proofs.restart.Reads as reads
-use Rattle.cabinet_restart.proofs.restart.Lts as lts
-use Rattle.cabinet.proofs.zeros.Reads as zeros-reads
-use Rattle.sheet_readout.proofs.read_readout.Reads as read-readout-reads
-use Rattle.cabinet_restart.proofs.restarted.Reads as restarted-reads
 
 read-readout-requires : tie.Need-read-readout-requires
 read-readout-requires c κs = search needs

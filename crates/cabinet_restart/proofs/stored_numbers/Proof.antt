@@ -1,18 +1,13 @@
 -- `cabinet_restart::stored_numbers` adds each count to its base. Assumes nothing.
-use Prim.Native.Nat.{ℕ, zero, suc, _+_, _*_, _-_, _%_, _≤_, _<_}
-use mathlib.Core.Path.{_≡_, refl, sym, _∙_, ap}
-use mathlib.Core.Bool.{Bool, true, false, cond}
+use Prim.Native.Nat.{_+_, _-_}
+use mathlib.Core.Path.{refl}
 use native.Mathlib.Omega.{arith}
-use lib.Dec.{ltb}
-use lib.ListN.{length, getD}
 use Rattle.base_laws.proofs.Fill.{FilledSoFar, filled-none, filled-more, filled-done}
-use Rattle.cabinet_layout.specs.Shape.{at, ringFrame}
+use Rattle.cabinet_layout.specs.Shape.{at}
 use Rattle.cabinet_layout.proofs.Limits.{width16}
 use borrow.Author.Needs.{needs}
 use Rattle.cabinet_restart.proofs.stored_numbers.Statement.{statement}
 use Rattle.cabinet_restart.proofs.stored_numbers.Tie as tie
-use Rattle.cabinet_restart.proofs.stored_numbers.Reads as reads
-use Rattle.cabinet_restart.proofs.stored_numbers.Lts as lts
 
 abbrev Inv-loop : tie.InvT-loop
 Inv-loop bases counts out₀ c₀ out c = FilledSoFar 0 16 (λ k. at bases k + at counts k) out c

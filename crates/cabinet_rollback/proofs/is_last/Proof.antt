@@ -4,7 +4,7 @@ use Rattle.base_bits.specs.Sets.{below, subset}
 use Rattle.theory_history.specs.Change.{CardSet}
 use Rattle.cabinet_layout.proofs.Held.{all-put}
 use Rattle.cabinet_rollback.proofs.Rolled.{cut-within}
-use Prim.Native.Nat.{ℕ, _-_}
+use Prim.Native.Nat.{ℕ}
 use mathlib.Core.Path.{sym, _∙_, ap}
 use mathlib.Core.Bool.{not}
 use Rattle.base_laws.specs.Below.{anyBelow}
@@ -13,23 +13,18 @@ use borrow.Author.Needs.{needs}
 use Rattle.cabinet_rollback.proofs.is_last.Statement.{statement}
 use Rattle.cabinet_rollback.proofs.is_last.Tie as tie
 
--- src/lib.rt:135:9
 all-below-requires : tie.Need-all-below-requires
 all-below-requires c κs = search needs
 
--- src/lib.rt:136:9
 with-requires : tie.Need-with-requires
 with-requires c κs = search needs
 
--- src/lib.rt:137:9
 difference-requires : tie.Need-difference-requires
 difference-requires c κs = search needs
 
--- src/lib.rt:138:5
 is-empty-requires : tie.Need-is-empty-requires
 is-empty-requires c κs = search needs
 
--- src/lib.rt:132:1
 returns : tie.Need-returns
 returns c = let a : _ = c .before .before .before .before .args in let all : ℕ = c .before .before .before .all-below .result in let y : ℕ = c .before .before .with .result in c .is-empty .ensures ∙ ap (λ (s : CardSet). not (anyBelow 16 s)) (c .before .difference .ensures) ∙ empty-except 16 (member all) (member y) ∙ ap (λ (s : CardSet). subset 16 s (member y)) (c .before .before .before .all-below .ensures) ∙ cut-within 16 (a .head .cards) (member y) ∙ ap (λ (w : ℕ). subset w (below (a .head .cards)) (member y)) (sym width16) ∙ all-put (below (a .head .cards)) (a .rolled) y (a .card) (c .before .before .with .ensures)
 

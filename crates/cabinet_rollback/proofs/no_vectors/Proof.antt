@@ -1,9 +1,7 @@
 use Rattle.cabinet_rollback.proofs.Rolled.{vectors-none}
-use Prim.Native.Nat.{_-_}
 use Rattle.cabinet_rollback.proofs.no_vectors.Statement.{statement}
 use Rattle.cabinet_rollback.proofs.no_vectors.Tie as tie
 
--- src/lib.rt:142:1
 returns : tie.Need-returns
 returns c = vectors-none
 

@@ -3,7 +3,6 @@ use Rattle.theory_protocol.specs.Plan.{Check}
 use Rattle.base_refusal.specs.declared.Reply.the-variants.{Done}
 use Rattle.cabinet_layout.specs.Answers.{after28}
 use Rattle.cabinet_layout.proofs.Checks.{folded, folded-first}
-use Prim.Native.Nat.{_-_}
 use mathlib.Core.Path.{_≡_, _∙_}
 use mathlib.Core.Bool.{not}
 use mathlib.Core.List.{List}
@@ -12,19 +11,15 @@ use borrow.Author.Needs.{needs}
 use Rattle.cabinet_rollback.proofs.trim_verdict.Statement.{statement}
 use Rattle.cabinet_rollback.proofs.trim_verdict.Tie as tie
 
--- src/lib.rt:107:9
 is-up-requires : tie.Need-is-up-requires
 is-up-requires c κs = search needs
 
--- src/lib.rt:108:9
 next-requires : tie.Need-next-requires
 next-requires c κs = search needs
 
--- src/lib.rt:109:5
 next-requires-2 : tie.Need-next-requires-2
 next-requires-2 c κs = search needs
 
--- src/lib.rt:103:1
 returns : tie.Need-returns
 returns c = let a : _ = c .before .before .before .args in let cs : List Check = after28 (not (a .valid)) (trimChecks limits16 (headModel (a .head))) in let e : c .next2 .result ≡ folded cs Done = rw (c .next2 .ensures, c .before .next .ensures, c .before .before .is-up .ensures) in e ∙ folded-first cs
 

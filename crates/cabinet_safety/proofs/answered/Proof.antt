@@ -1,28 +1,19 @@
-use Prim.Native.Nat.{_-_}
 use borrow.Author.Needs.{needs}
 use Rattle.cabinet_safety.proofs.answered.Statement.{statement}
 use Rattle.cabinet_safety.proofs.answered.Tie as tie
-use Rattle.cabinet_safety.proofs.answered.Reads as reads
-use Rattle.cabinet_safety.proofs.answered.Lts as lts
-use Rattle.cabinet_safety.proofs.graded.Reads as graded-reads
 
--- src/lib.rt:82:24
 enum-told : tie.Need-enum-told
 enum-told c = search needs
 
--- src/lib.rt:82:24
 graded-requires : tie.Need-graded-requires
 graded-requires c κs = search needs
 
--- src/lib.rt:83:24
 enum-known-r : tie.Need-enum-known-r
 enum-known-r c = search needs
 
--- src/lib.rt:78:1
 returns : tie.Need-returns
 returns c = rw (c .before .enum-told .given .1) (c .graded .ensures)
 
--- src/lib.rt:78:1
 returns-2 : tie.Need-returns-2
 returns-2 c = rw (c .before .r .given .1)
 

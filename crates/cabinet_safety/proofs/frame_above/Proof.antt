@@ -7,9 +7,6 @@ use lib.Dec.{eqb}
 use borrow.Author.Needs.{needs}
 use Rattle.cabinet_safety.proofs.frame_above.Statement.{statement}
 use Rattle.cabinet_safety.proofs.frame_above.Tie as tie
-use Rattle.cabinet_safety.proofs.frame_above.Reads as reads
-use Rattle.cabinet_safety.proofs.frame_above.Lts as lts
-use Rattle.cabinet_safety.proofs.above.Reads as above-reads
 
 abbrev Inv-loop : tie.InvT-loop
 Inv-loop changes c x reached k n found₀ s₀ found s = AnySoFar n (λ i. eqb (ringChange changes c (suc (x + i))) k) found s
@@ -17,55 +14,42 @@ Inv-loop changes c x reached k n found₀ s₀ found s = AnySoFar n (λ i. eqb (
 abbrev μ-loop : tie.MeasureT-loop
 μ-loop changes c x reached k n found₀ s₀ found s = n - s
 
--- src/lib.rt:33:9
 above-requires : tie.Need-above-requires Inv-loop μ-loop
 above-requires c κs = search needs
 
--- src/lib.rt:36:5
 loop-holds : tie.Need-loop-holds Inv-loop μ-loop
 loop-holds c = any-none
 
--- src/lib.rt:37:21
 mul-place : tie.Need-mul-place Inv-loop μ-loop
 mul-place c = search needs
 
--- src/lib.rt:37:32
 add-place : tie.Need-add-place Inv-loop μ-loop
 add-place c = search needs
 
--- src/lib.rt:37:32
 add-place-2 : tie.Need-add-place-2 Inv-loop μ-loop
 add-place-2 c = search needs
 
--- src/lib.rt:37:30
 cast-place : tie.Need-cast-place Inv-loop μ-loop
 cast-place c = search needs
 
--- src/lib.rt:37:21
 add-place-3 : tie.Need-add-place-3 Inv-loop μ-loop
 add-place-3 c = search needs
 
--- src/lib.rt:38:26
 mul-found : tie.Need-mul-found Inv-loop μ-loop
 mul-found c = search needs
 
--- src/lib.rt:38:26
 element-copy-out-found : tie.Need-element-copy-out-found Inv-loop μ-loop
 element-copy-out-found c = search needs
 
--- src/lib.rt:39:9
 add-s : tie.Need-add-s Inv-loop μ-loop
 add-s c = search needs
 
--- src/lib.rt:36:5
 loop-less : tie.Need-loop-less Inv-loop μ-loop
 loop-less c = search needs
 
--- src/lib.rt:36:5
 loop-again : tie.Need-loop-again Inv-loop μ-loop
 loop-again c = any-more (c .before .before .loop .inv) (c .before .loop-test .taken) (rw (add-one (c .before .before .before .before .args .x + c .before .before .loop .s)))
 
--- src/lib.rt:29:1
 returns : tie.Need-returns Inv-loop μ-loop
 returns c = any-done (c .before .loop .inv) (c .loop-test .left) (sym (c .before .before .above .ensures))
 

@@ -9,9 +9,6 @@ use lib.Dec.{ltb, eqb}
 use borrow.Author.Needs.{needs}
 use Rattle.cabinet_safety.proofs.some_above.Statement.{statement}
 use Rattle.cabinet_safety.proofs.some_above.Tie as tie
-use Rattle.cabinet_safety.proofs.some_above.Reads as reads
-use Rattle.cabinet_safety.proofs.some_above.Lts as lts
-use Rattle.cabinet_safety.proofs.there_above.Reads as there-above-reads
 
 abbrev Inv-loop : tie.InvT-loop
 Inv-loop changes cards k numbers reached found₀ c₀ found c = AnySoFar 16 (λ i. ltb i cards && anyBelow (at reached i - at numbers i) (λ s. eqb (ringChange changes i (suc (at numbers i + s))) k)) found c
@@ -19,43 +16,33 @@ Inv-loop changes cards k numbers reached found₀ c₀ found c = AnySoFar 16 (λ
 abbrev μ-loop : tie.MeasureT-loop
 μ-loop changes cards k numbers reached found₀ c₀ found c = 16 - c
 
--- src/lib.rt:63:5
 loop-holds : tie.Need-loop-holds Inv-loop μ-loop
 loop-holds c = any-none
 
--- src/lib.rt:65:55
 mul-there-above : tie.Need-mul-there-above Inv-loop μ-loop
 mul-there-above c = search needs
 
--- src/lib.rt:65:55
 array-read-there-above : tie.Need-array-read-there-above Inv-loop μ-loop
 array-read-there-above c = search needs
 
--- src/lib.rt:65:67
 mul-there-above-2 : tie.Need-mul-there-above-2 Inv-loop μ-loop
 mul-there-above-2 c = search needs
 
--- src/lib.rt:65:67
 array-read-there-above-2 : tie.Need-array-read-there-above-2 Inv-loop μ-loop
 array-read-there-above-2 c = search needs
 
--- src/lib.rt:65:25
 there-above-requires : tie.Need-there-above-requires Inv-loop μ-loop
 there-above-requires c κs = (c .loop-test .taken, λ t. c .before .before .pre (c .before .loop .c) (c .loop-test .taken) (ltb-true (c .before .loop .c) (c .before .before .args .cards) t))
 
--- src/lib.rt:66:9
 add-c : tie.Need-add-c Inv-loop μ-loop
 add-c c = search needs
 
--- src/lib.rt:63:5
 loop-less : tie.Need-loop-less Inv-loop μ-loop
 loop-less c = search needs
 
--- src/lib.rt:63:5
 loop-again : tie.Need-loop-again Inv-loop μ-loop
 loop-again c = any-more (c .before .before .loop .inv) (c .before .loop-test .taken) (c .there-above .ensures)
 
--- src/lib.rt:57:1
 returns : tie.Need-returns Inv-loop μ-loop
 returns c = any-done (c .before .loop .inv) (c .loop-test .left) width16
 

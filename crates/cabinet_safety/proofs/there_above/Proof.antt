@@ -1,19 +1,12 @@
-use Prim.Native.Nat.{_-_}
 use Rattle.cabinet_safety.proofs.there_above.Statement.{statement}
 use Rattle.cabinet_safety.proofs.there_above.Tie as tie
-use Rattle.cabinet_safety.proofs.there_above.Reads as reads
-use Rattle.cabinet_safety.proofs.there_above.Lts as lts
-use Rattle.cabinet_safety.proofs.frame_above.Reads as frame-above-reads
 
--- src/lib.rt:50:9
 frame-above-requires : tie.Need-frame-above-requires
 frame-above-requires c κs = (c .before .pre .0, c .before .pre .1 (c .if1 .taken))
 
--- src/lib.rt:45:1
 returns : tie.Need-returns
 returns c = rw (c .before .if1 .taken) (c .frame-above .ensures)
 
--- src/lib.rt:45:1
 returns-2 : tie.Need-returns-2
 returns-2 c = rw (c .if1 .left)
 

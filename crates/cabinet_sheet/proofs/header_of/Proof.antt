@@ -3,7 +3,6 @@ use Prim.Native.Nat.{_-_}
 use borrow.Author.Needs.{needs}
 use Rattle.cabinet_sheet.proofs.header_of.Statement.{statement}
 use Rattle.cabinet_sheet.proofs.header_of.Tie as tie
-use Rattle.cabinet_sheet.proofs.session_for.Reads as session-for-reads
 
 session-for-requires : tie.Need-session-for-requires
 session-for-requires c κs = search needs

@@ -1,17 +1,13 @@
 -- `cabinet_sheet::session_for` answers the session that a card's sheet tells. Assumes nothing.
-use mathlib.Core.Path.{_≡_, refl, sym, _∙_, ap, ap₂}
-use mathlib.Core.Bool.{Bool, true, false, _&&_, cond}
+use mathlib.Core.Path.{sym, _∙_, ap₂}
+use mathlib.Core.Bool.{Bool, _&&_}
 use native.Mathlib.Omega.{arith}
 use native.Mathlib.Numerals.{add-one}
-use Prim.Native.Nat.{ℕ, suc}
+use Prim.Native.Nat.{suc}
 use Rattle.base_laws.proofs.Logic.{and-left, cond-true, cond-false}
 use borrow.Author.Needs.{needs}
 use Rattle.cabinet_sheet.proofs.session_for.Statement.{statement}
 use Rattle.cabinet_sheet.proofs.session_for.Tie as tie
-use Rattle.cabinet_sheet.proofs.session_for.Reads as reads
-use Rattle.cabinet_sheet.proofs.session_for.Lts as lts
-use Rattle.base_bits.proofs.has.Reads as has-reads
-use Rattle.cabinet_layout.proofs.is_rolling.Reads as is-rolling-reads
 
 is-rolling-requires : tie.Need-is-rolling-requires
 is-rolling-requires c κs = search needs

@@ -7,12 +7,6 @@ use Rattle.cabinet_sheet.proofs.Told.{card-there, told-invalid, told-ab
 use borrow.Author.Needs.{needs}
 use Rattle.cabinet_sheet.proofs.write_card.Statement.{statement}
 use Rattle.cabinet_sheet.proofs.write_card.Tie as tie
-use Rattle.cabinet_sheet.proofs.write_card.Reads as reads
-use Rattle.cabinet_sheet.proofs.write_card.Lts as lts
-use Rattle.cabinet_sheet.proofs.header_of.Reads as header-of-reads
-use Rattle.cabinet_layout.proofs.at.Reads as at-reads
-use Rattle.cabinet_replies.proofs.is_card.Reads as is-card-reads
-use Rattle.sheet_page_writer.proofs.write_page.Reads as write-page-reads
 
 returns : tie.Need-returns
 returns c =

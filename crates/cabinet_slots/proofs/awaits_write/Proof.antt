@@ -3,7 +3,7 @@ use Rattle.base_bits.specs.Sets.{except}
 use Rattle.base_bits.specs.Member.{member}
 use Rattle.cabinet_layout.proofs.Limits.{width16}
 use Rattle.base_laws.specs.Below.{anyBelow}
-use Prim.Native.Nat.{ℕ, _-_}
+use Prim.Native.Nat.{ℕ}
 use mathlib.Core.Path.{sym, _∙_, ap}
 use mathlib.Core.Bool.{Bool, not}
 use borrow.Author.Needs.{needs}

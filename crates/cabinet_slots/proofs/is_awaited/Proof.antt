@@ -1,4 +1,3 @@
-use Prim.Native.Nat.{_-_}
 use borrow.Author.Needs.{needs}
 use Rattle.cabinet_slots.proofs.is_awaited.Statement.{statement}
 use Rattle.cabinet_slots.proofs.is_awaited.Tie as tie

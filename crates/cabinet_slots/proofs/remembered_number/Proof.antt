@@ -1,5 +1,4 @@
 use Rattle.base_laws.proofs.Logic.{cond-true, cond-false}
-use Prim.Native.Nat.{_-_}
 use mathlib.Core.Path.{sym, _∙_, ap₂}
 use mathlib.Core.Bool.{Bool, not, _&&_}
 use lib.Dec.{eqb}

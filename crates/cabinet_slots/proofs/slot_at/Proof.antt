@@ -1,7 +1,6 @@
 use Rattle.theory_protocol.specs.Model.{freeSlot}
 use Rattle.cabinet_layout.specs.Shape.{openOf, emptySlot}
 use Rattle.cabinet_layout.proofs.Held.{open-back, free-fits, no-slot}
-use Prim.Native.Nat.{_-_}
 use mathlib.Core.Path.{_≡_, sym, _∙_, ap}
 use native.Mathlib.Omega.{arith}
 use lib.ListN.{length, List·getD-eq-default}

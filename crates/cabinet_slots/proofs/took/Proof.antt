@@ -7,7 +7,6 @@ use borrow.Author.Tests.{eq-eqb, ne-eqb}
 use Rattle.cabinet_layout.specs.Shape.{limits16, slotFor}
 use Rattle.cabinet_layout.proofs.Held.{list-known, set-known, slot-by}
 use Rattle.base_laws.specs.Below.{allBelow}
-use Prim.Native.Nat.{_-_}
 use mathlib.Core.Path.{_≡_, refl, sym, _∙_, ap}
 use mathlib.Core.Bool.{true, false, not, _||_}
 use Rattle.cabinet_slots.proofs.Votes.{none-awaited}

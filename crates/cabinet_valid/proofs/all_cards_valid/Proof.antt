@@ -1,6 +1,5 @@
-use Prim.Native.Nat.{ℕ, _-_}
-use mathlib.Core.Path.{_≡_, _∙_}
-use mathlib.Core.List.{[]}
+use Prim.Native.Nat.{_-_}
+use mathlib.Core.Path.{_∙_}
 use Rattle.base_laws.proofs.Fill.{AllSoFar, all-none, all-more, all-done}
 use Rattle.theory_protocol.specs.Valid.{cardValid}
 use Rattle.cabinet_layout.specs.Shape.{limits16, bare, withVectors, withNumbers, withLine, modelOf}
@@ -9,9 +8,6 @@ use Rattle.cabinet_valid.proofs.Hand.{card-whole}
 use borrow.Author.Needs.{needs}
 use Rattle.cabinet_valid.proofs.all_cards_valid.Statement.{statement}
 use Rattle.cabinet_valid.proofs.all_cards_valid.Tie as tie
-use Rattle.cabinet_valid.proofs.all_cards_valid.Reads as reads
-use Rattle.cabinet_valid.proofs.all_cards_valid.Lts as lts
-use Rattle.cabinet_valid.proofs.card_valid.Reads as card-valid-reads
 
 abbrev Inv-loop : tie.InvT-loop
 Inv-loop entries changes last pending base stored held reached line head ok₀ c₀ ok c = AllSoFar 16 (cardValid limits16 (modelOf entries changes (withLine (withVectors (withNumbers (bare head) base stored held reached) last pending) line 0))) ok c
@@ -19,83 +15,63 @@ Inv-loop entries changes last pending base stored held reached line head ok₀ c
 abbrev μ-loop : tie.MeasureT-loop
 μ-loop entries changes last pending base stored held reached line head ok₀ c₀ ok c = 16 - c
 
--- src/lib.rt:184:5
 loop-holds : tie.Need-loop-holds Inv-loop μ-loop
 loop-holds c = all-none
 
--- src/lib.rt:185:17
 mul-l : tie.Need-mul-l Inv-loop μ-loop
 mul-l c = search needs
 
--- src/lib.rt:185:17
 array-copy-out-l : tie.Need-array-copy-out-l Inv-loop μ-loop
 array-copy-out-l c = search needs
 
--- src/lib.rt:187:17
 mul-p : tie.Need-mul-p Inv-loop μ-loop
 mul-p c = search needs
 
--- src/lib.rt:187:17
 array-copy-out-p : tie.Need-array-copy-out-p Inv-loop μ-loop
 array-copy-out-p c = search needs
 
--- src/lib.rt:195:17
 mul-card-valid : tie.Need-mul-card-valid Inv-loop μ-loop
 mul-card-valid c = search needs
 
--- src/lib.rt:195:17
 array-read-card-valid : tie.Need-array-read-card-valid Inv-loop μ-loop
 array-read-card-valid c = search needs
 
--- src/lib.rt:196:17
 mul-card-valid-2 : tie.Need-mul-card-valid-2 Inv-loop μ-loop
 mul-card-valid-2 c = search needs
 
--- src/lib.rt:196:17
 array-read-card-valid-2 : tie.Need-array-read-card-valid-2 Inv-loop μ-loop
 array-read-card-valid-2 c = search needs
 
--- src/lib.rt:197:17
 mul-card-valid-3 : tie.Need-mul-card-valid-3 Inv-loop μ-loop
 mul-card-valid-3 c = search needs
 
--- src/lib.rt:197:17
 array-read-card-valid-3 : tie.Need-array-read-card-valid-3 Inv-loop μ-loop
 array-read-card-valid-3 c = search needs
 
--- src/lib.rt:198:17
 mul-card-valid-4 : tie.Need-mul-card-valid-4 Inv-loop μ-loop
 mul-card-valid-4 c = search needs
 
--- src/lib.rt:198:17
 array-read-card-valid-4 : tie.Need-array-read-card-valid-4 Inv-loop μ-loop
 array-read-card-valid-4 c = search needs
 
--- src/lib.rt:199:17
 mul-card-valid-5 : tie.Need-mul-card-valid-5 Inv-loop μ-loop
 mul-card-valid-5 c = search needs
 
--- src/lib.rt:199:17
 array-read-card-valid-5 : tie.Need-array-read-card-valid-5 Inv-loop μ-loop
 array-read-card-valid-5 c = search needs
 
--- src/lib.rt:190:15
 card-valid-requires : tie.Need-card-valid-requires Inv-loop μ-loop
 card-valid-requires c κs = search needs
 
--- src/lib.rt:203:9
 add-c : tie.Need-add-c Inv-loop μ-loop
 add-c c = search needs
 
--- src/lib.rt:184:5
 loop-less : tie.Need-loop-less Inv-loop μ-loop
 loop-less c = search needs
 
--- src/lib.rt:184:5
 loop-again : tie.Need-loop-again Inv-loop μ-loop
 loop-again c = let a : _ = c .before .before .before .before .before .before .before .before .before .before .before .before .before .before .before .args in all-more (c .before .before .before .before .before .before .loop .inv) (c .before .before .before .before .before .loop-test .taken) (c .card-valid .ensures ∙ card-whole (a .entries .now) (a .changes .now) (a .core) (c .before .before .before .before .before .before .loop .c) (c .before .before .before .before .before .loop-test .taken))
 
--- src/lib.rt:168:1
 returns : tie.Need-returns Inv-loop μ-loop
 returns c = all-done (c .before .loop .inv) (c .loop-test .left) width16
 

@@ -2,33 +2,22 @@ use Rattle.cabinet_valid.proofs.Hand.{card-flags}
 use borrow.Author.Needs.{needs}
 use Rattle.cabinet_valid.proofs.card_valid.Statement.{statement}
 use Rattle.cabinet_valid.proofs.card_valid.Tie as tie
-use Rattle.cabinet_valid.proofs.card_valid.Reads as reads
-use Rattle.cabinet_valid.proofs.card_valid.Lts as lts
-use Rattle.cabinet_numbers.proofs.entries_valid.Reads as entries-valid-reads
-use Rattle.cabinet_valid.proofs.seen.Reads as seen-reads
-use Rattle.cabinet_valid.proofs.there_valid.Reads as there-valid-reads
 
--- src/lib.rt:159:17
 cast-cards : tie.Need-cast-cards
 cast-cards c = search needs
 
--- src/lib.rt:161:9
 seen-requires : tie.Need-seen-requires
 seen-requires c κs = search needs
 
--- src/lib.rt:162:9
 entries-valid-requires : tie.Need-entries-valid-requires
 entries-valid-requires c κs = search needs
 
--- src/lib.rt:163:9
 entries-valid-requires-2 : tie.Need-entries-valid-requires-2
 entries-valid-requires-2 c κs = search needs
 
--- src/lib.rt:164:9
 there-valid-requires : tie.Need-there-valid-requires
 there-valid-requires c κs = search needs
 
--- src/lib.rt:143:1
 returns : tie.Need-returns
 returns c = let a : _ = c .before .before .before .before .before .args in card-flags (a .head) (a .c) _ (a .last) (a .pending) _ _ _ _ (c .before .before .before .seen .ensures) (c .before .before .entries-valid .ensures) (c .before .entries-valid2 .ensures) (c .there-valid .ensures)
 

@@ -1,18 +1,12 @@
-use Prim.Native.Nat.{ℕ, suc, _+_, _*_, _-_, _≤_, _<_}
-use mathlib.Core.Path.{_≡_, refl, sym, _∙_, ap, ap₂}
-use mathlib.Core.Bool.{Bool, true, false, not, _&&_, _||_, cond}
-use native.Mathlib.Omega.{arith}
-use lib.ListN.{length, getD, List·getD-eq-default}
-use lib.Dec.{leb, ltb, eqb}
+use Prim.Native.Nat.{_+_, _-_}
+use mathlib.Core.Bool.{cond}
+use lib.Dec.{leb, ltb}
 use Rattle.base_laws.proofs.Fill.{AllSoFar, all-none, all-more, all-done}
 use Rattle.cabinet_layout.specs.Shape.{limits16, at}
 use Rattle.cabinet_layout.proofs.Limits.{width16}
 use borrow.Author.Needs.{needs}
 use Rattle.cabinet_valid.proofs.frame_entries_valid.Statement.{statement}
 use Rattle.cabinet_valid.proofs.frame_entries_valid.Tie as tie
-use Rattle.cabinet_valid.proofs.frame_entries_valid.Reads as reads
-use Rattle.cabinet_valid.proofs.frame_entries_valid.Lts as lts
-use Rattle.cabinet_numbers.proofs.top.Reads as top-reads
 
 abbrev Inv-loop : tie.InvT-loop
 Inv-loop entries from cards ok₀ j₀ ok j = AllSoFar 16 (λ k. leb (at entries (from + k)) (cond (ltb k cards) (limits16 .greatestState) 0)) ok j
@@ -20,39 +14,30 @@ Inv-loop entries from cards ok₀ j₀ ok j = AllSoFar 16 (λ k. leb (at entries
 abbrev μ-loop : tie.MeasureT-loop
 μ-loop entries from cards ok₀ j₀ ok j = 16 - j
 
--- src/valid.rt:70:5
 loop-holds : tie.Need-loop-holds Inv-loop μ-loop
 loop-holds c = all-none
 
--- src/valid.rt:71:28
 add-ok : tie.Need-add-ok Inv-loop μ-loop
 add-ok c = search needs
 
--- src/valid.rt:71:20
 mul-ok : tie.Need-mul-ok Inv-loop μ-loop
 mul-ok c = search needs
 
--- src/valid.rt:71:20
 element-copy-out-ok : tie.Need-element-copy-out-ok Inv-loop μ-loop
 element-copy-out-ok c = search needs
 
--- src/valid.rt:71:41
 top-requires : tie.Need-top-requires Inv-loop μ-loop
 top-requires c κs = search needs
 
--- src/valid.rt:72:9
 add-j : tie.Need-add-j Inv-loop μ-loop
 add-j c = search needs
 
--- src/valid.rt:70:5
 loop-less : tie.Need-loop-less Inv-loop μ-loop
 loop-less c = search needs
 
--- src/valid.rt:70:5
 loop-again : tie.Need-loop-again Inv-loop μ-loop
 loop-again c = all-more (c .before .before .before .loop .inv) (c .before .before .loop-test .taken) (rw (c .top .ensures))
 
--- src/valid.rt:64:1
 returns : tie.Need-returns Inv-loop μ-loop
 returns c = all-done (c .before .loop .inv) (c .loop-test .left) width16
 

@@ -1,17 +1,12 @@
-use Prim.Native.Nat.{ℕ, suc, _+_, _*_, _-_, _≤_, _<_}
-use mathlib.Core.Path.{_≡_, refl, sym, _∙_, ap, ap₂}
-use mathlib.Core.Bool.{Bool, true, false, not, _&&_, _||_, cond}
-use native.Mathlib.Omega.{arith}
-use lib.ListN.{length, getD, List·getD-eq-default}
-use lib.Dec.{leb, ltb, eqb}
+use Prim.Native.Nat.{_+_, _-_}
+use mathlib.Core.Path.{refl}
+use lib.Dec.{leb}
 use Rattle.base_laws.proofs.Fill.{AllSoFar, all-none, all-more, all-done}
-use Rattle.cabinet_layout.specs.Shape.{limits16, at}
+use Rattle.cabinet_layout.specs.Shape.{at}
 use Rattle.cabinet_layout.proofs.Limits.{width16}
 use borrow.Author.Needs.{needs}
 use Rattle.cabinet_valid.proofs.rising_entries.Statement.{statement}
 use Rattle.cabinet_valid.proofs.rising_entries.Tie as tie
-use Rattle.cabinet_valid.proofs.rising_entries.Reads as reads
-use Rattle.cabinet_valid.proofs.rising_entries.Lts as lts
 
 abbrev Inv-loop : tie.InvT-loop
 Inv-loop entries from next ok₀ j₀ ok j = AllSoFar 16 (λ k. leb (at entries (from + k)) (at entries (next + k))) ok j
@@ -19,47 +14,36 @@ Inv-loop entries from next ok₀ j₀ ok j = AllSoFar 16 (λ k. leb (at entries 
 abbrev μ-loop : tie.MeasureT-loop
 μ-loop entries from next ok₀ j₀ ok j = 16 - j
 
--- src/valid.rt:95:5
 loop-holds : tie.Need-loop-holds Inv-loop μ-loop
 loop-holds c = all-none
 
--- src/valid.rt:96:28
 add-ok : tie.Need-add-ok Inv-loop μ-loop
 add-ok c = search needs
 
--- src/valid.rt:96:20
 mul-ok : tie.Need-mul-ok Inv-loop μ-loop
 mul-ok c = search needs
 
--- src/valid.rt:96:20
 element-copy-out-ok : tie.Need-element-copy-out-ok Inv-loop μ-loop
 element-copy-out-ok c = search needs
 
--- src/valid.rt:96:49
 add-ok-2 : tie.Need-add-ok-2 Inv-loop μ-loop
 add-ok-2 c = search needs
 
--- src/valid.rt:96:41
 mul-ok-2 : tie.Need-mul-ok-2 Inv-loop μ-loop
 mul-ok-2 c = search needs
 
--- src/valid.rt:96:41
 element-copy-out-ok-2 : tie.Need-element-copy-out-ok-2 Inv-loop μ-loop
 element-copy-out-ok-2 c = search needs
 
--- src/valid.rt:97:9
 add-j : tie.Need-add-j Inv-loop μ-loop
 add-j c = search needs
 
--- src/valid.rt:95:5
 loop-less : tie.Need-loop-less Inv-loop μ-loop
 loop-less c = search needs
 
--- src/valid.rt:95:5
 loop-again : tie.Need-loop-again Inv-loop μ-loop
 loop-again c = all-more (c .before .before .before .loop .inv) (c .before .before .loop-test .taken) refl
 
--- src/valid.rt:89:1
 returns : tie.Need-returns Inv-loop μ-loop
 returns c = all-done (c .before .loop .inv) (c .loop-test .left) width16
 

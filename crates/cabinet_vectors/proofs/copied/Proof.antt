@@ -1,11 +1,9 @@
 use Rattle.cabinet_layout.proofs.Held.{list-known}
-use Prim.Native.Nat.{_-_}
 use mathlib.Core.Path.{refl}
 use borrow.Author.Needs.{needs}
 use Rattle.cabinet_vectors.proofs.copied.Statement.{statement}
 use Rattle.cabinet_vectors.proofs.copied.Tie as tie
 
--- src/lib.rt:31:1
 returns : tie.Need-returns
 returns c = (refl, list-known (c .args .v) (search needs))
 

@@ -17,71 +17,54 @@ Inv-loop o reached last pending out₀ c₀ out c = (c ≤ 16) × (out ≡ listO
 abbrev μ-loop : tie.MeasureT-loop
 μ-loop o reached last pending out₀ c₀ out c = 16 - c
 
--- src/lib.rt:69:5
 loop-holds : tie.Need-loop-holds Inv-loop μ-loop
 loop-holds c = (search needs, zero-listed)
 
--- src/lib.rt:70:43
 cast-has : tie.Need-cast-has Inv-loop μ-loop
 cast-has c = search needs
 
--- src/lib.rt:70:13
 has-requires : tie.Need-has-requires Inv-loop μ-loop
 has-requires c κs = search needs
 
--- src/lib.rt:71:39
 cast-has-2 : tie.Need-cast-has-2 Inv-loop μ-loop
 cast-has-2 c = search needs
 
--- src/lib.rt:71:13
 has-requires-2 : tie.Need-has-requires-2 Inv-loop μ-loop
 has-requires-2 c κs = search needs
 
--- src/lib.rt:72:17
 mul-l : tie.Need-mul-l Inv-loop μ-loop
 mul-l c = search needs
 
--- src/lib.rt:72:17
 array-copy-out-l : tie.Need-array-copy-out-l Inv-loop μ-loop
 array-copy-out-l c = search needs
 
--- src/lib.rt:74:17
 mul-p : tie.Need-mul-p Inv-loop μ-loop
 mul-p c = search needs
 
--- src/lib.rt:74:17
 array-copy-out-p : tie.Need-array-copy-out-p Inv-loop μ-loop
 array-copy-out-p c = search needs
 
--- src/lib.rt:76:44
 mul-share-of : tie.Need-mul-share-of Inv-loop μ-loop
 mul-share-of c = search needs
 
--- src/lib.rt:76:44
 array-read-share-of : tie.Need-array-read-share-of Inv-loop μ-loop
 array-read-share-of c = search needs
 
--- src/lib.rt:76:13
 share-of-requires : tie.Need-share-of-requires Inv-loop μ-loop
 share-of-requires c κs = (c .before .before .before .before .before .before .loop-test .taken, λ w. c .before .before .before .before .before .before .before .before .pre (c .before .before .before .before .before .before .before .loop .c) (c .before .before .before .before .before .before .loop-test .taken) (sym (c .before .before .before .before .before .has .ensures) ∙ w))
 
--- src/lib.rt:77:13
 join-requires : tie.Need-join-requires Inv-loop μ-loop
 join-requires c κs = search needs
 
--- src/lib.rt:79:9
 add-c : tie.Need-add-c Inv-loop μ-loop
 add-c c = search needs
 
--- src/lib.rt:69:5
 loop-less : tie.Need-loop-less Inv-loop μ-loop
 loop-less c = search needs
 
--- src/lib.rt:69:5
 loop-again : tie.Need-loop-again Inv-loop μ-loop
 loop-again c = let es : c .before .share-of .result ≡ listOf (share (trackedOf (c .before .before .before .before .before .before .before .before .before .before .args .t2) (c .before .before .before .before .before .before .before .before .before .before .args .t3) (c .before .before .before .before .before .before .before .before .before .before .args .t4)) (openOf (c .before .before .before .before .before .before .before .before .before .before .args .o) .change) (c .before .before .before .before .before .before .before .before .before .loop .c)) = rw (c .before .before .before .before .before .before .before .has .ensures, c .before .before .before .before .before .before .has2 .ensures) at (c .before .share-of .ensures) in (omega (arith, c .before .before .before .before .before .before .before .before .loop-test .taken), c .join .ensures ∙ join-step (share (trackedOf (c .before .before .before .before .before .before .before .before .before .before .args .t2) (c .before .before .before .before .before .before .before .before .before .before .args .t3) (c .before .before .before .before .before .before .before .before .before .before .args .t4)) (openOf (c .before .before .before .before .before .before .before .before .before .before .args .o) .change)) (c .before .before .before .before .before .before .before .before .before .loop .c) (c .before .before .before .before .before .before .before .before .before .loop .out) (c .before .share-of .result) (c .before .before .before .before .before .before .before .before .before .loop .inv .1) es)
 
--- src/lib.rt:63:1
 returns : tie.Need-returns Inv-loop μ-loop
 returns c = let e : c .before .loop .c ≡ limits16 .width = omega (arith, width16, c .loop-test .left, c .before .loop .inv .0) in c .before .loop .inv .1 ∙ ap (λ (n : ℕ). listOf (λ j. greatest n (λ i. share (trackedOf (c .before .before .args .t2) (c .before .before .args .t3) (c .before .before .args .t4)) (openOf (c .before .before .args .o) .change) i j))) e
 

@@ -14,51 +14,39 @@ Inv-loop u v out₀ j₀ out j = FilledSoFar 0 16 (joined (at u) (at v)) out j
 abbrev μ-loop : tie.MeasureT-loop
 μ-loop u v out₀ j₀ out j = 16 - j
 
--- src/lib.rt:23:5
 loop-holds : tie.Need-loop-holds Inv-loop μ-loop
 loop-holds c = filled-none refl
 
--- src/lib.rt:24:26
 mul-greater : tie.Need-mul-greater Inv-loop μ-loop
 mul-greater c = search needs
 
--- src/lib.rt:24:26
 array-read-greater : tie.Need-array-read-greater Inv-loop μ-loop
 array-read-greater c = search needs
 
--- src/lib.rt:24:32
 mul-greater-2 : tie.Need-mul-greater-2 Inv-loop μ-loop
 mul-greater-2 c = search needs
 
--- src/lib.rt:24:32
 array-read-greater-2 : tie.Need-array-read-greater-2 Inv-loop μ-loop
 array-read-greater-2 c = search needs
 
--- src/lib.rt:24:18
 greater-requires : tie.Need-greater-requires Inv-loop μ-loop
 greater-requires c κs = search needs
 
--- src/lib.rt:24:9
 mul-out : tie.Need-mul-out Inv-loop μ-loop
 mul-out c = search needs
 
--- src/lib.rt:24:9
 array-write-out : tie.Need-array-write-out Inv-loop μ-loop
 array-write-out c = search needs
 
--- src/lib.rt:25:9
 add-j : tie.Need-add-j Inv-loop μ-loop
 add-j c = search needs
 
--- src/lib.rt:23:5
 loop-less : tie.Need-loop-less Inv-loop μ-loop
 loop-less c = search needs
 
--- src/lib.rt:23:5
 loop-again : tie.Need-loop-again Inv-loop μ-loop
 loop-again c = filled-more (c .before .before .loop .inv) (c .before .loop-test .taken) (c .greater .ensures)
 
--- src/lib.rt:18:1
 returns : tie.Need-returns Inv-loop μ-loop
 returns c = filled-done (c .before .loop .inv) (c .loop-test .left) width16
 

@@ -1,27 +1,21 @@
 use Rattle.cabinet_layout.proofs.Held.{zero-listed}
-use Prim.Native.Nat.{_-_}
 use mathlib.Core.Path.{_∙_}
 use borrow.Author.Needs.{needs}
 use Rattle.cabinet_vectors.proofs.share_of.Statement.{statement}
 use Rattle.cabinet_vectors.proofs.share_of.Tie as tie
 
--- src/lib.rt:53:9
 with-own-requires : tie.Need-with-own-requires
 with-own-requires c κs = (c .before .pre .0, c .before .pre .1 (c .if1 .taken))
 
--- src/lib.rt:53:9
 returns : tie.Need-returns
 returns c = rw (c .before .if1 .taken) (c .with-own .ensures)
 
--- src/lib.rt:56:13
 copied-requires : tie.Need-copied-requires
 copied-requires c κs = search needs
 
--- src/lib.rt:57:9
 returns-2 : tie.Need-returns-2
 returns-2 c = rw (c .before .before .if1 .left, c .before .if2 .taken) (c .copied .ensures .0 ∙ c .copied .ensures .1)
 
--- src/lib.rt:48:1
 returns-3 : tie.Need-returns-3
 returns-3 c = rw (c .before .if1 .left, c .if2 .left) zero-listed
 

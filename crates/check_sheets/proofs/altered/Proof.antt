@@ -3,10 +3,6 @@ use Prim.Native.Nat.{_-_, _≤_}
 use borrow.Author.Needs.{needs}
 use Rattle.check_sheets.proofs.altered.Statement.{statement}
 use Rattle.check_sheets.proofs.altered.Tie as tie
-use Rattle.check_sheets.proofs.altered.Reads as reads
-use Rattle.check_sheets.proofs.altered.Lts as lts
-use Rattle.check_sheets.proofs.differs.Reads as differs-reads
-use Rattle.check_sheets.proofs.one_if.Reads as one-if-reads
 
 abbrev Inv-loop : tie.InvT-loop
 Inv-loop b from n₀ i₀ n i = (n ≤ i) × (i ≤ 4096)

@@ -3,10 +3,6 @@ use Prim.Native.Nat.{_-_, _≤_}
 use borrow.Author.Needs.{needs}
 use Rattle.check_sheets.proofs.filled.Statement.{statement}
 use Rattle.check_sheets.proofs.filled.Tie as tie
-use Rattle.check_sheets.proofs.filled.Reads as reads
-use Rattle.check_sheets.proofs.filled.Lts as lts
-use Rattle.check_sheets.proofs.entry.Reads as entry-reads
-use Rattle.check_sheets.proofs.one_if.Reads as one-if-reads
 
 abbrev Inv-loop : tie.InvT-loop
 Inv-loop s n₀ i₀ n i = (n ≤ i) × (i ≤ 12288)

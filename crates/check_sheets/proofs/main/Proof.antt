@@ -2,9 +2,6 @@
 use borrow.Author.Needs.{needs}
 use Rattle.check_sheets.proofs.main.Statement.{statement}
 use Rattle.check_sheets.proofs.main.Tie as tie
-use Rattle.check_sheets.proofs.main.Reads as reads
-use Rattle.check_sheets.proofs.main.Lts as lts
-use Rattle.check_sheets.proofs.step.Reads as step-reads
 
 abbrev Inv-loop : tie.InvT-loop
 Inv-loop turns₀ turns = Unit {0}

@@ -3,12 +3,6 @@ use Prim.Native.Nat.{_-_, _≤_}
 use borrow.Author.Needs.{needs}
 use Rattle.check_sheets.proofs.say_frames.Statement.{statement}
 use Rattle.check_sheets.proofs.say_frames.Tie as tie
-use Rattle.check_sheets.proofs.say_frames.Reads as reads
-use Rattle.check_sheets.proofs.say_frames.Lts as lts
-use Rattle.check_sheets.proofs.entry.Reads as entry-reads
-use Rattle.check_sheets.proofs.place_of.Reads as place-of-reads
-use Rattle.check_sheets.proofs.say_number.Reads as say-number-reads
-use Rattle.check_sheets.proofs.say_row.Reads as say-row-reads
 
 abbrev Inv-loop : tie.InvT-loop
 Inv-loop changes entries card cards base count k₀ k = k ≤ count

@@ -3,11 +3,6 @@ use Prim.Native.Nat.{_-_, _≤_}
 use borrow.Author.Needs.{needs}
 use Rattle.check_sheets.proofs.say_row.Statement.{statement}
 use Rattle.check_sheets.proofs.say_row.Tie as tie
-use Rattle.check_sheets.proofs.say_row.Reads as reads
-use Rattle.check_sheets.proofs.say_row.Lts as lts
-use Rattle.check_sheets.proofs.entry.Reads as entry-reads
-use Rattle.check_sheets.proofs.say.Reads as say-reads
-use Rattle.check_sheets.proofs.say_entry.Reads as say-entry-reads
 
 abbrev Inv-loop : tie.InvT-loop
 Inv-loop entries place n j₀ t5 j = j ≤ n

@@ -1,5 +1,4 @@
 -- `list_answer_frames::put_entry` writes the entry of a card that is there. Assumes nothing.
-use mathlib.Core.Path.{_≡_}
 use Rattle.base_text.proofs.Puts.{put-nothing, put-as}
 use Rattle.list_answer_frames.proofs.Frames.{entry-absent, entry-none, entry-some}
 use borrow.Author.Needs.{needs}

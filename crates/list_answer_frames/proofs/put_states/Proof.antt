@@ -1,6 +1,6 @@
 -- `list_answer_frames::put_states` writes the lines of the states in hand. Assumes nothing.
-use Prim.Native.Nat.{ℕ, suc, _+_, _-_, _≤_, _<_}
-use mathlib.Core.Path.{_≡_, sym, _∙_, ap}
+use Prim.Native.Nat.{ℕ, suc, _+_, _-_, _≤_}
+use mathlib.Core.Path.{_≡_, ap}
 use native.Mathlib.Omega.{arith}
 use Rattle.base_laws.specs.Below.{tabulate}
 use Rattle.base_text.specs.Put.{Put}

@@ -1,14 +1,12 @@
 -- `list_answer_lists::put_rows` writes the card records of fix. Assumes nothing.
 use Prim.Native.Nat.{ℕ, _-_, _≤_}
 use mathlib.Core.Path.{_≡_, sym, _∙_, ap}
-use mathlib.Core.List.{List, [], _∷_}
+use mathlib.Core.List.{List}
 use Rattle.base_laws.specs.Below.{selected}
-use Rattle.base_decimal.specs.Digits.{decimal}
 use Rattle.cabinet_layout.specs.Shape.{at, presentOf}
 use Rattle.cabinet_layout.proofs.Limits.{width16}
 use Rattle.base_text.specs.Put.{Put}
 use Rattle.theory_protocol.specs.Plan.{CardRow}
-use Rattle.base_text.specs.Lines.{textLine}
 use Rattle.list_answers.specs.Texts.{rowsText}
 use Rattle.base_text.proofs.Puts.{put-nothing, put-then, put-as, put-length}
 use Rattle.list_answer_lists.proofs.Spaced.{rows-more}

@@ -2,23 +2,16 @@
 use borrow.Author.Needs.{needs}
 use Rattle.list_answers.proofs.put_unreadable.Statement.{statement}
 use Rattle.list_answers.proofs.put_unreadable.Tie as tie
-use Rattle.list_answers.proofs.put_unreadable.Reads as reads
-use Rattle.list_answers.proofs.put_unreadable.Lts as lts
-use Rattle.base_text.proofs.put.Reads as put-reads
 
--- src/lib.rt:43:21
 slice-aggregate-put : tie.Need-slice-aggregate-put
 slice-aggregate-put c = search needs
 
--- src/lib.rt:43:5
 put-requires : tie.Need-put-requires
 put-requires c κs = search needs
 
--- src/lib.rt:40:1
 same-length : tie.Need-same-length
 same-length c = search needs
 
--- src/lib.rt:40:1
 returns : tie.Need-returns
 returns c = search needs
 

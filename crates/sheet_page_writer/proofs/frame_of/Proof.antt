@@ -2,9 +2,9 @@
 use mathlib.Core.Path.{sym, _∙_}
 use lib.ListN.{getD}
 use borrow.Author.Tests.{lt-ltb, le-ltb}
+use Rattle.base_limits.specs.Ring.{ringPlace}
 use Rattle.base_laws.proofs.Logic.{cond-true, cond-false}
 use Rattle.sheet_lines.specs.Lines.{noFrame}
-use Rattle.sheet_pages.specs.Walk.{placeOf}
 use Rattle.sheet_pages.specs.Ring.{ringFrame}
 use borrow.Author.Needs.{needs}
 use Rattle.sheet_page_writer.proofs.frame_of.Statement.{statement}
@@ -34,7 +34,7 @@ element-copy-out-t9 c = search needs
 returns-2 : tie.Need-returns-2
 returns-2 c =
     let a = c .before .before .before .args in
-    (λ i. record { change = getD (a .changes .now) (placeOf (a .card) (a .state)) 0; entries = c .before .row-at .ensures i })
+    (λ i. record { change = getD (a .changes .now) (ringPlace (a .card) (a .state)) 0; entries = c .before .row-at .ensures i })
     ∙ sym (cond-true (ringFrame (a .changes .now) (a .entries .now) 16 (a .card) (a .state)) noFrame (lt-ltb (a .card) 16 (c .before .before .if1 .left)))
 
 pub frame-of-spec : {M : Type 1} → statement M

@@ -3,11 +3,9 @@ use borrow.Author.Needs.{needs}
 use Rattle.sheet_sessions.proofs.least.Statement.{statement}
 use Rattle.sheet_sessions.proofs.least.Tie as tie
 
--- src/lib.rt:9:1
 returns : tie.Need-returns
 returns c = search needs
 
--- src/lib.rt:9:1
 returns-2 : tie.Need-returns-2
 returns-2 c = search needs
 

@@ -1,6 +1,6 @@
 use Prim.Native.Nat.{ℕ}
 use mathlib.Core.Path.{_≡_, sym, _∙_, ap}
-use mathlib.Core.Bool.{Bool, true, false, not}
+use mathlib.Core.Bool.{true, false}
 use Rattle.base_laws.proofs.Logic.{cond-true, cond-false, not-true}
 use borrow.Author.Tests.{not-false}
 use Rattle.base_refusal.specs.declared.Refusal.the-variants.{CardCount}
