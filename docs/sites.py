@@ -98,7 +98,7 @@ def show(kind, found):
 
 totals = []
 state = "Core" if declared("Core") else "Cabinet"
-for title, names in (("cabinet", [state, "Model"]), ("head", ["Head"]), ("open change", ["Place", "OpenChange"])):
+for title, names in (("cabinet", [state, "Model"]), ("head", ["Head"]), ("open change", ["Slot", "OpenChange"])):
     print(title)
     sites = 0
     for name in names:

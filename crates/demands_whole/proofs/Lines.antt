@@ -157,7 +157,7 @@ step-answers = record { some = some; each = each; short = short }
 module _ (s : List ℕ) where
   -- the lines to the end
   record Ended : Type 0 where
-    pub slot : ℕ
+    pub place : ℕ
     pub last : Replay
     pub text : List ℕ
     pub ran : Ran s nothingYet place last text
@@ -169,13 +169,13 @@ module _ (s : List ℕ) where
 
   -- at the end
   at-end : (at : ℕ) (r : Replay) (t : List ℕ) → Ran s nothingYet at r t → length s - at ≤ 0 → (h : Token) → tokenAt s at ≡ h → Ended
-  at-end at r t ran l End e = record { slot = at; last = r; text = t; ran = ran; end = e }
+  at-end at r t ran l End e = record { place = at; last = r; text = t; ran = ran; end = e }
   at-end at r t ran l (Line said place) e = let m = more 0 at l (sym e) in absurd (omega (arith, m .0))
 
   -- one line, and on from there
   one-line : (k : ℕ) → ((at : ℕ) (r : Replay) (t : List ℕ) → Ran s nothingYet at r t → length s - at ≤ k → Ended)
       → (at : ℕ) (r : Replay) (t : List ℕ) → Ran s nothingYet at r t → length s - at ≤ suc k → (h : Token) → tokenAt s at ≡ h → Ended
-  one-line k on at r t ran l End e = record { slot = at; last = r; text = t; ran = ran; end = e }
+  one-line k on at r t ran l End e = record { place = at; last = r; text = t; ran = ran; end = e }
   one-line k on at r t ran l (Line said place) e =
       let d : (next : Replay) × (text : List ℕ) × Steps said r next text = some said r in
       on place (d .0) (t ++ d .1) (oneMore ran said place (sym e) (d .0) (d .1) (d .2)) (omega (arith, more (suc k) at l (sym e) .1))
@@ -193,7 +193,7 @@ run-answers =
       some = λ s b. let d : Ended s = ended s in (
         placeAfter (length b) (Next 0) (d .text),
         wholeAfter b (Next 0) (d .text),
-        record { slot = d .slot; last = d .last; text = d .text; ran = d .ran; end = d .end; put = record { answer = refl; buffer = refl } },
+        record { place = d .place; last = d .last; text = d .text; ran = d .ran; end = d .end; put = record { answer = refl; buffer = refl } },
       );
       short = λ s b e d. nothing-written b (Next 0) (d .text) e (d .put);
     }

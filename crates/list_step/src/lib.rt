@@ -41,6 +41,6 @@ pub fn begin() -> Replay
 pub fn step(r: Replay, line: &[u8], out: &mut [u8]) -> Stepped
     ensures { λ s. ⌜ Executed (parseLine (now (line .entry))) r (now (out .entry)) (Next 0) (s .replay) (s .written) (now (out .exit)) ⌝ }
 {
-    let said = list_parse::says(line);
+    let said = list_parse::parse(line);
     execute(r, said, out, Progress::Next(0))
 }

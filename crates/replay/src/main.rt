@@ -96,7 +96,7 @@ fn feed(f: Reader, part: &[u8], out: &mut [u8]) -> Reader {
                 failed: false,
             };
         }
-        let said = list_parse::says(&line[0..n]);
+        let said = list_parse::parse(&line[0..n]);
         let s = list_execute::done(r, said, out, Progress::Next(0));
         let w = s.written;
         r = s.replay;
@@ -142,7 +142,7 @@ fn do_rest(r: Replay, line: &[u8], count: usize) {
     if 0 < count {
         if count <= line.len() {
             let mut out = io::large_buffer();
-            let said = list_parse::says(&line[0..count]);
+            let said = list_parse::parse(&line[0..count]);
             let s = list_execute::done(r, said, &mut out, Progress::Next(0));
             let w = s.written;
             print(&out, w);

@@ -1,4 +1,4 @@
--- `list_parse::says` reads a line. Assumes nothing.
+-- `list_parse::parse` reads a line. Assumes nothing.
 use native.Mathlib.Omega.{arith}
 use Rattle.list_parse.proofs.Lines.{parse-long, parse-read, found-within}
 use borrow.Author.Needs.{needs}

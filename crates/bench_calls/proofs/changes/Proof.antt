@@ -52,8 +52,8 @@ loop-again c = search needs
 returns : tie.Need-returns Inv-loop μ-loop
 returns c = search needs
 
-pub makers-spec : {M : Type 1} → statement M
-makers-spec =
+pub changes-spec : {M : Type 1} → statement M
+changes-spec =
     tie.close
     (tie.spec
     Inv-loop
