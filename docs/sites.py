@@ -2,9 +2,10 @@
 """sites.py [TREE]: what a new field of the state would move.
 
 Prints every place below TREE/crates (default: the working folder) where a record of the state of a cabinet (the struct
-with its lists, the head, the model) or of an open change (a place, an open change of the model) is written out field by
+with its lists, the head, the model) or of an open change (a slot, an open change of the model) is written out field by
 field: its declaration (marked 'declared'), and each literal with all of its fields, in code, definitions and proofs.
-'positional': each use of a definition that takes six or more of the cabinet's lists as arguments of its own.
+'positional': each use of a definition that makes a cabinet of six or more of its lists, given one by one. One that takes
+the old record too is not counted: a new field is taken from there, and no use of it changes.
 The fields are read from the declarations themselves. Then the counts."""
 import glob
 import os
@@ -80,7 +81,7 @@ def positional(wanted):
             continue
         for m in re.finditer(r"^(?:abbrev |unfoldable )?(?:pub )?([\w·-]+) : ([^\n]*)$", t, re.M):
             groups = re.findall(r"\(([\w ·′'-]+) :", m.group(2))
-            if len(wanted & {n for g in groups for n in g.split()}) < 6:
+            if len(wanted & {n for g in groups for n in g.split()}) < 6 or re.match(r"(Core|Model) →", m.group(2)):
                 continue
             for g, u in texts.items():
                 for use in re.finditer(r"(?<![\w·.-])" + re.escape(m.group(1)) + r"(?![\w·-])", u):

@@ -125,85 +125,37 @@ abbrev pub counted : Head → ℕ → Head
 counted h k = record { session = h .session; cards = h .cards; latest = k; phase = h .phase }
 
 -- ---- the groups of fields of a core, each set by itself
-abbrev pub withHead : Core → Head → Core
-withHead s h =
+-- a core anew; the one place that writes a changed core out
+abbrev remade : Core → Head → (last pending : List Vector) → List Slot → (base stored held reached line ended : List ℕ) → (rolled : ℕ) → Core
+remade s head last pending slots base stored held reached line ended rolled =
     record {
-      head = h;
-      last = s .last;
-      pending = s .pending;
-      slots = s .slots;
-      base = s .base;
-      stored = s .stored;
-      held = s .held;
-      reached = s .reached;
-      line = s .line;
-      ended = s .ended;
-      rolled = s .rolled;
-    }
-
-abbrev pub withVectors : Core → (last pending : List Vector) → Core
-withVectors s last pending =
-    record {
-      head = s .head;
+      head = head;
       last = last;
       pending = pending;
-      slots = s .slots;
-      base = s .base;
-      stored = s .stored;
-      held = s .held;
-      reached = s .reached;
-      line = s .line;
-      ended = s .ended;
-      rolled = s .rolled;
-    }
-
-abbrev pub withSlots : Core → List Slot → (ended : List ℕ) → Core
-withSlots s slots ended =
-    record {
-      head = s .head;
-      last = s .last;
-      pending = s .pending;
       slots = slots;
-      base = s .base;
-      stored = s .stored;
-      held = s .held;
-      reached = s .reached;
-      line = s .line;
-      ended = ended;
-      rolled = s .rolled;
-    }
-
-abbrev pub withNumbers : Core → (base stored held reached : List ℕ) → Core
-withNumbers s base stored held reached =
-    record {
-      head = s .head;
-      last = s .last;
-      pending = s .pending;
-      slots = s .slots;
       base = base;
       stored = stored;
       held = held;
       reached = reached;
-      line = s .line;
-      ended = s .ended;
-      rolled = s .rolled;
-    }
-
-abbrev pub withLine : Core → (line : List ℕ) (rolled : ℕ) → Core
-withLine s line rolled =
-    record {
-      head = s .head;
-      last = s .last;
-      pending = s .pending;
-      slots = s .slots;
-      base = s .base;
-      stored = s .stored;
-      held = s .held;
-      reached = s .reached;
       line = line;
-      ended = s .ended;
+      ended = ended;
       rolled = rolled;
     }
+
+abbrev pub withHead : Core → Head → Core
+withHead s h = remade s h (s .last) (s .pending) (s .slots) (s .base) (s .stored) (s .held) (s .reached) (s .line) (s .ended) (s .rolled)
+
+abbrev pub withVectors : Core → (last pending : List Vector) → Core
+withVectors s last pending = remade s (s .head) last pending (s .slots) (s .base) (s .stored) (s .held) (s .reached) (s .line) (s .ended) (s .rolled)
+
+abbrev pub withSlots : Core → List Slot → (ended : List ℕ) → Core
+withSlots s slots ended = remade s (s .head) (s .last) (s .pending) slots (s .base) (s .stored) (s .held) (s .reached) (s .line) ended (s .rolled)
+
+abbrev pub withNumbers : Core → (base stored held reached : List ℕ) → Core
+withNumbers s base stored held reached = remade s (s .head) (s .last) (s .pending) (s .slots) base stored held reached (s .line) (s .ended) (s .rolled)
+
+abbrev pub withLine : Core → (line : List ℕ) (rolled : ℕ) → Core
+withLine s line rolled = remade s (s .head) (s .last) (s .pending) (s .slots) (s .base) (s .stored) (s .held) (s .reached) line (s .ended) rolled
 
 -- a core of which only the head is there
 abbrev pub bare : Head → Core

@@ -9,7 +9,7 @@ use Rattle.base_refusal.specs.declared.Refusal.the-variants.{NoSuchCard, BothSe
 use Rattle.theory_history.specs.Change.{CardSet, Numbers, touches}
 use Rattle.theory_history.specs.Vector.{noEntries, vectorOf}
 use Rattle.theory_history.specs.Line.{lineFrom}
-use Rattle.theory_protocol.specs.Model.{Limits, up, isUp, isDown, isRolling, OpenChange, Model, noCards, freeSlot, isCard, strays, isEmpty, within, withCard, isOpen, decided, closed, awaitsWrite, slotOf, freeAt, isKnown, tracked, withYes, withTaken, withVector}
+use Rattle.theory_protocol.specs.Model.{unvoted, Limits, up, isUp, isDown, isRolling, OpenChange, Model, noCards, freeSlot, isCard, strays, isEmpty, within, withCard, isOpen, decided, closed, awaitsWrite, slotOf, freeAt, isKnown, tracked, withYes, withTaken, withVector}
 use Rattle.theory_protocol.specs.Valid.{valid}
 use Rattle.theory_protocol.specs.Edit.{Edit, place, latest, grow, raise, keep, rebase, fall, halt, fix, lower, renew}
 use Rattle.theory_protocol.specs.Plan.{CardRow, done, opened, safe, unsafe, fixed, Check, _⇒_, Plan, checked}
@@ -51,8 +51,7 @@ someWritten L writes test = anyBelow (L .width) (λ c. writes c && test c)
 
 -- the change that an opening puts into its slot
 abbrev pub openedChange : ℕ → CardSet → CardSet → OpenChange
-openedChange k reads writes =
-    record { change = record { number = k; reads = reads; writes = writes }; yes = noCards; taken = noCards; vector = noEntries }
+openedChange k reads writes = unvoted (record { number = k; reads = reads; writes = writes })
 
 abbrev pub openChecks : Limits → Model → CardSet → CardSet → ℕ → List Check
 openChecks L m reads writes named =

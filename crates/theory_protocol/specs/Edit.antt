@@ -36,68 +36,36 @@ abbrev pub put : {A : Type 0} → (ℕ → A) → ℕ → A → ℕ → A
 put f i v k = cond (eqb k i) v (f k)
 
 -- ---- the parts of a cabinet that edits change
-abbrev pub withNumbers : Model → StateNumbers → Memory → Model
-withNumbers m n y =
-    record {
-      session = m .session;
-      phase = m .phase;
-      latest = m .latest;
-      present = m .present;
-      numbers = n;
-      memory = y;
-      slot = m .slot;
-      ended = m .ended;
-      line = m .line;
-      rolled = m .rolled;
-    }
-
-abbrev pub withMemory : Model → Memory → Model
-withMemory m y = withNumbers m (m .numbers) y
-
-abbrev pub withHead : Model → (session : ℕ) → Phase → (last : ℕ) → Model
-withHead m session phase k =
+-- a cabinet of the same cards; the one place that writes a changed cabinet out
+abbrev remade : Model → (session : ℕ) → Phase → (latest : ℕ) → StateNumbers → Memory → (ℕ → OpenChange) → (ended : ℕ → ℕ) → (line : Numbers) → (rolled : CardSet) → Model
+remade m session phase k n y slot ended line rolled =
     record {
       session = session;
       phase = phase;
       latest = k;
       present = m .present;
-      numbers = m .numbers;
-      memory = m .memory;
-      slot = m .slot;
-      ended = m .ended;
-      line = m .line;
-      rolled = m .rolled;
-    }
-
-abbrev pub withSlots : Model → (ℕ → OpenChange) → (ended : ℕ → ℕ) → Model
-withSlots m places ended =
-    record {
-      session = m .session;
-      phase = m .phase;
-      latest = m .latest;
-      present = m .present;
-      numbers = m .numbers;
-      memory = m .memory;
-      slot = places;
+      numbers = n;
+      memory = y;
+      slot = slot;
       ended = ended;
-      line = m .line;
-      rolled = m .rolled;
-    }
-
-abbrev pub withLine : Model → Numbers → (rolled : CardSet) → Model
-withLine m line rolled =
-    record {
-      session = m .session;
-      phase = m .phase;
-      latest = m .latest;
-      present = m .present;
-      numbers = m .numbers;
-      memory = m .memory;
-      slot = m .slot;
-      ended = m .ended;
       line = line;
       rolled = rolled;
     }
+
+abbrev pub withNumbers : Model → StateNumbers → Memory → Model
+withNumbers m n y = remade m (m .session) (m .phase) (m .latest) n y (m .slot) (m .ended) (m .line) (m .rolled)
+
+abbrev pub withMemory : Model → Memory → Model
+withMemory m y = withNumbers m (m .numbers) y
+
+abbrev pub withHead : Model → (session : ℕ) → Phase → (latest : ℕ) → Model
+withHead m session phase k = remade m session phase k (m .numbers) (m .memory) (m .slot) (m .ended) (m .line) (m .rolled)
+
+abbrev pub withSlots : Model → (ℕ → OpenChange) → (ended : ℕ → ℕ) → Model
+withSlots m slot ended = remade m (m .session) (m .phase) (m .latest) (m .numbers) (m .memory) slot ended (m .line) (m .rolled)
+
+abbrev pub withLine : Model → Numbers → (rolled : CardSet) → Model
+withLine m line rolled = remade m (m .session) (m .phase) (m .latest) (m .numbers) (m .memory) (m .slot) (m .ended) line rolled
 
 -- the number that a slot is remembered by when a loss ends it: of a decided change with a written share untaken its own, otherwise 0
 abbrev pub remembered : Limits → OpenChange → ℕ

@@ -71,8 +71,12 @@ noCards c = false
 abbrev pub hasRolled : Model → CardSet
 hasRolled m c = isRolling (m .phase) && m .rolled c
 
+-- a change that no card has voted on
+abbrev pub unvoted : Change → OpenChange
+unvoted t = record { change = t; yes = noCards; taken = noCards; vector = noEntries }
+
 abbrev pub freeSlot : OpenChange
-freeSlot = record { change = noChange; yes = noCards; taken = noCards; vector = noEntries }
+freeSlot = unvoted noChange
 
 -- the card is in the cabinet
 abbrev pub isCard : Limits → Model → CardSet
@@ -93,15 +97,18 @@ within L s t = allBelow (L .width) (λ c. not (s c) || t c)
 abbrev pub withCard : CardSet → ℕ → CardSet
 withCard s c k = eqb k c || s k
 
--- an open change, with one of its fields set
+-- an open change with other votes, shares and vector; the one place that writes a changed one out
+abbrev voted : OpenChange → (agreed shared : CardSet) → Vector → OpenChange
+voted o agreed shared v = record { change = o .change; yes = agreed; taken = shared; vector = v }
+
 abbrev pub withYes : OpenChange → CardSet → OpenChange
-withYes o s = record { change = o .change; yes = s; taken = o .taken; vector = o .vector }
+withYes o s = voted o s (o .taken) (o .vector)
 
 abbrev pub withTaken : OpenChange → CardSet → OpenChange
-withTaken o s = record { change = o .change; yes = o .yes; taken = s; vector = o .vector }
+withTaken o s = voted o (o .yes) s (o .vector)
 
 abbrev pub withVector : OpenChange → Vector → OpenChange
-withVector o v = record { change = o .change; yes = o .yes; taken = o .taken; vector = v }
+withVector o v = voted o (o .yes) (o .taken) v
 
 abbrev pub isOpen : OpenChange → Bool
 isOpen o = not (eqb (o .change .number) 0)
