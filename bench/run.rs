@@ -21,7 +21,6 @@ extern "C" {
     fn bench_sheet(cards: u32, states: u32, at: u32, buffer: *mut u8, n: usize) -> u32;
     fn bench_restart(bytes: *const u8, n: usize, at: u32) -> u32;
     fn bench_write_sheet(buffer: *mut u8, n: usize, changes: *const u32, entries: *const u32, cards: u32, count: u32) -> usize;
-    fn bench_fix_all_lost(list: *mut u32, n: usize, changes: *const u32, entries: *const u32) -> usize;
 }
 
 /// The three agree; a refusal is told.
@@ -69,7 +68,7 @@ fn main() {
     parts(cards, states, &bytes);
 }
 
-/// The writer of one sheet and the core of fix by themselves; the sheets are the port's.
+/// The writer of one sheet by itself; the sheets are the port's.
 fn parts(cards: u32, states: u32, bytes: &[u8]) {
     let ring = ring(cards, states);
     let (changes, entries) = (ring.makers.as_ptr(), ring.entries.as_ptr());
@@ -77,11 +76,6 @@ fn parts(cards: u32, states: u32, bytes: &[u8]) {
     let mut buffer = [0u8; 4096];
     let written = unsafe { bench_write_sheet(buffer.as_mut_ptr(), buffer.len(), changes, entries, cards, states) };
     assert!(written == length && buffer[..length] == bytes[..length]);
-    if cards == 16 && states == 48 {
-        let mut list = [0u32; 776];
-        assert!(unsafe { bench_fix_all_lost(list.as_mut_ptr(), list.len(), changes, entries) } == 776);
-        assert!(list.iter().zip(16..).all(|(change, due)| *change == due));
-    }
 }
 
 /// With nothing stored, so that every state is lost.

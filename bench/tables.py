@@ -102,8 +102,8 @@ growth("By states in hand, 16 cards, outside copies: engine (engine / port)", {s
 print("\nParts by themselves, 16 cards, 48 states in hand on each: engine\n")
 sheet = 25 + 48 * 81
 parts = [("read the largest read-out and restart from it", "restart", 16 * sheet)]
-parts += [("write the largest sheet, of a ring lent", "write_sheet", sheet), ("the core of fix, 776 changes lost", "fix_all_lost", None)]
-rows = [[name, told(full["bench_" + key][0]), f"{full['bench_' + key][0] / size:.2f}" if size else "-"] for name, key, size in parts]
+parts += [("write the largest sheet, of a ring lent", "write_sheet", sheet)]
+rows = [[name, told(full["bench_" + key][0]), f"{full['bench_' + key][0] / size:.2f}"] for name, key, size in parts]
 table(["part", "instructions", "a byte"], rows)
 whole = [line.split() for line in open(f"{OUT}/whole")]
 print("\nWhole programs, all instructions\n")

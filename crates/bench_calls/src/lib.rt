@@ -406,23 +406,3 @@ pub extern "C" fn bench_write_sheet<'a, 'b>(
         Written::Refused(_) => 0,
     }
 }
-
-// The core of fix by itself, with its check for 28, and with the longest list: 16 cards that reached state 48 and stored none, and
-// eight changes that a loss ended. How many changes are lost; 0 where it is refused.
-#[no_mangle]
-pub extern "C" fn bench_fix_all_lost<'a, 'b>(
-    list: &'a mut [u32],
-    changes: &'b [u32; Limits::FRAMES],
-    entries: &'b [u32; Limits::ENTRIES],
-) -> usize {
-    let head = cabinet_layout::head_of(1, Limits::CARDS_U32, Phase::Down);
-    let mut core = cabinet_layout::blank(cabinet_layout::counted(head, 1000));
-    core.reached = [Limits::IN_HAND_U32; Limits::CARDS];
-    core.ended = [784u32, 785, 786, 787, 788, 789, 790, 791];
-    let out = cabinet_lost::fix(list, entries, changes, core, Limits::CARDS);
-    let r = out.reply;
-    match r {
-        FixReply::Fixed(n) => n,
-        FixReply::NotFixed(_) => 0,
-    }
-}
