@@ -1,6 +1,7 @@
 // The limits of document 01 as constants: the one place where the code has these numbers.
 ghost use mathlib.Core.Path.{_≡_};
 ghost use Rattle.base_limits.specs.Constants.{constants};
+ghost use Rattle.base_limits.specs.Ring.{ringPlace};
 
 // Document 01's "associated constants for the limits", and what follows from them; a value of it has them all.
 pub struct Limits {
@@ -94,4 +95,11 @@ impl Limits {
             longest_u32: Limits::LONGEST_U32,
         }
     }
+}
+
+// The place of a state of a card in the ring of frames; the number behind any of 32 bits has one too.
+pub fn ring_place(card: u32, state: usize) -> usize
+    ensures { λ r. ⌜ r ≡ ringPlace card state ⌝ }
+{
+    card as usize * Limits::IN_HAND + state % Limits::IN_HAND
 }

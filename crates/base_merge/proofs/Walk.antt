@@ -116,7 +116,7 @@ module _ {f : ℕ → ℕ} {from end : ℕ} (r : CardRises f from end) where
         one = omega arith
 
         head-is-next : passed < end → head ≡ f (suc passed)
-        head-is-next h = eh ∙ sym (head-there f passed end h) ∙ ap f one
+        head-is-next h = eh ∙ sym (head-there f passed end h)
 
         moved : passed < end → f (suc passed) ≡ n → P (cardPast passed end head n)
         moved h e =

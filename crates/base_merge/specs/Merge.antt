@@ -27,6 +27,14 @@ abbrev pub leastBelow : ℕ → (ℕ → ℕ) → ℕ
 leastBelow zero f = 0
 leastBelow (suc n) f = lesser (leastBelow n f) (f n)
 
+-- the last state of each of n cards; a card that is not there has none
+abbrev pub endsOf : (last : List ℕ) → ℕ → List ℕ
+endsOf last n = tabulate mostCards (λ c. cond (ltb c n) (at last c) 0)
+
+-- the place of the state behind the one passed of card c
+abbrev pub headPlace : ℕ → ℕ → ℕ
+headPlace c passed = ringPlace c (suc passed)
+
 -- the number of a card's next state, and 0 where its end is passed; f gives the number of each state
 abbrev pub headNumber : (ℕ → ℕ) → ℕ → ℕ → ℕ
 headNumber f passed end = cond (ltb passed end) (f (suc passed)) 0

@@ -12,7 +12,6 @@ use cabinet_layout::Head;
 use cabinet_layout::OpenReply;
 use cabinet_layout::Phase;
 use cabinet_layout::SafeReply;
-use cabinet_layout::Vector;
 
 pub mod recover;
 pub mod sheets;
@@ -51,28 +50,9 @@ pub struct Answer {
 pub fn zeros(head: Head) -> Cabinet
     ensures { λ r. ⌜ r ≡ zeroCabinet head ⌝ }
 {
-    let none = [0u32; Limits::CARDS];
-    let v = Vector { entries: none };
-    let last = [v; Limits::CARDS];
-    let pending = [v; Limits::CARDS];
-    let free = cabinet_layout::free_slot();
-    let places = [free; Limits::SLOTS];
     let entries = [0u32; Limits::ENTRIES];
     let changes = [0u32; Limits::FRAMES];
-    // written out: a core that `cabinet_layout::blank` hands over would be copied once more
-    let core = Core {
-        head: head,
-        last: last,
-        pending: pending,
-        slots: places,
-        base: none,
-        stored: none,
-        held: none,
-        reached: none,
-        line: none,
-        ended: [0u32; Limits::SLOTS],
-        rolled: 0,
-    };
+    let core = cabinet_layout::blank(head);
     Cabinet {
         entries: entries,
         changes: changes,

@@ -23,13 +23,6 @@ fn put_frame(entries: &mut [u32; Limits::ENTRIES], from: usize, v: [u32; Limits:
     }
 }
 
-// The place of a state of a card in the ring.
-fn place_of(card: u32, state: u32) -> usize
-    ensures { λ r. ⌜ r ≡ ringPlace card state ⌝ }
-{
-    card as usize * Limits::IN_HAND + (state % Limits::IN_HAND_U32) as usize
-}
-
 // A state was made, and the ring has that place.
 fn is_made(place: usize, state: u32) -> bool
     ensures { λ r. ⌜ r ≡ (not (eqb state 0) && ltb place 768) ⌝ }
@@ -41,7 +34,7 @@ fn is_made(place: usize, state: u32) -> bool
 pub fn put_vector(entries: &mut [u32; Limits::ENTRIES], card: u32, state: u32, v: Vector)
     ensures { λ r. ⌜ now (entries .exit) ≡ cond (isMade card state) (sets (now (entries .entry)) (ringPlace card state * 16) (listOf (at (v .entries)))) (now (entries .entry)) ⌝ }
 {
-    let place = place_of(card, state);
+    let place = base_limits::ring_place(card, state as usize);
     let w = v.entries;
     let made = is_made(place, state);
     if made {
@@ -53,7 +46,7 @@ pub fn put_vector(entries: &mut [u32; Limits::ENTRIES], card: u32, state: u32, v
 pub fn put_change(changes: &mut [u32; Limits::FRAMES], card: u32, state: u32, change: u32)
     ensures { λ r. ⌜ now (changes .exit) ≡ cond (isMade card state) (set (now (changes .entry)) (ringPlace card state) change) (now (changes .entry)) ⌝ }
 {
-    let place = place_of(card, state);
+    let place = base_limits::ring_place(card, state as usize);
     let made = is_made(place, state);
     if made {
         changes[place] = change;

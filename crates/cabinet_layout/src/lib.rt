@@ -1,7 +1,9 @@
 // What the calls are said with: phase, head, slots, vectors and replies; a head, a free slot and a core anew; reading a phase and a number by card.
 ghost use mathlib.Core.Path.{_≡_};
+ghost use Rattle.base_laws.specs.Below.{tabulate};
+ghost use Rattle.theory_history.specs.Vector.{noEntries};
 ghost use Rattle.theory_protocol.specs.Model.{isUp, isDown, isRolling, freeSlot};
-ghost use Rattle.cabinet_layout.specs.Shape.{phaseOf, at, slotFor, headOf, inPhase, counted, blankCore};
+ghost use Rattle.cabinet_layout.specs.Shape.{limits16, phaseOf, at, slotFor, vectorFor, headOf, inPhase, counted, blankCore};
 use base_limits::Limits;
 use base_refusal::Refusal;
 use base_refusal::Reply;
@@ -118,20 +120,28 @@ pub fn free_slot() -> Slot
     }
 }
 
+// "all entries are none"
+pub fn no_vectors() -> [Vector; Limits::CARDS]
+    ensures { λ r. ⌜ r ≡ tabulate (limits16 .width) (λ c. vectorFor noEntries) ⌝ }
+{
+    let none = Vector {
+        entries: [0u32; Limits::CARDS],
+    };
+    [none; Limits::CARDS]
+}
+
 // All state numbers 0, all entries none, every slot free.
 pub fn blank(head: Head) -> Core
     ensures { λ r. ⌜ r ≡ blankCore head ⌝ }
 {
     let none = [0u32; Limits::CARDS];
-    let v = Vector { entries: none };
-    let last = [v; Limits::CARDS];
-    let pending = [v; Limits::CARDS];
+    let vectors = no_vectors();
     let free = free_slot();
     let slots = [free; Limits::SLOTS];
     Core {
         head: head,
-        last: last,
-        pending: pending,
+        last: vectors,
+        pending: vectors,
         slots: slots,
         base: none,
         stored: none,

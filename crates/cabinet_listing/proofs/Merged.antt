@@ -6,9 +6,9 @@ use mathlib.Core.Bool.{Bool}
 use mathlib.Core.List.{List}
 use native.Mathlib.Omega.{arith}
 use lib.ListN.{length, set, length-set}
-use Rattle.base_merge.specs.Merge.{NextOf, Rises, Passed, headNumbers, allPast}
+use Rattle.base_merge.specs.Merge.{NextOf, Rises, Passed, endsOf, headNumbers, allPast}
 use Rattle.base_merge.proofs.Walk.{walk-start}
-use Rattle.cabinet_listing.specs.Lost.{Listed, endsOf, nextLost, lostBy}
+use Rattle.cabinet_listing.specs.Lost.{Listed, nextLost, lostBy}
 use Rattle.cabinet_listing.proofs.Next.{lostTo, lost-to, lost-next, lost-past}
 use Rattle.cabinet_listing.proofs.Rise.{StoredSoFar, stored-none, stored-more, stored-done}
 

@@ -10,12 +10,13 @@ use lib.Dec.{eqb, ltb}
 use borrow.Author.Tests.{lt-ltb, le-ltb, eq-eqb, ne-eqb}
 use Rattle.base_laws.specs.Below.{anyBelow}
 use Rattle.base_laws.proofs.Logic.{fails, clash, or-left}
-use Rattle.base_laws.proofs.Fill.{any-same, getD-tabulate}
+use Rattle.base_laws.proofs.Fill.{any-same}
 use Rattle.cabinet_layout.specs.Shape.{at}
-use Rattle.base_merge.specs.Merge.{NextOf, Rises, Passed, changeAt, headNumbers, leastOf, allPast, cardAhead, ahead}
+use Rattle.base_merge.specs.Merge.{NextOf, Rises, Passed, changeAt, endsOf, headNumbers, leastOf, allPast, cardAhead, ahead}
 use Rattle.base_merge.proofs.Next.{next-either, next-least, next-same}
+use Rattle.base_merge.proofs.Head.{end-at}
 use Rattle.base_merge.proofs.Walk.{walk-next, walk-past}
-use Rattle.cabinet_listing.specs.Lost.{numberAbove, leastEnded, endsOf, nextLost, framedBy, endedBy, lostBy}
+use Rattle.cabinet_listing.specs.Lost.{numberAbove, leastEnded, nextLost, framedBy, endedBy, lostBy}
 
 -- of one number
 pub next-one : (x k : ℕ) → NextOf (λ j. eqb x j) k (numberAbove x k)
@@ -49,7 +50,7 @@ module _ (changes line reached ended : List ℕ) (cards : ℕ) where
   -- a card that is not there has nothing ahead
   card-ahead : (j c : ℕ) → c < 16 → cardAhead (changeAt changes c) (at line c) (at (endsOf reached cards) c) j ≡ ltb c cards && framedBy changes c (at line c) (at reached c) j
   card-ahead j c h =
-      ap (λ (x : ℕ). cardAhead (changeAt changes c) (at line c) x j) (getD-tabulate 16 (λ c. cond (ltb c cards) (at reached c) 0) 0 c h) ∙ there (ltb c cards)
+      ap (λ (x : ℕ). cardAhead (changeAt changes c) (at line c) x j) (end-at reached cards c h) ∙ there (ltb c cards)
     where
       there : (b : Bool) → cardAhead (changeAt changes c) (at line c) (cond b (at reached c) 0) j ≡ b && framedBy changes c (at line c) (at reached c) j
       there true = refl

@@ -7,7 +7,7 @@ use lib.Dec.{eqb, ltb}
 use lib.ListN.{length}
 use lib.Seq.{sets}
 use Rattle.base_limits.specs.Document.{mostCards}
-use Rattle.base_laws.specs.Below.{anyBelow, tabulate, selected}
+use Rattle.base_laws.specs.Below.{anyBelow, selected}
 use Rattle.base_merge.specs.Merge.{lesser, leastBelow, leastOf}
 use Rattle.cabinet_layout.specs.Shape.{at, ringChange}
 
@@ -31,10 +31,6 @@ numberAbove x k = cond (ltb k x) x 0
 -- the least number above k in the list of the changes ended, and 0 where there is none
 abbrev pub leastEnded : (ended : List ℕ) → ℕ → ℕ
 leastEnded ended k = leastBelow 8 (λ p. numberAbove (at ended p) k)
-
--- the last state of each card; a card that is not there has none
-abbrev pub endsOf : (reached : List ℕ) → (cards : ℕ) → List ℕ
-endsOf reached cards = tabulate mostCards (λ c. cond (ltb c cards) (at reached c) 0)
 
 -- the number that comes next: the least at the heads of the cards or, above k, among the changes ended
 abbrev pub nextLost : (heads ended : List ℕ) → ℕ → ℕ

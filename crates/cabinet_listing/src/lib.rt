@@ -1,10 +1,8 @@
 // The changes lost: one merge over the cards' frames above the line and the changes that a loss ended.
-ghost use Prim.Native.Nat.{_<_};
 ghost use mathlib.Core.Path.{_≡_};
-ghost use mathlib.Core.Bool.{cond};
 ghost use lib.ListN.{set};
-ghost use Rattle.base_merge.specs.Merge.{Rises};
-ghost use Rattle.cabinet_listing.specs.Lost.{Listed, numberAbove, leastEnded, endsOf, nextLost, lostBy};
+ghost use Rattle.base_merge.specs.Merge.{endsOf, Rises};
+ghost use Rattle.cabinet_listing.specs.Lost.{Listed, numberAbove, leastEnded, nextLost, lostBy};
 use base_limits::Limits;
 
 // A number above k, and 0 for another.
@@ -27,27 +25,6 @@ fn next_ended(ended: [u32; Limits::SLOTS], k: u32) -> u32
         p += 1;
     }
     best
-}
-
-// The last state of a card that is there; of another, none.
-fn end_of(there: bool, reached: u32) -> u32
-    ensures { λ r. ⌜ r ≡ cond there reached 0 ⌝ }
-{
-    if there { reached } else { 0 }
-}
-
-// The last state of each card.
-fn ends_of(reached: [u32; Limits::CARDS], cards: u32) -> [u32; Limits::CARDS]
-    ensures { λ r. ⌜ r ≡ endsOf reached cards ⌝ }
-{
-    let mut out = [0u32; Limits::CARDS];
-    let mut c: usize = 0;
-    while c < Limits::CARDS {
-        let x = end_of(c < cards as usize, reached[c]);
-        out[c] = x;
-        c += 1;
-    }
-    out
 }
 
 // The number of the change lost that comes next, where those up to k are met, and 0 where there is none.
@@ -79,7 +56,7 @@ pub fn list_lost<'a, 'b>(
 ) -> usize
     ensures { λ r. ⌜ (Rises (now (changes .entry)) line (endsOf reached cards) → Listed (lostBy (now (changes .entry)) line reached ended cards) (now (list .entry)) (now (list .exit)) r) ⌝ }
 {
-    let ends = ends_of(reached, cards);
+    let ends = base_merge::ends_of(reached, cards);
     let mut passed = line;
     let mut heads = base_merge::heads(changes, passed, ends);
     let mut n: usize = 0;

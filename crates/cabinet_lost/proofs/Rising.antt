@@ -7,14 +7,13 @@ use native.Mathlib.Omega.{arith}
 use lib.Dec.{ltb}
 use borrow.Author.Tests.{lt-ltb, le-leb}
 use Rattle.base_laws.proofs.Logic.{test, and-intro, cond-true, cond-false}
-use Rattle.base_laws.proofs.Fill.{getD-tabulate}
-use Rattle.base_merge.specs.Merge.{changeAt, CardRises, Rises}
+use Rattle.base_merge.specs.Merge.{changeAt, endsOf, CardRises, Rises}
+use Rattle.base_merge.proofs.Head.{end-at}
 use Rattle.theory_protocol.specs.Model.{Model}
 use Rattle.theory_protocol.specs.Valid.{valid}
 use Rattle.cabinet_layout.specs.declared.Core.{Core}
 use Rattle.cabinet_layout.specs.Shape.{limits16, at, ringChange, changeInHand, modelOf}
 use Rattle.cabinet_plans.proofs.Known.{valid-card}
-use Rattle.cabinet_listing.specs.Lost.{endsOf}
 
 module _ (entries changes : List ℕ) (core : Core) where
   abbrev m : Model
@@ -39,7 +38,7 @@ module _ (entries changes : List ℕ) (core : Core) where
       where
         each : (c : ℕ) → c < 16 → CardRises (changeAt changes c) (at (core .base) c) (at (endsOf (core .reached) (core .head .cards)) c)
         each c below =
-            let q : at (endsOf (core .reached) (core .head .cards)) c ≡ cond (ltb c (core .head .cards)) (at (core .reached) c) 0 = getD-tabulate 16 (λ c. cond (ltb c (core .head .cards)) (at (core .reached) c) 0) 0 c below in
+            let q : at (endsOf (core .reached) (core .head .cards)) c ≡ cond (ltb c (core .head .cards)) (at (core .reached) c) 0 = end-at (core .reached) (core .head .cards) c below in
             test (ltb c (core .head .cards))
             (λ t.
             let z : at (endsOf (core .reached) (core .head .cards)) c ≡ at (core .reached) c = q ∙ cond-true (at (core .reached) c) 0 t in

@@ -31,8 +31,8 @@ use Rattle.cabinet_layout.proofs.Limits.{width16, inHand48, slots8}
 use Rattle.cabinet_layout.proofs.Held.{at-list}
 use Rattle.cabinet_layout.proofs.Checks.{done-plan, refused-plan}
 use Rattle.cabinet_recovery.specs.declared.FixReply.the-variants.{Fixed, NotFixed}
-use Rattle.base_merge.specs.Merge.{changeAt, CardRises, Rises}
-use Rattle.cabinet_listing.specs.Lost.{Rising, Listed, endsOf, framedBy, endedBy, lostBy}
+use Rattle.base_merge.specs.Merge.{changeAt, endsOf, CardRises, Rises}
+use Rattle.cabinet_listing.specs.Lost.{Rising, Listed, framedBy, endedBy, lostBy}
 use Rattle.cabinet_recovery.specs.Fix.{rowsOf, listAfter, linesAfter, butLast, FixWorked}
 use Rattle.cabinet_recovery.proofs.Rows.{length-selected, selected-same}
 use Rattle.cabinet_listing.proofs.Rise.{those, rising-once, rising-one}

@@ -16,7 +16,7 @@ fn vector_of(entries: &[u32; Limits::ENTRIES], card: usize, x: u32) -> [u32; Lim
     requires { ⌜ card < 16 ⌝ }
     ensures { λ r. ⌜ r ≡ listOf (ringFrame (now (entries .entry)) card x) ⌝ }
 {
-    let place = card * Limits::IN_HAND + (x % Limits::IN_HAND_U32) as usize;
+    let place = base_limits::ring_place(card as u32, x as usize);
     let mut out = [0u32; Limits::CARDS];
     let mut j: usize = 0;
     while j < Limits::CARDS {

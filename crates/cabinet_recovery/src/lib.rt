@@ -49,13 +49,13 @@ fn orphan_from(entries: &[u32; Limits::ENTRIES], stored: [u32; Limits::CARDS], f
 fn is_orphan(
     entries: &[u32; Limits::ENTRIES],
     stored: [u32; Limits::CARDS],
-    card: usize,
+    card: u32,
     x: u32,
 ) -> bool
     requires { ⌜ card < 16 ⌝ }
     ensures { λ r. ⌜ r ≡ orphan (limits16 .width) (at stored) (ringFrame (now (entries .entry)) card x) ⌝ }
 {
-    let place = card * Limits::IN_HAND + (x % Limits::IN_HAND_U32) as usize;
+    let place = base_limits::ring_place(card, x as usize);
     orphan_from(entries, stored, place * Limits::CARDS)
 }
 
@@ -63,7 +63,7 @@ fn is_orphan(
 fn climbed(
     entries: &[u32; Limits::ENTRIES],
     stored: [u32; Limits::CARDS],
-    card: usize,
+    card: u32,
     base: u32,
     reached: u32,
 ) -> u32
@@ -93,7 +93,7 @@ pub fn line_of(
     ensures { λ r. ⌜ r ≡ cond (isCard limits16 (headModel head) card) (lineFrom (limits16 .width) (at stored) (ringFrame (now (entries .entry)) card) base reached) base ⌝ }
 {
     if (card < Limits::CARDS_U32) & (card < head.cards) {
-        climbed(entries, stored, card as usize, base, reached)
+        climbed(entries, stored, card, base, reached)
     } else {
         base
     }

@@ -42,6 +42,7 @@ use Rattle.cabinet_layout.specs.declared.Head.{Head}
 use Rattle.cabinet_layout.specs.declared.Vector.{Vector}
 use Rattle.cabinet_layout.specs.declared.Core.{Core}
 use Rattle.cabinet_layout.specs.Shape.{limits16, at, vectorAt, listOf, setOf, openOf, vectorFor, slotFor, ringChange, ringFrame, truncate, bare, withVectors, withSlots, withNumbers, withLine, headOf, blankCore, modelOf, emptySlot}
+use Rattle.sheet_vectors.specs.Heads.{storedNumbers}
 use Rattle.cabinet_layout.proofs.Limits.{width16}
 use Rattle.cabinet_layout.proofs.Held.{list-known, list-same, at-list, at-list-all, member-set, open-back, free-fits, no-slot}
 use Rattle.cabinet.specs.declared.Cabinet.{Cabinet}
@@ -197,7 +198,7 @@ free-listed = refl
 
 -- the cabinet that the code makes
 pub restarted-is : (r : Readout) → Sized r → Within r → (s line : List ℕ) (vs : List Vector) (head : Head) (core : Core) (low rolled : ℕ)
-    → s ≡ listOf (λ c. at (r .bases) c + at (r .counts) c)
+    → s ≡ storedNumbers (r .bases) (r .counts)
     → low ≡ lowestTo (λ i. getD (r .sessions) i 0) (r .cards - 1)
     → rolled ≡ setOf (λ c. ltb low (at (r .sessions) c))
     → vs ≡ tabulate (limits16 .width) (λ c. vectorFor (cond (ltb (at (r .bases) c) (at s c)) (ringFrame (r .entries) c (at s c)) noEntries))
@@ -205,7 +206,8 @@ pub restarted-is : (r : Readout) → Sized r → Within r → (s line : List ℕ
     → line ≡ listOf (lines limits16 (modelOf (r .entries) [] (withNumbers (bare head) (r .bases) s [] s)))
     → core ≡ blankCore head
     → _≡_ {A = Cabinet} (record { entries = r .entries; changes = r .changes; core = withVectors (withNumbers (withLine core line rolled) (r .bases) s s s) vs vs }) (restartedCabinet r)
-restarted-is r z w s line vs head core low rolled es el er ev eh en ec =
+restarted-is r z w s line vs head core low rolled q el er ev eh en ec =
+    let es : s ≡ listOf (λ c. at (r .bases) c + at (r .counts) c) = q ∙ ap (λ (n : ℕ). tabulate n (λ c. at (r .bases) c + at (r .counts) c)) (sym width16) in
     let here : Head = headOf low (r .cards) Rolling in
     let line-is : line ≡ listOf (lines limits16 (modelOf (r .entries) [] (withNumbers (bare here) (r .bases) s [] s))) = en ∙ ap (λ (h : Head). listOf (lines limits16 (modelOf (r .entries) [] (withNumbers (bare h) (r .bases) s [] s)))) eh in
     let head-is : core .head ≡ headOf (lowestTo (λ i. getD (r .sessions) i 0) (r .cards - 1)) (r .cards) Rolling = ap (λ (x : Core). x .head) ec ∙ eh ∙ ap (λ (n : ℕ). headOf n (r .cards) Rolling) el in

@@ -1,29 +1,12 @@
 // Restart: the cabinet out of the sheets of all cards, joined.
-ghost use Prim.Native.Nat.{ℕ, _+_, _≤_, _<_};
 ghost use mathlib.Core.Path.{_≡_};
-ghost use Rattle.cabinet_layout.specs.Shape.{at, listOf};
 ghost use Rattle.cabinet_layout.specs.Answers.{replyOf};
 ghost use Rattle.cabinet_restart.specs.Restart.{Within, restartedCabinet, Restarted};
-use base_limits::Limits;
 use base_refusal::Reply;
 use cabinet::Answer;
 use cabinet::Cabinet;
 use cabinet_layout::Phase;
 use sheet_pages::Readout;
-
-// The state that each card has stored: base plus the count of its frames.
-fn stored_numbers(bases: [u32; Limits::CARDS], counts: [u32; Limits::CARDS]) -> [u32; Limits::CARDS]
-    requires { ⌜ ((c : ℕ) → c < 16 → at bases c + at counts c ≤ 60000) ⌝ }
-    ensures { λ r. ⌜ r ≡ listOf (λ c. at bases c + at counts c) ⌝ }
-{
-    let mut out = [0u32; Limits::CARDS];
-    let mut c: usize = 0;
-    while c < Limits::CARDS {
-        out[c] = bases[c] + counts[c];
-        c += 1;
-    }
-    out
-}
 
 // The cabinet that restarts from a read-out.
 fn restarted(r: Readout) -> Cabinet
@@ -33,7 +16,7 @@ fn restarted(r: Readout) -> Cabinet
     let bases = r.bases;
     let counts = r.counts;
     let sessions = r.sessions;
-    let stored = stored_numbers(bases, counts);
+    let stored = sheet_vectors::stored_numbers(bases, counts);
     let low = sheet_sessions::lowest(sessions, r.cards - 1);
     let rolled = cabinet_recalling::rolled_cards(sessions, low);
     let head = cabinet_layout::head_of(low, r.cards, Phase::Rolling);

@@ -2,18 +2,15 @@
 ghost use mathlib.Core.Path.{_≡_};
 ghost use mathlib.Core.Bool.{not};
 ghost use mathlib.Core.List.{[]};
-ghost use Rattle.base_laws.specs.Below.{tabulate};
 ghost use Rattle.base_bits.specs.Member.{member};
-ghost use Rattle.theory_history.specs.Vector.{noEntries};
 ghost use Rattle.theory_protocol.specs.Model.{withCard};
 ghost use Rattle.theory_protocol.specs.Calls.{trimChecks, rollChecks, allRolled};
-ghost use Rattle.cabinet_layout.specs.Shape.{limits16, setOf, vectorFor, headModel, bare, withLine, modelOf};
+ghost use Rattle.cabinet_layout.specs.Shape.{limits16, setOf, headModel, bare, withLine, modelOf};
 ghost use Rattle.cabinet_layout.specs.Answers.{firstFailing, after28};
 use base_limits::Limits;
 use base_refusal::Refusal;
 use base_refusal::Reply;
 use cabinet_layout::Head;
-use cabinet_layout::Vector;
 use cabinet_layout::is_rolling;
 use cabinet_layout::is_up;
 use cabinet_replies::is_card;
@@ -58,14 +55,4 @@ pub fn is_last(head: Head, rolled: u16, card: u32) -> bool
     let done = base_bits::with(rolled, card);
     let left = base_bits::difference(all, done);
     base_bits::is_empty(left)
-}
-
-// "all entries are none"
-pub fn no_vectors() -> [Vector; Limits::CARDS]
-    ensures { λ r. ⌜ r ≡ tabulate (limits16 .width) (λ c. vectorFor noEntries) ⌝ }
-{
-    let none = Vector {
-        entries: [0u32; Limits::CARDS],
-    };
-    [none; Limits::CARDS]
 }

@@ -29,7 +29,7 @@ pub fn roll(valid: bool, mut core: Core, card: u32) -> CoreAnswer
             core.rolled = more;
             let done = cabinet_rollback::is_last(head, rolled, card);
             if done {
-                let none = cabinet_rollback::no_vectors();
+                let none = cabinet_layout::no_vectors();
                 core.last = none;
                 core.pending = none;
                 core.rolled = 0;

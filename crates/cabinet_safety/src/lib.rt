@@ -34,7 +34,7 @@ fn frame_above(changes: &[u32; Limits::FRAMES], c: usize, x: u32, reached: u32, 
     let mut found = false;
     let mut s: u32 = 0;
     while s < n {
-        let place = c * Limits::IN_HAND + ((x + s + 1) % Limits::IN_HAND_U32) as usize;
+        let place = base_limits::ring_place(c as u32, (x + s + 1) as usize);
         found = found | (changes[place] == k);
         s += 1;
     }

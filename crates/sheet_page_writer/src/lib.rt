@@ -51,10 +51,11 @@ pub fn frame_of<'a>(
             entries: [0u32; Limits::CARDS],
         };
     }
-    let place = (card * Limits::IN_HAND_U32 + state % Limits::IN_HAND_U32) as usize;
+    let place = base_limits::ring_place(card, state as usize);
+    let change = changes[place];
     let row = row_at(entries, place);
     Frame {
-        change: changes[place],
+        change,
         entries: row,
     }
 }

@@ -291,20 +291,21 @@ module _ {F : Formats} {f : Format} {s : List ℕ} {card : ℕ} {all : Bool} {du
             (rw e at (frame-due h));
       }
 
-  -- the same, with the frame as the code has it
+  -- the same, with the frame and its place as the code has them
   pub inner-again :
-      {change : ℕ} {es stored : List ℕ} →
+      {change place : ℕ} {es stored : List ℕ} →
       k < count →
       frameVerdict f (f .start due session) due n (base + 1 + k) last (drop at s) ≡ Done →
       frameIn f n (drop at s) .change ≡ change →
       es ≡ padded (frameIn f n (drop at s) .entries) →
-      stored ≡ sets (r .entries) (ringPlace due (base + 1 + k) * 16) es →
+      place ≡ ringPlace due (base + 1 + k) →
+      stored ≡ sets (r .entries) (place * 16) es →
       Inner F f s card all due left n base count session i
-      (record { changes = set (r .changes) (ringPlace due (base + 1 + k)) change; entries = stored; sessions = r .sessions; bases = r .bases; counts = set (r .counts) i (k + 1); cards = r .cards })
+      (record { changes = set (r .changes) place change; entries = stored; sessions = r .sessions; bases = r .bases; counts = set (r .counts) i (k + 1); cards = r .cards })
       (at + (frameDigits f n + 5))
       (record { change = change; entries = es })
       (k + 1)
-  inner-again h e p q t = rw (t, q, ← p, o .index) (rw (o .index) at (inner-step (frameIn f n (drop at s)) h refl e))
+  inner-again h e p q l t = rw (t, q, ← p, l, o .index) (rw (o .index) at (inner-step (frameIn f n (drop at s)) h refl e))
 
 -- the measure of the loop over sheets falls
 pub sheets-fewer :

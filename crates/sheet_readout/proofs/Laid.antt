@@ -10,8 +10,7 @@ use lib.Dec.{ltb}
 use lib.ListN.{length, getD}
 use borrow.Author.Tests.{ltb-true}
 use Rattle.base_laws.proofs.Logic.{test, cond-true, cond-false}
-use Rattle.base_laws.proofs.Fill.{getD-tabulate}
-use Rattle.base_merge.specs.Merge.{at, changeAt, CardRises}
+use Rattle.base_merge.specs.Merge.{at, changeAt, endsOf, CardRises}
 use Rattle.base_refusal.specs.declared.Reply.the-variants.{Done}
 use Rattle.sheet_lines.specs.Format.{format, formats}
 use Rattle.sheet_lines.specs.Lines.{noFrame}
@@ -23,7 +22,8 @@ use Rattle.sheet_pages.specs.Ring.{pageAt}
 use Rattle.sheet_pages.specs.Whole.{Whole}
 use Rattle.sheet_pages.proofs.Walk.{accepted-is}
 use Rattle.sheet_pages.proofs.Whole.{whole-read, frames-rise, whole-holds, whole-cards, pages-back}
-use Rattle.sheet_vectors.specs.Heads.{endsOf, Orderly}
+use Rattle.sheet_vectors.specs.Heads.{storedNumbers, Orderly}
+use Rattle.sheet_vectors.proofs.Agreed.{end-of}
 use Rattle.sheet_readout.specs.Laid.{Laid}
 
 module _ (ps : List Page) (w : Whole formats ps) where
@@ -64,16 +64,16 @@ module _ (ps : List Page) (w : Whole formats ps) where
   orderly : Orderly (out .changes) (out .bases) (out .counts) (out .cards)
   orderly = record { states = states; rises = record { card = each } }
     where
-      each : (c : ℕ) → c < 16 → CardRises (changeAt (out .changes) c) (at (out .bases) c) (at (endsOf (out .bases) (out .counts) (out .cards)) c)
+      each : (c : ℕ) → c < 16 → CardRises (changeAt (out .changes) c) (at (out .bases) c) (at (endsOf (storedNumbers (out .bases) (out .counts)) (out .cards)) c)
       each c h =
           let n : ℕ = out .cards in
-          let q : at (endsOf (out .bases) (out .counts) n) c ≡ cond (ltb c n) (at (out .bases) c + at (out .counts) c) 0 = getD-tabulate 16 (λ c. cond (ltb c n) (at (out .bases) c + at (out .counts) c) 0) 0 c h in
+          let q : at (endsOf (storedNumbers (out .bases) (out .counts)) n) c ≡ cond (ltb c n) (at (out .bases) c + at (out .counts) c) 0 = end-of (out .bases) (out .counts) n c h in
           test (ltb c n)
           (λ e.
           let l : c < length ps = omega (arith, ltb-true c n e, whole-cards ps w) in
           subst (λ (x : ℕ). CardRises (changeAt (out .changes) c) (at (out .bases) c) x) (sym (q ∙ cond-true (at (out .bases) c + at (out .counts) c) 0 e ∙ ap (λ (k : ℕ). at (out .bases) c + k) (whole-holds ps w .count c l))) (card-rises c l))
           (λ e.
-          let z : at (endsOf (out .bases) (out .counts) n) c ≡ 0 = q ∙ cond-false (at (out .bases) c + at (out .counts) c) 0 e in
+          let z : at (endsOf (storedNumbers (out .bases) (out .counts)) n) c ≡ 0 = q ∙ cond-false (at (out .bases) c + at (out .counts) c) 0 e in
           record { some = λ x a b. absurd (omega arith); next = λ x a b. absurd (omega arith) })
 
   whole-laid : Laid (layPages ps noReadout)

@@ -14,14 +14,19 @@ use Rattle.base_laws.specs.Below.{anyBelow, tabulate}
 use Rattle.base_laws.proofs.Logic.{test, clash, fails, and-intro, and-left, and-right, not-true, not-intro, cond-true, cond-false}
 use Rattle.base_laws.proofs.Below.{Found, all-at, all-intro, all-same, any-intro, any-elim, first-below, first-at}
 use Rattle.base_laws.proofs.Fill.{length-tabulate, getD-tabulate}
-use Rattle.base_merge.specs.Merge.{at, changeAt, headNumbers, leastOf, allPast, Rises, cardAhead, ahead, NextOf, Passed}
+use Rattle.base_merge.specs.Merge.{at, changeAt, endsOf, headPlace, headNumbers, leastOf, allPast, Rises, cardAhead, ahead, NextOf, Passed}
+use Rattle.base_merge.proofs.Head.{end-at}
 use Rattle.base_merge.proofs.Walk.{head-is, head-at, walk-start, walk-next, walk-past, walk-low}
 use Rattle.sheet_pages.specs.declared.Readout.{Readout}
 use Rattle.sheet_pages.specs.Ring.{pageOf, pagesOf}
 use Rattle.sheet_pages.proofs.Whole.{count-on, frame-on}
 use Rattle.sheet_vectors.specs.Vectors.{frameOn, differ, twoVectors}
-use Rattle.sheet_vectors.specs.Heads.{endsOf, headPlace, sameEntries, headDiffers, firstWith, headsDiffer, listsRead}
+use Rattle.sheet_vectors.specs.Heads.{storedNumbers, sameEntries, headDiffers, firstWith, headsDiffer, listsRead}
 use Rattle.sheet_vectors.proofs.Paged.{two-some, two-none}
+
+-- the last state of a card
+pub end-of : (bases counts : List ℕ) (n i : ℕ) → i < 16 → at (endsOf (storedNumbers bases counts) n) i ≡ cond (ltb i n) (at bases i + at counts i) 0
+end-of bases counts n i h = end-at (storedNumbers bases counts) n i h ∙ ap (λ (x : ℕ). cond (ltb i n) x 0) (getD-tabulate 16 (λ c. at bases c + at counts c) 0 i h)
 
 -- ---- vectors that are the same
 same-self : (entries : List ℕ) (n p : ℕ) → sameEntries entries n p p ≡ true
@@ -225,15 +230,15 @@ module _ (changes entries bases ends : List ℕ) (n : ℕ) (r : Rises changes ba
           fits = fy;
         }
 
-    module _ (counts : List ℕ) (es : ends ≡ endsOf bases counts n) where
-      end-at : (i : ℕ) → i < 16 → at ends i ≡ cond (ltb i n) (at bases i + at counts i) 0
-      end-at i h = ap (λ (l : List ℕ). at l i) es ∙ getD-tabulate 16 (λ c. cond (ltb c n) (at bases c + at counts c) 0) 0 i h
+    module _ (counts : List ℕ) (es : ends ≡ endsOf (storedNumbers bases counts) n) where
+      its-end : (i : ℕ) → i < 16 → at ends i ≡ cond (ltb i n) (at bases i + at counts i) 0
+      its-end i h = ap (λ (l : List ℕ). at l i) es ∙ end-of bases counts n i h
 
       -- a card that has states left is there
       there : (i : ℕ) → i < 16 → at passed i < at ends i → (i < n) × (at ends i ≡ at bases i + at counts i)
       there i h l =
-          test (ltb i n) (λ t. (ltb-true i n t, end-at i h ∙ cond-true (at bases i + at counts i) 0 t))
-          (λ t. let z : at ends i ≡ 0 = end-at i h ∙ cond-false (at bases i + at counts i) 0 t in absurd (omega arith))
+          test (ltb i n) (λ t. (ltb-true i n t, its-end i h ∙ cond-true (at bases i + at counts i) 0 t))
+          (λ t. let z : at ends i ≡ 0 = its-end i h ∙ cond-false (at bases i + at counts i) 0 t in absurd (omega arith))
 
       two-here : Two entries heads passed n x → true ≡ twoVectors (pagesOf (listsRead changes entries [] bases counts n))
       two-here w = found (w .i) (w .j) (w .i-card) (w .j-card) (head-there (w .i) (w .i-card) (w .i-head)) (head-there (w .j) (w .j-card) (w .j-head)) (w .less) (w .differs)
@@ -260,7 +265,7 @@ module _ (changes entries bases ends : List ℕ) (n : ℕ) (r : Rises changes ba
       looked-found d f = two-here (heads-two entries heads passed n x (sym d ∙ f))
 
   -- nothing is left: each pair has one vector
-  pub looked-done : {passed heads : List ℕ} {k x : ℕ} → Looked changes entries bases ends n passed heads k x → x ≤ k → (counts : List ℕ) → ends ≡ endsOf bases counts n → n ≤ 16 → false ≡ twoVectors (pagesOf (listsRead changes entries [] bases counts n))
+  pub looked-done : {passed heads : List ℕ} {k x : ℕ} → Looked changes entries bases ends n passed heads k x → x ≤ k → (counts : List ℕ) → ends ≡ endsOf (storedNumbers bases counts) n → n ≤ 16 → false ≡ twoVectors (pagesOf (listsRead changes entries [] bases counts n))
   looked-done {passed} {heads} {k} {x} s l counts es few = ring-none changes entries bases counts n each
     where
       none : x ≡ 0
@@ -271,9 +276,8 @@ module _ (changes entries bases ends : List ℕ) (n : ℕ) (r : Rises changes ba
           by-cases (decLt k (changeAt changes i y)) (λ (u : k < changeAt changes i y). clash (seen i y h a b) (s .next .none none (changeAt changes i y) u))
           (λ (u : ¬ (k < changeAt changes i y)). omega (arith, u))
 
-      end-at : (i : ℕ) → i < n → at ends i ≡ at bases i + at counts i
-      end-at i h =
-          ap (λ (m : List ℕ). at m i) es ∙ getD-tabulate 16 (λ c. cond (ltb c n) (at bases c + at counts c) 0) 0 i (omega arith) ∙ cond-true (at bases i + at counts i) 0 (lt-ltb i n h)
+      its-end : (i : ℕ) → i < n → at ends i ≡ at bases i + at counts i
+      its-end i h = ap (λ (m : List ℕ). at m i) es ∙ end-of bases counts n i (omega arith) ∙ cond-true (at bases i + at counts i) 0 (lt-ltb i n h)
 
       each : (i j a b : ℕ) → i < n → j < i → a < at counts i → b < at counts j → placesDiffer changes entries bases counts n (ringPlace i (suc (at bases i + a))) (ringPlace j (suc (at bases j + b))) ≡ false
       each i j a b hi hj ha hb =
@@ -282,8 +286,8 @@ module _ (changes entries bases ends : List ℕ) (n : ℕ) (r : Rises changes ba
           let same : Bool = sameEntries entries n (ringPlace i x) (ringPlace j y) in
           fails (eqb (changeAt changes i x) (changeAt changes j y) && not same)
           (λ (t : eqb (changeAt changes i x) (changeAt changes j y) && not same ≡ true).
-          let ei : at ends i ≡ at bases i + at counts i = end-at i hi in
-          let ej : at ends j ≡ at bases j + at counts j = end-at j (omega arith) in
+          let ei : at ends i ≡ at bases i + at counts i = its-end i hi in
+          let ej : at ends j ≡ at bases j + at counts j = its-end j (omega arith) in
           let q : changeAt changes i x ≡ changeAt changes j y = eqb-true (changeAt changes i x) (changeAt changes j y) (and-left (eqb (changeAt changes i x) (changeAt changes j y)) (not same) t) in
           let d : same ≡ false = not-true same (and-right (eqb (changeAt changes i x) (changeAt changes j y)) (not same) t) in
           clash (s .agreed .same i j x y (omega arith) (omega arith) (omega arith) (omega arith) (omega arith) (omega arith) q (met i x (omega arith) (omega arith) (omega arith))) d)

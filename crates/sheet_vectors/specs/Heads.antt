@@ -5,23 +5,18 @@ use mathlib.Core.List.{List}
 use lib.Dec.{eqb, ltb}
 use lib.ListN.{getD}
 use Rattle.base_limits.specs.Document.{mostCards, lastState}
-use Rattle.base_limits.specs.Ring.{ringPlace}
 use Rattle.base_laws.specs.Below.{allBelow, anyBelow, firstBelow, tabulate}
-use Rattle.base_merge.specs.Merge.{at, Rises}
+use Rattle.base_merge.specs.Merge.{at, endsOf, headPlace, Rises}
 use Rattle.sheet_pages.specs.declared.Readout.{Readout}
 
--- the last state of each of n cards; a card that is not there has none
-abbrev pub endsOf : (bases counts : List ℕ) → ℕ → List ℕ
-endsOf bases counts n = tabulate mostCards (λ c. cond (ltb c n) (at bases c + at counts c) 0)
+-- the state that each card has stored: base plus the count of its frames
+abbrev pub storedNumbers : (bases counts : List ℕ) → List ℕ
+storedNumbers bases counts = tabulate mostCards (λ c. at bases c + at counts c)
 
 -- what the lines of an accepted read-out leave: state numbers within the limits, change numbers that rise
 pub record Orderly (changes bases counts : List ℕ) (n : ℕ) : Type 0 where
   pub states : (c : ℕ) → c < mostCards → at bases c + at counts c ≤ lastState
-  pub rises : Rises changes bases (endsOf bases counts n)
-
--- the place of the state behind the one passed of card c
-abbrev pub headPlace : ℕ → ℕ → ℕ
-headPlace c passed = ringPlace c (suc passed)
+  pub rises : Rises changes bases (endsOf (storedNumbers bases counts) n)
 
 -- the vectors at two places have the same n entries
 abbrev pub sameEntries : List ℕ → ℕ → ℕ → ℕ → Bool

@@ -1,50 +1,31 @@
 // Refusal 10: whether one change has two vectors on two sheets of a read-out.
 ghost use mathlib.Core.Path.{_≡_};
 ghost use Prim.Native.Nat.{ℕ, _+_, _≤_, _<_};
-ghost use mathlib.Core.Bool.{not, _&&_, cond};
+ghost use mathlib.Core.Bool.{not, _&&_};
 ghost use mathlib.Core.List.{[]};
 ghost use lib.Dec.{eqb};
 ghost use Rattle.base_laws.specs.Below.{anyBelow};
-ghost use Rattle.base_merge.specs.Merge.{at};
+ghost use Rattle.base_merge.specs.Merge.{at, headPlace};
 ghost use Rattle.sheet_pages.specs.Ring.{pagesOf};
 ghost use Rattle.sheet_vectors.specs.Vectors.{twoVectors};
-ghost use Rattle.sheet_vectors.specs.Heads.{endsOf, Orderly, listsRead, headPlace, sameEntries, firstWith, headDiffers, headsDiffer};
+ghost use Rattle.sheet_vectors.specs.Heads.{storedNumbers, Orderly, listsRead, sameEntries, firstWith, headDiffers, headsDiffer};
 use base_limits::Limits;
 
-// The last state of a card that is there; of another, none.
-fn end_of(there: bool, base: u32, count: u32) -> u32
-    requires { ⌜ base + count ≤ 60000 ⌝ }
-    ensures { λ r. ⌜ r ≡ cond there (base + count) 0 ⌝ }
-{
-    if there { base + count } else { 0 }
-}
-
-// The last state of each of n cards.
-fn ends_of(
+// The state that each card has stored: base plus the count of its frames.
+pub fn stored_numbers(
     bases: [u32; Limits::CARDS],
     counts: [u32; Limits::CARDS],
-    n: u32,
 ) -> [u32; Limits::CARDS]
     requires { ⌜ ((c : ℕ) → c < 16 → at bases c + at counts c ≤ 60000) ⌝ }
-    ensures { λ r. ⌜ r ≡ endsOf bases counts n ⌝ }
+    ensures { λ r. ⌜ r ≡ storedNumbers bases counts ⌝ }
 {
     let mut out = [0u32; Limits::CARDS];
     let mut c: usize = 0;
     while c < Limits::CARDS {
-        let x = end_of(c < n as usize, bases[c], counts[c]);
-        out[c] = x;
+        out[c] = bases[c] + counts[c];
         c += 1;
     }
     out
-}
-
-// The place of the state behind the one passed of a card.
-fn head_place(card: usize, passed: u32) -> usize
-    requires { ⌜ card < 16 ⌝ }
-    ensures at { λ r. ⌜ r ≡ headPlace card passed ⌝ }
-    ensures small { λ r. ⌜ r < 768 ⌝ }
-{
-    card * Limits::IN_HAND + (passed as usize + 1) % Limits::IN_HAND
 }
 
 fn same_entries(entries: &[u32; Limits::ENTRIES], p: usize, q: usize, n: usize) -> bool
@@ -89,7 +70,7 @@ fn head_differs(
     ensures { λ r. ⌜ r ≡ (eqb head k && not (sameEntries (now (entries .entry)) n (headPlace c passed) p)) ⌝ }
 {
     if head == k {
-        let q = head_place(c, passed);
+        let q = base_merge::head_place(c as u32, passed);
         !same_entries(entries, q, p, n)
     } else {
         false
@@ -131,7 +112,7 @@ fn heads_differ(
 {
     let first = first_with(heads, k);
     if first < Limits::CARDS {
-        let p = head_place(first, passed[first]);
+        let p = base_merge::head_place(first as u32, passed[first]);
         some_differs(entries, heads, passed, k, p, n)
     } else {
         false
@@ -150,7 +131,8 @@ pub fn two_vectors<'a>(
     ensures { λ x. ⌜ x ≡ twoVectors (pagesOf (listsRead (now (changes .entry)) (now (entries .entry)) [] bases counts n)) ⌝ }
 {
     let cards = n as usize;
-    let ends = ends_of(bases, counts, n);
+    let stored = stored_numbers(bases, counts);
+    let ends = base_merge::ends_of(stored, n);
     let mut passed = bases;
     let mut heads = base_merge::heads(changes, passed, ends);
     let mut k: u32 = 0;

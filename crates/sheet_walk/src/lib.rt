@@ -87,7 +87,7 @@ pub fn read_sheets(s: &[u8], card: u32, all: bool) -> Reading
                 break 'sheets sheet_lines::frame_reply(told);
             };
             let entries = read.entries;
-            let place = (due * Limits::IN_HAND_U32 + state % Limits::IN_HAND_U32) as usize;
+            let place = base_limits::ring_place(due, state as usize);
             r.counts[i] = k + 1;
             r.changes[place] = change;
             store_entries(&mut r.entries, place * Limits::CARDS, entries);

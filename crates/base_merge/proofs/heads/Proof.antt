@@ -16,6 +16,9 @@ abbrev μ-loop : tie.MeasureT-loop
 loop-holds : tie.Need-loop-holds Inv-loop μ-loop
 loop-holds c = filled-none refl
 
+cast-head-number : tie.Need-cast-head-number Inv-loop μ-loop
+cast-head-number c = search needs
+
 mul-head-number : tie.Need-mul-head-number Inv-loop μ-loop
 mul-head-number c = search needs
 
@@ -56,6 +59,7 @@ heads-spec =
     Inv-loop
     μ-loop
     loop-holds
+    cast-head-number
     mul-head-number
     array-read-head-number
     mul-head-number-2

@@ -12,29 +12,29 @@ use borrow.Author.Needs.{needs}
 use Rattle.cabinet_frames.proofs.put_change.Statement.{statement}
 use Rattle.cabinet_frames.proofs.put_change.Tie as tie
 
-place-of-requires : tie.Need-place-of-requires
-place-of-requires c κs = search needs
+ring-place-requires : tie.Need-ring-place-requires
+ring-place-requires c κs = search needs
 
 is-made-requires : tie.Need-is-made-requires
 is-made-requires c κs = search needs
 
 -- what was found of the state
 found : (c : tie.After-is-made) → isMade (c .before .before .args .card) (c .before .before .args .state) ≡ c .is-made .result
-found c = ap (λ (p : ℕ). not (eqb (c .before .before .args .state) 0) && ltb p 768) (sym (c .before .place-of .ensures)) ∙ sym (c .is-made .ensures)
+found c = ap (λ (p : ℕ). not (eqb (c .before .before .args .state) 0) && ltb p 768) (sym (c .before .ring-place .ensures)) ∙ sym (c .is-made .ensures)
 
 mul-changes : tie.Need-mul-changes
 mul-changes c = search needs
 
 element-write-changes : tie.Need-element-write-changes
 element-write-changes c =
-    let p : ℕ = c .before .before .place-of .result in
+    let p : ℕ = c .before .before .ring-place .result in
     ltb-true p 768 (and-right (not (eqb (c .before .before .before .args .state) 0)) (ltb p 768) (sym (c .before .is-made .ensures) ∙ c .if1 .taken))
 
 returns : tie.Need-returns
 returns c =
     let a : _ = c .before .before .before .args in
     let l : _ = a .changes .now in
-    ap (λ (p : ℕ). set l p (a .change)) (c .before .before .place-of .ensures)
+    ap (λ (p : ℕ). set l p (a .change)) (c .before .before .ring-place .ensures)
     ∙ sym (cond-true (set l (ringPlace (a .card) (a .state)) (a .change)) l (found (c .before) ∙ c .if1 .taken))
 
 returns-2 : tie.Need-returns-2
@@ -45,4 +45,4 @@ returns-2 c =
 
 pub put-change-spec : {M : Type 1} → statement M
 put-change-spec =
-    tie.close (tie.spec place-of-requires is-made-requires mul-changes element-write-changes returns returns-2)
+    tie.close (tie.spec ring-place-requires is-made-requires mul-changes element-write-changes returns returns-2)

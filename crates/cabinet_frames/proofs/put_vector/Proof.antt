@@ -14,20 +14,20 @@ use borrow.Author.Needs.{needs}
 use Rattle.cabinet_frames.proofs.put_vector.Statement.{statement}
 use Rattle.cabinet_frames.proofs.put_vector.Tie as tie
 
-place-of-requires : tie.Need-place-of-requires
-place-of-requires c κs = search needs
+ring-place-requires : tie.Need-ring-place-requires
+ring-place-requires c κs = search needs
 
 is-made-requires : tie.Need-is-made-requires
 is-made-requires c κs = search needs
 
 -- what was found of the state
 found : (c : tie.After-is-made) → isMade (c .before .before .before .args .card) (c .before .before .before .args .state) ≡ c .is-made .result
-found c = ap (λ (p : ℕ). not (eqb (c .before .before .before .args .state) 0) && ltb p 768) (sym (c .before .before .place-of .ensures)) ∙ sym (c .is-made .ensures)
+found c = ap (λ (p : ℕ). not (eqb (c .before .before .before .args .state) 0) && ltb p 768) (sym (c .before .before .ring-place .ensures)) ∙ sym (c .is-made .ensures)
 
 -- there is such a place
-below : (c : tie.Then1) → c .before .before .before .place-of .result < 768
+below : (c : tie.Then1) → c .before .before .before .ring-place .result < 768
 below c =
-    let p : ℕ = c .before .before .before .place-of .result in
+    let p : ℕ = c .before .before .before .ring-place .result in
     ltb-true p 768 (and-right (not (eqb (c .before .before .before .before .args .state) 0)) (ltb p 768) (sym (c .before .is-made .ensures) ∙ c .if1 .taken))
 
 mul-put-frame : tie.Need-mul-put-frame
@@ -42,7 +42,7 @@ returns c =
     let l : _ = a .entries .now in
     let v : _ = listOf (at (a .v .entries)) in
     c .put-frame .ensures
-    ∙ ap (λ (p : ℕ). sets l (p * 16) v) (c .before .before .before .before .before .place-of .ensures)
+    ∙ ap (λ (p : ℕ). sets l (p * 16) v) (c .before .before .before .before .before .ring-place .ensures)
     ∙ sym (cond-true (sets l (ringPlace (a .card) (a .state) * 16) v) l (found (c .before .before .before) ∙ c .before .before .if1 .taken))
 
 returns-2 : tie.Need-returns-2
@@ -54,4 +54,4 @@ returns-2 c =
 
 pub put-vector-spec : {M : Type 1} → statement M
 put-vector-spec =
-    tie.close (tie.spec place-of-requires is-made-requires mul-put-frame put-frame-requires returns returns-2)
+    tie.close (tie.spec ring-place-requires is-made-requires mul-put-frame put-frame-requires returns returns-2)

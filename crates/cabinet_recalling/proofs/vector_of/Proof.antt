@@ -1,8 +1,8 @@
 -- `cabinet_restart::vector_of` copies a vector out of the ring. Assumes nothing.
-use Prim.Native.Nat.{_-_}
-use mathlib.Core.Path.{refl}
+use Prim.Native.Nat.{ℕ, _+_, _*_, _-_}
+use mathlib.Core.Path.{refl, ap}
 use Rattle.base_laws.proofs.Fill.{FilledSoFar, filled-none, filled-more, filled-done}
-use Rattle.cabinet_layout.specs.Shape.{ringFrame}
+use Rattle.cabinet_layout.specs.Shape.{at, ringFrame}
 use Rattle.cabinet_layout.proofs.Limits.{width16}
 use borrow.Author.Needs.{needs}
 use Rattle.cabinet_recalling.proofs.vector_of.Statement.{statement}
@@ -14,14 +14,11 @@ Inv-loop entries card x place out₀ j₀ out j = FilledSoFar 0 16 (ringFrame en
 abbrev μ-loop : tie.MeasureT-loop
 μ-loop entries card x place out₀ j₀ out j = 16 - j
 
-mul-place : tie.Need-mul-place Inv-loop μ-loop
-mul-place c = search needs
+cast-ring-place : tie.Need-cast-ring-place Inv-loop μ-loop
+cast-ring-place c = search needs
 
-cast-place : tie.Need-cast-place Inv-loop μ-loop
-cast-place c = search needs
-
-add-place : tie.Need-add-place Inv-loop μ-loop
-add-place c = search needs
+ring-place-requires : tie.Need-ring-place-requires Inv-loop μ-loop
+ring-place-requires c κs = search needs
 
 loop-holds : tie.Need-loop-holds Inv-loop μ-loop
 loop-holds c = filled-none refl
@@ -51,7 +48,7 @@ loop-less : tie.Need-loop-less Inv-loop μ-loop
 loop-less c = search needs
 
 loop-again : tie.Need-loop-again Inv-loop μ-loop
-loop-again c = filled-more (c .before .before .loop .inv) (c .before .loop-test .taken) refl
+loop-again c = filled-more (c .before .before .loop .inv) (c .before .loop-test .taken) (ap (λ (p : ℕ). at (c .before .before .before .before .args .entries .now) (p * 16 + c .before .before .loop .j)) (c .before .before .before .ring-place .ensures))
 
 returns : tie.Need-returns Inv-loop μ-loop
 returns c = filled-done (c .before .loop .inv) (c .loop-test .left) width16
@@ -62,9 +59,8 @@ vector-of-spec =
     (tie.spec
     Inv-loop
     μ-loop
-    mul-place
-    cast-place
-    add-place
+    cast-ring-place
+    ring-place-requires
     loop-holds
     mul-out
     add-out

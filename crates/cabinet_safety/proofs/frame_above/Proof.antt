@@ -1,7 +1,8 @@
-use Rattle.cabinet_layout.specs.Shape.{ringChange}
+use Rattle.base_limits.specs.Ring.{ringPlace}
+use Rattle.cabinet_layout.specs.Shape.{at, ringChange}
 use Rattle.base_laws.proofs.Fill.{AnySoFar, any-none, any-more, any-done}
-use Prim.Native.Nat.{suc, _+_, _-_}
-use mathlib.Core.Path.{sym}
+use Prim.Native.Nat.{ℕ, suc, _+_, _-_}
+use mathlib.Core.Path.{sym, _∙_, ap}
 use native.Mathlib.Numerals.{add-one}
 use lib.Dec.{eqb}
 use borrow.Author.Needs.{needs}
@@ -20,20 +21,20 @@ above-requires c κs = search needs
 loop-holds : tie.Need-loop-holds Inv-loop μ-loop
 loop-holds c = any-none
 
-mul-place : tie.Need-mul-place Inv-loop μ-loop
-mul-place c = search needs
+cast-ring-place : tie.Need-cast-ring-place Inv-loop μ-loop
+cast-ring-place c = search needs
 
-add-place : tie.Need-add-place Inv-loop μ-loop
-add-place c = search needs
+add-ring-place : tie.Need-add-ring-place Inv-loop μ-loop
+add-ring-place c = search needs
 
-add-place-2 : tie.Need-add-place-2 Inv-loop μ-loop
-add-place-2 c = search needs
+add-ring-place-2 : tie.Need-add-ring-place-2 Inv-loop μ-loop
+add-ring-place-2 c = search needs
 
-cast-place : tie.Need-cast-place Inv-loop μ-loop
-cast-place c = search needs
+cast-ring-place-2 : tie.Need-cast-ring-place-2 Inv-loop μ-loop
+cast-ring-place-2 c = search needs
 
-add-place-3 : tie.Need-add-place-3 Inv-loop μ-loop
-add-place-3 c = search needs
+ring-place-requires : tie.Need-ring-place-requires Inv-loop μ-loop
+ring-place-requires c κs = search needs
 
 mul-found : tie.Need-mul-found Inv-loop μ-loop
 mul-found c = search needs
@@ -48,7 +49,10 @@ loop-less : tie.Need-loop-less Inv-loop μ-loop
 loop-less c = search needs
 
 loop-again : tie.Need-loop-again Inv-loop μ-loop
-loop-again c = any-more (c .before .before .loop .inv) (c .before .loop-test .taken) (rw (add-one (c .before .before .before .before .args .x + c .before .before .loop .s)))
+loop-again c =
+    let a : _ = c .before .before .before .before .before .args in
+    any-more (c .before .before .before .loop .inv) (c .before .before .loop-test .taken)
+    (ap (λ (p : ℕ). eqb (at (a .changes .now) p) (a .k)) (c .before .ring-place .ensures ∙ ap (ringPlace (a .c)) (add-one (a .x + c .before .before .before .loop .s))))
 
 returns : tie.Need-returns Inv-loop μ-loop
 returns c = any-done (c .before .loop .inv) (c .loop-test .left) (sym (c .before .before .above .ensures))
@@ -61,11 +65,11 @@ frame-above-spec =
     μ-loop
     above-requires
     loop-holds
-    mul-place
-    add-place
-    add-place-2
-    cast-place
-    add-place-3
+    cast-ring-place
+    add-ring-place
+    add-ring-place-2
+    cast-ring-place-2
+    ring-place-requires
     mul-found
     element-copy-out-found
     add-s

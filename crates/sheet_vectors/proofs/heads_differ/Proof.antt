@@ -7,6 +7,9 @@ use Rattle.sheet_vectors.proofs.heads_differ.Tie as tie
 first-with-requires : tie.Need-first-with-requires
 first-with-requires c κs = search needs
 
+cast-head-place : tie.Need-cast-head-place
+cast-head-place c = search needs
+
 mul-head-place : tie.Need-mul-head-place
 mul-head-place c = search needs
 
@@ -20,7 +23,7 @@ some-differs-requires : tie.Need-some-differs-requires
 some-differs-requires c κs = search needs
 
 returns : tie.Need-returns
-returns c = let a : _ = c .before .before .before .before .args in compared-some (a .entries .now) (a .heads) (a .t3) (a .n) (a .k) (c .before .before .before .first-with .ensures) (c .before .before .if1 .taken) (c .before .head-place .ensures .0) (c .some-differs .ensures)
+returns c = let a : _ = c .before .before .before .before .args in compared-some (a .entries .now) (a .heads) (a .t3) (a .n) (a .k) (c .before .before .before .first-with .ensures) (c .before .before .if1 .taken) (c .before .head-place .ensures) (c .some-differs .ensures)
 
 returns-2 : tie.Need-returns-2
 returns-2 c = let a : _ = c .before .before .args in compared-none (a .entries .now) (a .heads) (a .t3) (a .n) (a .k) (c .before .first-with .ensures) (c .if1 .left)
@@ -30,6 +33,7 @@ heads-differ-spec =
     tie.close
     (tie.spec
     first-with-requires
+    cast-head-place
     mul-head-place
     array-read-head-place
     head-place-requires

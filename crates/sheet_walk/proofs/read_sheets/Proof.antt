@@ -200,64 +200,61 @@ enum-told-2 c = search needs
 frame-reply-requires : tie.Need-frame-reply-requires Inv-loop μ-loop Inv-sheets μ-sheets
 frame-reply-requires c κs = search needs
 
-mul-place : tie.Need-mul-place Inv-loop μ-loop Inv-sheets μ-sheets
-mul-place c = omega (arith, c .before .before .before .before .before .before .before .loop .inv .below, c .before .before .before .before .before .before .before .loop .inv .cards)
+cast-ring-place : tie.Need-cast-ring-place Inv-loop μ-loop Inv-sheets μ-sheets
+cast-ring-place c = search needs
 
-add-place : tie.Need-add-place Inv-loop μ-loop Inv-sheets μ-sheets
-add-place c = omega (arith, c .before .before .before .before .before .before .before .loop .inv .below, c .before .before .before .before .before .before .before .loop .inv .cards)
-
-cast-place : tie.Need-cast-place Inv-loop μ-loop Inv-sheets μ-sheets
-cast-place c = omega (arith, c .before .before .before .before .before .before .before .loop .inv .below, c .before .before .before .before .before .before .before .loop .inv .cards)
+ring-place-requires : tie.Need-ring-place-requires Inv-loop μ-loop Inv-sheets μ-sheets
+ring-place-requires c κs = search needs
 
 add-r : tie.Need-add-r Inv-loop μ-loop Inv-sheets μ-sheets
-add-r c = omega (arith, c .before .before .before .before .before .before .before .loop .inv .frames, c .before .before .before .before .before .before .before .loop .inv .passed, c .before .before .before .before .before .before .loop-test .taken)
+add-r c = omega (arith, c .before .before .before .before .before .before .before .before .loop .inv .frames, c .before .before .before .before .before .before .before .before .loop .inv .passed, c .before .before .before .before .before .before .before .loop-test .taken)
 
 mul-r-3 : tie.Need-mul-r-3 Inv-loop μ-loop Inv-sheets μ-sheets
-mul-r-3 c = omega (arith, c .before .before .before .before .before .before .before .loop .inv .below, c .before .before .before .before .before .before .before .loop .inv .cards, c .before .before .before .before .before .before .before .loop .inv .index)
+mul-r-3 c = omega (arith, c .before .before .before .before .before .before .before .before .loop .inv .below, c .before .before .before .before .before .before .before .before .loop .inv .cards, c .before .before .before .before .before .before .before .before .loop .inv .index)
 
 element-write-r-3 : tie.Need-element-write-r-3 Inv-loop μ-loop Inv-sheets μ-sheets
-element-write-r-3 c = omega (arith, c .before .before .before .before .before .before .before .loop .inv .below, c .before .before .before .before .before .before .before .loop .inv .cards, c .before .before .before .before .before .before .before .loop .inv .index)
+element-write-r-3 c = omega (arith, c .before .before .before .before .before .before .before .before .loop .inv .below, c .before .before .before .before .before .before .before .before .loop .inv .cards, c .before .before .before .before .before .before .before .before .loop .inv .index)
 
 mul-r-4 : tie.Need-mul-r-4 Inv-loop μ-loop Inv-sheets μ-sheets
-mul-r-4 c = omega (arith, c .before .before .before .before .before .before .before .loop .inv .below, c .before .before .before .before .before .before .before .loop .inv .cards)
+mul-r-4 c = omega (arith, c .before .before .before .before .before .before .before .before .loop .inv .below, c .before .before .before .before .before .before .before .before .loop .inv .cards)
 
 element-write-r-4 : tie.Need-element-write-r-4 Inv-loop μ-loop Inv-sheets μ-sheets
-element-write-r-4 c = omega (arith, c .before .before .before .before .before .before .before .loop .inv .below, c .before .before .before .before .before .before .before .loop .inv .cards)
+element-write-r-4 c = omega (arith, c .before .before .before .before .before .before .before .before .loop .inv .below, c .before .before .before .before .before .before .before .before .loop .inv .cards)
 
 mul-store-entries : tie.Need-mul-store-entries Inv-loop μ-loop Inv-sheets μ-sheets
-mul-store-entries c = omega (arith, c .before .before .before .before .before .before .before .before .loop .inv .below, c .before .before .before .before .before .before .before .before .loop .inv .cards)
+mul-store-entries c = omega (arith, c .before .before .before .before .before .before .before .before .before .loop .inv .below, c .before .before .before .before .before .before .before .before .before .loop .inv .cards)
 
 store-entries-requires : tie.Need-store-entries-requires Inv-loop μ-loop Inv-sheets μ-sheets
-store-entries-requires c κs = omega (arith, c .before .before .before .before .before .before .before .before .loop .inv .below, c .before .before .before .before .before .before .before .before .loop .inv .cards)
+store-entries-requires c κs = omega (arith, c .before .before .before .before .before .before .before .before .before .loop .inv .below, c .before .before .before .before .before .before .before .before .before .loop .inv .cards)
 
 add-at-4 : tie.Need-add-at-4 Inv-loop μ-loop Inv-sheets μ-sheets
-add-at-4 c = omega (arith, fits (of-header (c .before .before .before .before .before .before)) .width)
+add-at-4 c = omega (arith, fits (of-header (c .before .before .before .before .before .before .before)) .width)
 
 cast-at : tie.Need-cast-at Inv-loop μ-loop Inv-sheets μ-sheets
-cast-at c = omega (arith, c .before .before .before .before .before .before .before .before .before .loop .inv .cards)
+cast-at c = omega (arith, c .before .before .before .before .before .before .before .before .before .before .loop .inv .cards)
 
 mul-at : tie.Need-mul-at Inv-loop μ-loop Inv-sheets μ-sheets
-mul-at c = omega (arith, row-small (cards-of (c .before .before .before .before .before .before)) (layout (of-header (c .before .before .before .before .before .before)) .width) (c .before .before .before .before .before .before .before .before .before .loop .inv .cards) (fits (of-header (c .before .before .before .before .before .before)) .width))
+mul-at c = omega (arith, row-small (cards-of (c .before .before .before .before .before .before .before)) (layout (of-header (c .before .before .before .before .before .before .before)) .width) (c .before .before .before .before .before .before .before .before .before .before .loop .inv .cards) (fits (of-header (c .before .before .before .before .before .before .before)) .width))
 
 add-at-5 : tie.Need-add-at-5 Inv-loop μ-loop Inv-sheets μ-sheets
-add-at-5 c = omega (arith, fits (of-header (c .before .before .before .before .before .before)) .width, row-small (cards-of (c .before .before .before .before .before .before)) (layout (of-header (c .before .before .before .before .before .before)) .width) (c .before .before .before .before .before .before .before .before .before .loop .inv .cards) (fits (of-header (c .before .before .before .before .before .before)) .width))
+add-at-5 c = omega (arith, fits (of-header (c .before .before .before .before .before .before .before)) .width, row-small (cards-of (c .before .before .before .before .before .before .before)) (layout (of-header (c .before .before .before .before .before .before .before)) .width) (c .before .before .before .before .before .before .before .before .before .before .loop .inv .cards) (fits (of-header (c .before .before .before .before .before .before .before)) .width))
 
 add-at-6 : tie.Need-add-at-6 Inv-loop μ-loop Inv-sheets μ-sheets
-add-at-6 c = omega (arith, fits (of-header (c .before .before .before .before .before .before)) .width, row-small (cards-of (c .before .before .before .before .before .before)) (layout (of-header (c .before .before .before .before .before .before)) .width) (c .before .before .before .before .before .before .before .before .before .loop .inv .cards) (fits (of-header (c .before .before .before .before .before .before)) .width))
+add-at-6 c = omega (arith, fits (of-header (c .before .before .before .before .before .before .before)) .width, row-small (cards-of (c .before .before .before .before .before .before .before)) (layout (of-header (c .before .before .before .before .before .before .before)) .width) (c .before .before .before .before .before .before .before .before .before .before .loop .inv .cards) (fits (of-header (c .before .before .before .before .before .before .before)) .width))
 
 add-at-7 : tie.Need-add-at-7 Inv-loop μ-loop Inv-sheets μ-sheets
-add-at-7 c = omega (arith, room (c .before .before .before .before .before .before) (frame-is (c .before .before .before .before .before .before) _ (c .before .before .before .before .told .given .1) .0), c .before .before .before .before .before .before .before .before .before .before .before .before .before .before .before .before .before .before .before .before .before .good .0 .0)
+add-at-7 c = omega (arith, room (c .before .before .before .before .before .before .before) (frame-is (c .before .before .before .before .before .before .before) _ (c .before .before .before .before .before .told .given .1) .0), c .before .before .before .before .before .before .before .before .before .before .before .before .before .before .before .before .before .before .before .before .before .before .good .0 .0)
 
 add-k : tie.Need-add-k Inv-loop μ-loop Inv-sheets μ-sheets
-add-k c = omega (arith, c .before .before .before .before .before .before .before .before .before .loop .inv .frames, c .before .before .before .before .before .before .before .before .loop-test .taken)
+add-k c = omega (arith, c .before .before .before .before .before .before .before .before .before .before .loop .inv .frames, c .before .before .before .before .before .before .before .before .before .loop-test .taken)
 
 loop-less : tie.Need-loop-less Inv-loop μ-loop Inv-sheets μ-sheets
-loop-less c = omega (arith, c .before .before .before .before .before .before .before .before .loop-test .taken)
+loop-less c = omega (arith, c .before .before .before .before .before .before .before .before .before .loop-test .taken)
 
 loop-again : tie.Need-loop-again Inv-loop μ-loop Inv-sheets μ-sheets
 loop-again c =
-    let e = frame-is (c .before .before .before .before .before .before) _ (c .before .before .before .before .told .given .1) in
-    inner-again (c .before .before .before .before .before .before .before .before .before .loop .inv) (c .before .before .before .before .before .before .before .before .loop-test .taken) (e .0) (e .1) (entries-is (c .before .before .before .before .before .before) (e .0)) (c .store-entries .ensures)
+    let e = frame-is (c .before .before .before .before .before .before .before) _ (c .before .before .before .before .before .told .given .1) in
+    inner-again (c .before .before .before .before .before .before .before .before .before .before .loop .inv) (c .before .before .before .before .before .before .before .before .before .loop-test .taken) (e .0) (e .1) (entries-is (c .before .before .before .before .before .before .before) (e .0)) (c .before .before .ring-place .ensures) (c .store-entries .ensures)
 
 add-due : tie.Need-add-due Inv-loop μ-loop Inv-sheets μ-sheets
 add-due c = omega (arith, c .before .loop .inv .below, c .before .loop .inv .cards)
@@ -350,9 +347,8 @@ read-sheets-spec =
     enum-known-told
     enum-told-2
     frame-reply-requires
-    mul-place
-    add-place
-    cast-place
+    cast-ring-place
+    ring-place-requires
     add-r
     mul-r-3
     element-write-r-3

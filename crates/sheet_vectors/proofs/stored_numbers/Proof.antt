@@ -1,13 +1,12 @@
--- `cabinet_restart::stored_numbers` adds each count to its base. Assumes nothing.
+-- `sheet_vectors::stored_numbers` adds each count to its base. Assumes nothing.
 use Prim.Native.Nat.{_+_, _-_}
 use mathlib.Core.Path.{refl}
 use native.Mathlib.Omega.{arith}
 use Rattle.base_laws.proofs.Fill.{FilledSoFar, filled-none, filled-more, filled-done}
-use Rattle.cabinet_layout.specs.Shape.{at}
-use Rattle.cabinet_layout.proofs.Limits.{width16}
+use Rattle.base_merge.specs.Merge.{at}
 use borrow.Author.Needs.{needs}
-use Rattle.cabinet_restart.proofs.stored_numbers.Statement.{statement}
-use Rattle.cabinet_restart.proofs.stored_numbers.Tie as tie
+use Rattle.sheet_vectors.proofs.stored_numbers.Statement.{statement}
+use Rattle.sheet_vectors.proofs.stored_numbers.Tie as tie
 
 abbrev Inv-loop : tie.InvT-loop
 Inv-loop bases counts out₀ c₀ out c = FilledSoFar 0 16 (λ k. at bases k + at counts k) out c
@@ -51,7 +50,7 @@ loop-again : tie.Need-loop-again Inv-loop μ-loop
 loop-again c = filled-more (c .before .loop .inv) (c .loop-test .taken) refl
 
 returns : tie.Need-returns Inv-loop μ-loop
-returns c = filled-done (c .before .loop .inv) (c .loop-test .left) width16
+returns c = filled-done (c .before .loop .inv) (c .loop-test .left) refl
 
 pub stored-numbers-spec : {M : Type 1} → statement M
 stored-numbers-spec =

@@ -1,19 +1,19 @@
--- `sheet_readout::ends_of` has the last state of each card. The invariant: of those passed. Assumes nothing.
-use Prim.Native.Nat.{_+_, _-_}
+-- `base_merge::ends_of` has the last state of each of n cards. The invariant: of those passed. Assumes nothing.
+use Prim.Native.Nat.{_-_}
 use mathlib.Core.Path.{refl}
 use mathlib.Core.Bool.{cond}
 use lib.Dec.{ltb}
 use Rattle.base_laws.proofs.Fill.{FilledSoFar, filled-none, filled-more, filled-done}
 use Rattle.base_merge.specs.Merge.{at}
 use borrow.Author.Needs.{needs}
-use Rattle.sheet_vectors.proofs.ends_of.Statement.{statement}
-use Rattle.sheet_vectors.proofs.ends_of.Tie as tie
+use Rattle.base_merge.proofs.ends_of.Statement.{statement}
+use Rattle.base_merge.proofs.ends_of.Tie as tie
 
 abbrev Inv-loop : tie.InvT-loop
-Inv-loop n bases counts out₀ c₀ out c = FilledSoFar 0 16 (λ i. cond (ltb i n) (at bases i + at counts i) 0) out c
+Inv-loop n last out₀ c₀ out c = FilledSoFar 0 16 (λ i. cond (ltb i n) (at last i) 0) out c
 
 abbrev μ-loop : tie.MeasureT-loop
-μ-loop n bases counts out₀ c₀ out c = 16 - c
+μ-loop n last out₀ c₀ out c = 16 - c
 
 loop-holds : tie.Need-loop-holds Inv-loop μ-loop
 loop-holds c = filled-none refl
@@ -24,14 +24,8 @@ mul-end-of c = search needs
 array-read-end-of : tie.Need-array-read-end-of Inv-loop μ-loop
 array-read-end-of c = search needs
 
-mul-end-of-2 : tie.Need-mul-end-of-2 Inv-loop μ-loop
-mul-end-of-2 c = search needs
-
-array-read-end-of-2 : tie.Need-array-read-end-of-2 Inv-loop μ-loop
-array-read-end-of-2 c = search needs
-
 end-of-requires : tie.Need-end-of-requires Inv-loop μ-loop
-end-of-requires c κs = c .before .before .pre (c .before .loop .c) (c .loop-test .taken)
+end-of-requires c κs = search needs
 
 mul-out : tie.Need-mul-out Inv-loop μ-loop
 mul-out c = search needs
@@ -60,8 +54,6 @@ ends-of-spec =
     loop-holds
     mul-end-of
     array-read-end-of
-    mul-end-of-2
-    array-read-end-of-2
     end-of-requires
     mul-out
     array-write-out
