@@ -69,15 +69,17 @@ pub fn worked_line() -> Data {
     Data { stdout: line_text(&stdin).into_bytes(), stdin }
 }
 
-/// What `check_summit` writes: the answers to the end of its list.
-pub fn summit_end() -> Vec<u8> {
+/// What `check_forged` writes: on forged cabinets as kept by hand, then the
+/// answers to the end of its climb.
+pub fn forged() -> Vec<u8> {
     let (climb, end) = summit();
     let mut place = Place::default();
     for line in climb {
         place.answer_line(line.as_bytes());
     }
+    let by_hand = include_str!("../answers/forged.txt").to_string();
     let answers = end.iter().map(|line| place.answer_line(line.as_bytes()).text());
-    answers.collect::<String>().into_bytes()
+    (by_hand + &answers.collect::<String>()).into_bytes()
 }
 
 /// A record of `check_sheets`: a word, a card, the room of the writer's

@@ -1,11 +1,12 @@
 -- Laws of parts of lists and of runs of stores. Assumes nothing.
-use Prim.Native.Nat.{ℕ, suc, _+_, _-_, _≤_, _<_}
+use Prim.Native.Nat.{ℕ, zero, suc, _+_, _-_, _≤_, _<_}
 use mathlib.Core.Path.{_≡_, refl, sym, _∙_, ap}
+use mathlib.Core.Logic.{_⊎_, inl, inr}
 use mathlib.Core.List.{List, [], _∷_, _++_, append-assoc}
 use native.Mathlib.Nat.{add-zero}
 use native.Mathlib.Omega.{arith}
-use lib.ListN.{length, take, drop, getD, set}
-use lib.Seq.{drop-cons, sets, set-comm, sets-eq, take-at, drop-at, length-take-le}
+use lib.ListN.{length, take, drop, getD, set, length-set}
+use lib.Seq.{drop-cons, sets, set-comm, sets-eq, take-at, drop-at, length-take-le, getD-set-same, getD-set-other}
 
 module _ {A : Type 0} where
   -- what a walk over the n elements from `at` on has still to see when i of them are passed
@@ -48,3 +49,25 @@ module _ {A : Type 0} where
   sets-part xs l i h =
       let e : length (take i l) ≡ i = length-take-le i l (omega arith) in
       rw (sets-eq xs l i h, append-assoc (take i l) xs, drop-at (take i l) (xs ++ drop (i + length xs) l) i e) (take-at xs (drop (i + length xs) l) (length xs) refl)
+
+  -- what a list holds after a run of stores
+  pub sets-outside : (vs l : List A) (i k : ℕ) (d : A) → (k < i) ⊎ (i + length vs ≤ k) → getD (sets l i vs) k d ≡ getD l k d
+  sets-outside [] l i k d h = refl
+  sets-outside (a ∷ vs) l i k d h = sets-outside vs (set l i a) (suc i) k d (further h) ∙ getD-set-other l i k a d (apart h)
+    where
+      further : (k < i) ⊎ (i + suc (length vs) ≤ k) → (k < suc i) ⊎ (suc i + length vs ≤ k)
+      further (inl l) = inl (omega arith)
+      further (inr l) = inr (omega arith)
+
+      apart : (k < i) ⊎ (i + suc (length vs) ≤ k) → ¬ (k ≡ i)
+      apart (inl l) e = omega arith
+      apart (inr l) e = omega arith
+
+  pub sets-inside : (vs l : List A) (i j : ℕ) (d : A) → i + length vs ≤ length l → j < length vs → getD (sets l i vs) (i + j) d ≡ getD vs j d
+  sets-inside [] l i j d h g = absurd (omega arith)
+  sets-inside (a ∷ vs) l i zero d h g =
+      ap (λ (k : ℕ). getD (sets (set l i a) (suc i) vs) k d) (let e : i + 0 ≡ i = omega arith in e)
+      ∙ sets-outside vs (set l i a) (suc i) i d (inl (omega arith)) ∙ getD-set-same l i a d (omega arith)
+  sets-inside (a ∷ vs) l i (suc j) d h g =
+      ap (λ (k : ℕ). getD (sets (set l i a) (suc i) vs) k d) (let e : i + suc j ≡ suc i + j = omega arith in e)
+      ∙ sets-inside vs (set l i a) (suc i) j d (let q : length (set l i a) ≡ length l = length-set l i a in omega arith) (omega arith)

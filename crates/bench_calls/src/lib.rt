@@ -12,42 +12,50 @@ use cabinet_recovery::FixReply;
 use sheet_lines::Header;
 use sheet_page_writer::Written;
 
+const FRAMES: u32 = Limits::FRAMES as u32;
+
+const ENTRIES: u32 = Limits::ENTRIES as u32;
+
 // The number where the state is there, and 0 where it is not.
 fn kept(there: bool, n: u32) -> u32 {
     if there { n } else { 0 }
 }
 
 // The changes that made the states: state x of card c was made by change 16 * x + c.
-fn changes(cards: u32, states: u32) -> [u32; 768] {
-    let mut out = [0u32; 768];
+fn changes(cards: u32, states: u32) -> [u32; Limits::FRAMES] {
+    let mut out = [0u32; Limits::FRAMES];
     let mut p: u32 = 0;
-    while p < 768 {
-        let x = p % 48 + 1;
-        let there = (x <= states) & (p / 48 < cards);
-        out[(p / 48 * 48 + x % 48) as usize] = kept(there, x * 16 + p / 48);
+    while p < FRAMES {
+        let c = p / Limits::IN_HAND_U32;
+        let x = p % Limits::IN_HAND_U32 + 1;
+        let there = (x <= states) & (c < cards);
+        let place = base_limits::ring_place(c, x as usize);
+        out[place] = kept(there, x * Limits::CARDS_U32 + c);
         p += 1;
     }
     out
 }
 
 // The vectors of these states: each change wrote its card alone.
-fn entries(cards: u32, states: u32) -> [u32; 12288] {
-    let mut out = [0u32; 12288];
+fn entries(cards: u32, states: u32) -> [u32; Limits::ENTRIES] {
+    let mut out = [0u32; Limits::ENTRIES];
     let mut p: u32 = 0;
-    while p < 768 {
-        let x = p % 48 + 1;
-        let there = (x <= states) & (p / 48 < cards);
-        out[((p / 48 * 48 + x % 48) * 16 + p / 48) as usize] = kept(there, x);
+    while p < FRAMES {
+        let c = p / Limits::IN_HAND_U32;
+        let x = p % Limits::IN_HAND_U32 + 1;
+        let there = (x <= states) & (c < cards);
+        let place = base_limits::ring_place(c, x as usize);
+        out[place * Limits::CARDS + c as usize] = kept(there, x);
         p += 1;
     }
     out
 }
 
 // The number on each card that is there.
-fn numbers(cards: u32, n: u32) -> [u32; 16] {
-    let mut out = [0u32; 16];
+fn numbers(cards: u32, n: u32) -> [u32; Limits::CARDS] {
+    let mut out = [0u32; Limits::CARDS];
     let mut c: u32 = 0;
-    while c < 16 {
+    while c < Limits::CARDS_U32 {
         out[c as usize] = kept(c < cards, n);
         c += 1;
     }
@@ -80,7 +88,7 @@ fn forged(cards: u32, states: u32, stored: u32, first: Slot, phase: Phase) -> Ca
 
 // The card 0, not known beforehand.
 fn card(at: u32) -> u32 {
-    at / 12288
+    at / ENTRIES
 }
 
 // A change that reads every card, or writes every card, with those votes.
@@ -108,15 +116,15 @@ fn wide(set: u16) -> u32 {
 
 // A number out of every part of a cabinet, at places not known beforehand, so that all that a call wrote is looked at.
 fn looked(c: Cabinet, at: u32) -> u32 {
-    let i = (at % 16) as usize;
-    let k = (at % 8) as usize;
+    let i = (at % Limits::CARDS_U32) as usize;
+    let k = (at % Limits::SLOTS as u32) as usize;
     let core = c.core;
     let l = core.last[i];
     let p = core.pending[i];
     let o = core.slots[k];
     let h = core.head;
     let phase = h.phase;
-    let frames = c.entries[(at % 12288) as usize] ^ c.changes[(at % 768) as usize];
+    let frames = c.entries[(at % ENTRIES) as usize] ^ c.changes[(at % FRAMES) as usize];
     let vectors = l.entries[i] ^ p.entries[i] ^ o.vector[i];
     let sets = wide(o.reads) ^ wide(o.writes) ^ wide(o.yes) ^ wide(o.taken) ^ wide(core.rolled);
     let numbers = core.base[i]
@@ -324,7 +332,7 @@ pub extern "C" fn bench_fix(
         stored: 0,
         line: 0,
     };
-    let out = c.fix_array([zero; 16], 16, list);
+    let out = c.fix_array([zero; Limits::CARDS], Limits::CARDS, list);
     let a = out.answer;
     let r = a.reply;
     let c = a.cabinet;

@@ -50,12 +50,26 @@ pub struct Answer {
 pub fn zeros(head: Head) -> Cabinet
     ensures { λ r. ⌜ r ≡ zeroCabinet head ⌝ }
 {
-    let entries = [0u32; Limits::ENTRIES];
-    let changes = [0u32; Limits::FRAMES];
-    let core = cabinet_layout::blank(head);
+    let none = [0u32; Limits::CARDS];
+    let vectors = cabinet_layout::no_vectors();
+    let free = cabinet_layout::free_slot();
+    // written out: a core that `cabinet_layout::blank` hands over would be copied once more
+    let core = Core {
+        head: head,
+        last: vectors,
+        pending: vectors,
+        slots: [free; Limits::SLOTS],
+        base: none,
+        stored: none,
+        held: none,
+        reached: none,
+        line: none,
+        ended: [0u32; Limits::SLOTS],
+        rolled: 0,
+    };
     Cabinet {
-        entries: entries,
-        changes: changes,
+        entries: [0u32; Limits::ENTRIES],
+        changes: [0u32; Limits::FRAMES],
         core: core,
     }
 }

@@ -1,5 +1,5 @@
 // The frame that a take makes, at its place in the ring.
-ghost use Prim.Native.Nat.{_+_, _*_, _≤_};
+ghost use Prim.Native.Nat.{_*_};
 ghost use mathlib.Core.Path.{_≡_};
 ghost use mathlib.Core.Bool.{not, _&&_, cond};
 ghost use lib.Dec.{eqb, ltb};
@@ -10,18 +10,6 @@ ghost use Rattle.cabinet_layout.specs.Shape.{at, listOf};
 ghost use Rattle.cabinet_plans.specs.Plans.{isMade};
 use base_limits::Limits;
 use cabinet_layout::Vector;
-
-// The vector of a frame, at its place in the ring.
-fn put_frame(entries: &mut [u32; Limits::ENTRIES], from: usize, v: [u32; Limits::CARDS])
-    requires { ⌜ from + 16 ≤ 12288 ⌝ }
-    ensures { λ r. ⌜ now (entries .exit) ≡ sets (now (entries .entry)) from (listOf (at v)) ⌝ }
-{
-    let mut j: usize = 0;
-    while j < Limits::CARDS {
-        entries[from + j] = v[j];
-        j += 1;
-    }
-}
 
 // A state was made, and the ring has that place.
 fn is_made(place: usize, state: u32) -> bool
@@ -38,7 +26,7 @@ pub fn put_vector(entries: &mut [u32; Limits::ENTRIES], card: u32, state: u32, v
     let w = v.entries;
     let made = is_made(place, state);
     if made {
-        put_frame(entries, place * Limits::CARDS, w);
+        base_rows::put_row(entries, place, w);
     }
 }
 

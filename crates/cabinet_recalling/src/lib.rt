@@ -17,13 +17,7 @@ fn vector_of(entries: &[u32; Limits::ENTRIES], card: usize, x: u32) -> [u32; Lim
     ensures { λ r. ⌜ r ≡ listOf (ringFrame (now (entries .entry)) card x) ⌝ }
 {
     let place = base_limits::ring_place(card as u32, x as usize);
-    let mut out = [0u32; Limits::CARDS];
-    let mut j: usize = 0;
-    while j < Limits::CARDS {
-        out[j] = entries[place * Limits::CARDS + j];
-        j += 1;
-    }
-    out
+    base_rows::row_at(entries, place)
 }
 
 // "last and pending are those of the card's last frame or all none"

@@ -121,8 +121,8 @@ module _ (r : Readout) (w : Within r) where
       back : suc (getD (r .bases) c 0 + (x - suc (getD (r .bases) c 0))) ≡ x
       back = omega (arith, above)
 
-  maker-fn : (c x : ℕ) → changeIn r c x ≡ changeOn (pageAt ps c) x
-  maker-fn c x =
+  change-fn : (c x : ℕ) → changeIn r c x ≡ changeOn (pageAt ps c) x
+  change-fn c x =
       test (isIn r c x)
       (λ e. cond-true (getD (r .changes) (ringPlace c x) 0) 0 e ∙ ap (λ (f : Frame). f .change) (sym (frame-same c x e)) ∙ sym (cond-true (frameFor (pageAt ps c) x .change) 0 (sym (is-same c x) ∙ e)))
       (λ e. cond-false (getD (r .changes) (ringPlace c x) 0) 0 e ∙ sym (cond-false (frameFor (pageAt ps c) x .change) 0 (sym (is-same c x) ∙ e)))
@@ -160,4 +160,4 @@ module _ (r : Readout) (w : Within r) where
 
   -- the same model
   pub ring-law : ringModel r ≡ restarted limits16 (pagesOf r)
-  ring-law = λ i. modelBy (lowest-fn i) (sym length-ps i) (λ c. sessions-fn c i) (λ c. base-fn c i) (λ c. stored-fn c i) (λ c x. maker-fn c x i) (λ c x j. vector-fn c x j i)
+  ring-law = λ i. modelBy (lowest-fn i) (sym length-ps i) (λ c. sessions-fn c i) (λ c. base-fn c i) (λ c. stored-fn c i) (λ c x. change-fn c x i) (λ c x j. vector-fn c x j i)

@@ -27,8 +27,8 @@ use Rattle.cabinet_sheet.specs.Card.{sessionFor, cardHeader, Within, she
 
 -- ---- a frame in hand is what stands in the ring
 module _ (entries changes base top : List ℕ) (c x : ℕ) (e : inHand base top c x ≡ true) where
-  maker-held : changeInHand changes base top c x ≡ ringChange changes c x
-  maker-held = cond-true (ringChange changes c x) 0 e
+  change-held : changeInHand changes base top c x ≡ ringChange changes c x
+  change-held = cond-true (ringChange changes c x) 0 e
 
   frame-held : (j : ℕ) → j < 16 → frameInHand entries base top c x j ≡ ringFrame entries c x j
   frame-held j h =
@@ -61,7 +61,7 @@ module _ (entries changes : List ℕ) (h : Head) (rolled : ℕ) (base stored : L
         header = record { session = sessionFor h rolled c; card = c; cards = sym count-of k; base = at base c; count = at stored c - at base c };
         frames =
             tabulate-same (at stored c - at base c) (λ i. frameAt changes entries (h .cards) c (suc (at base c + i))) (λ i. sheetFrame limits16 m c (suc (at base c + i)))
-            (λ i l n. record { change = sym (maker-held entries changes base stored c (suc (at base c + i)) (held i l)) n; entries = entries-same i l n }) k;
+            (λ i l n. record { change = sym (change-held entries changes base stored c (suc (at base c + i)) (held i l)) n; entries = entries-same i l n }) k;
       }
 
   session-there : sessionFor h rolled c ≡ 0 → ⊥

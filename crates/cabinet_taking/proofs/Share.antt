@@ -68,13 +68,13 @@ grown-entries s c x p w q h ew ex ev l =
     ∙ ap₂ (λ (y : ℕ) (v : List ℕ). sets l (ringPlace c y * 16) (listOf (at v))) ex ev
     ∙ ap (λ (b : Bool). entriesAll (chosen b q p c) s l) (sym ew)
 
-pub grown-makers : (s : Core) (c x p : ℕ) (q : Slot)
+pub grown-changes : (s : Core) (c x p : ℕ) (q : Slot)
     → c < 16
     → member (q .writes) c ≡ true
     → x ≡ suc (at (s .reached) c)
     → (l : List ℕ)
     → cond (isMade c x) (set l (ringPlace c x) (q .number)) l ≡ changesAll (shareEdits q p c) s l
-grown-makers s c x p q h ew ex l =
+grown-changes s c x p q h ew ex l =
     ap (λ (b : Bool). cond b (set l (ringPlace c x) (q .number)) l) (made-known c x (at (s .reached) c) h ex)
     ∙ ap (λ (y : ℕ). set l (ringPlace c y) (q .number)) ex
     ∙ ap (λ (b : Bool). changesAll (chosen b q p c) s l) (sym ew)
@@ -93,8 +93,8 @@ share-raised s c p w j q sh ew ev ej es =
 pub raised-entries : (s : Core) (c p : ℕ) (q : Slot) → member (q .writes) c ≡ false → (l : List ℕ) → l ≡ entriesAll (shareEdits q p c) s l
 raised-entries s c p q ew l = ap (λ (b : Bool). entriesAll (chosen b q p c) s l) (sym ew)
 
-pub raised-makers : (s : Core) (c p : ℕ) (q : Slot) → member (q .writes) c ≡ false → (l : List ℕ) → l ≡ changesAll (shareEdits q p c) s l
-raised-makers s c p q ew l = ap (λ (b : Bool). changesAll (chosen b q p c) s l) (sym ew)
+pub raised-changes : (s : Core) (c p : ℕ) (q : Slot) → member (q .writes) c ≡ false → (l : List ℕ) → l ≡ changesAll (shareEdits q p c) s l
+raised-changes s c p q ew l = ap (λ (b : Bool). changesAll (chosen b q p c) s l) (sym ew)
 
 -- ---- the whole answer
 module _ (whole : Bool) (s : Core) (k c : ℕ) where

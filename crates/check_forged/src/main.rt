@@ -1,5 +1,5 @@
-// What no list of calls from a fresh cabinet reaches: 28 of each kind, numbers at their limits, what is lent and kept beyond an
-// answer, and sheets of a ring with any numbers.
+// What no short list of calls from a fresh cabinet reaches: 28 of each kind, numbers at their limits, what is lent and kept
+// beyond an answer, sheets of a ring with any numbers, and state 60,000.
 use base_limits::Limits;
 use cabinet::Cabinet;
 use cabinet_layout::Core;
@@ -10,6 +10,7 @@ use lists::run;
 mod lent;
 mod lists;
 mod pages;
+mod summit;
 
 const LAST: u32 = Limits::GREATEST_NUMBER;
 
@@ -207,4 +208,5 @@ fn main() {
     at_limits();
     lent::check();
     pages::check();
+    summit::check();
 }

@@ -98,9 +98,9 @@ core-sized edit.renew s z = head-sized _ (line-sized _ (vectors-sized s z _ _ (b
 entries-sized : (e : Edit) (s : Core) (l : List ℕ) → length l ≡ 12288 → length (entriesAfter e s l) ≡ 12288
 entries-sized e s l z = made-by (λ (x : List ℕ). length x ≡ 12288) e l _ z (λ c k v. length-sets l (ringPlace c (suc (at (s .reached) c)) * 16) (listOf v) ∙ z)
 
-makers-sized : (e : Edit) (s : Core) (l : List ℕ) → length l ≡ 768 → length (changesAfter e s l) ≡ 768
-makers-sized e s l z = made-by (λ (x : List ℕ). length x ≡ 768) e l _ z (λ c k v. length-set l (ringPlace c (suc (at (s .reached) c))) k ∙ z)
+changes-sized : (e : Edit) (s : Core) (l : List ℕ) → length l ≡ 768 → length (changesAfter e s l) ≡ 768
+changes-sized e s l z = made-by (λ (x : List ℕ). length x ≡ 768) e l _ z (λ c k v. length-set l (ringPlace c (suc (at (s .reached) c))) k ∙ z)
 
 pub edit-sized : (e : Edit) (s : Cabinet) → Sized s → Sized (apply e s)
 edit-sized e s z =
-    record { entries = entries-sized e (s .core) (s .entries) (z .entries); changes = makers-sized e (s .core) (s .changes) (z .changes); core = core-sized e (s .core) (z .core) }
+    record { entries = entries-sized e (s .core) (s .entries) (z .entries); changes = changes-sized e (s .core) (s .changes) (z .changes); core = core-sized e (s .core) (z .core) }

@@ -63,8 +63,8 @@ session-small s held e c =
     (λ r. let other : ¬ (s .core .head .session ≡ 4294967295) = within (s .entries) (s .changes) (s .core) c e .next (and-left (isRolling (phaseOf (s .core .head .phase))) (member (s .core .rolled) c) r) in omega (arith, held .session, other))
     (λ r. held .session)
 
-maker-small : (s : Cabinet) → Held s → (c x : ℕ) → view s .memory .change c x < 16 ^ 8
-maker-small s held c x = cond-case (λ (k : ℕ). k < 16 ^ 8) (inHand (s .core .base) (s .core .reached) c x) (λ e. held .changes (ringPlace c x)) (λ e. omega arith)
+change-small : (s : Cabinet) → Held s → (c x : ℕ) → view s .memory .change c x < 16 ^ 8
+change-small s held c x = cond-case (λ (k : ℕ). k < 16 ^ 8) (inHand (s .core .base) (s .core .reached) c x) (λ e. held .changes (ringPlace c x)) (λ e. omega arith)
 
 pub sheets-read-back : SheetsReadBack
 sheets-read-back s held e c here =
@@ -77,7 +77,7 @@ sheets-read-back s held e c here =
     few = within (s .entries) (s .changes) (s .core) c e .cards
 
     is-sheet : SheetOf format (s .core .head .cards) c (sheetOf limits16 (view s) c)
-    is-sheet = sheet-of limits16 limits (s .core .head .cards) (view s) (omega (arith, few, width16)) (λ d. refl) e c here (session-small s held e c) (λ x a b. maker-small s held c x)
+    is-sheet = sheet-of limits16 limits (s .core .head .cards) (view s) (omega (arith, few, width16)) (λ d. refl) e c here (session-small s held e c) (λ x a b. change-small s held c x)
 
 -- ---- of what was written
 -- a plan that answers bytes passed its checks, and the bytes are its

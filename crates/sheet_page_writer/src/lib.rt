@@ -2,9 +2,8 @@
 ghost use mathlib.Core.Path.{_≡_};
 ghost use Prim.Native.Nat.{_+_, _*_, _≤_, _<_};
 ghost use mathlib.Core.Bool.{true};
-ghost use lib.ListN.{length, getD};
+ghost use lib.ListN.{length};
 ghost use lib.Seq.{sets};
-ghost use Rattle.base_laws.specs.Below.{tabulate};
 ghost use Rattle.sheet_lines.specs.Format.{formats, formatOf, Fits};
 ghost use Rattle.sheet_lines.specs.Lines.{cardsOf, formatFor, headerDigits, frameDigits, headerAllowed};
 ghost use Rattle.sheet_pages.specs.Pages.{bytesIn, pageBytes};
@@ -20,20 +19,6 @@ use sheet_lines::Layout;
 pub enum Written {
     Length(usize),
     Refused(Refusal),
-}
-
-// The 16 entries at a place of the ring.
-fn row_at(entries: &[u32; Limits::ENTRIES], place: usize) -> [u32; Limits::CARDS]
-    requires { ⌜ place < 768 ⌝ }
-    ensures { λ r. ⌜ r ≡ tabulate 16 (λ j. getD (now (entries .entry)) (place * 16 + j) 0) ⌝ }
-{
-    let mut row = [0u32; Limits::CARDS];
-    let mut j: usize = 0;
-    while j < Limits::CARDS {
-        row[j] = entries[place * Limits::CARDS + j];
-        j += 1;
-    }
-    row
 }
 
 // The frame of a card's state, with all 16 entries of its place; zeros for a card that the ring has no place for.
@@ -53,7 +38,7 @@ pub fn frame_of<'a>(
     }
     let place = base_limits::ring_place(card, state as usize);
     let change = changes[place];
-    let row = row_at(entries, place);
+    let row = base_rows::row_at(entries, place);
     Frame {
         change,
         entries: row,

@@ -7,48 +7,17 @@ use native.Mathlib.Nat.{suc-inj, not-suc-le-zero, le-of-suc-le-suc}
 use native.Mathlib.Decide.{decLt}
 use native.Mathlib.Omega.{arith}
 use lib.ListN.{length, getD, set, replicate, length-set, length-replicate}
-use lib.Seq.{sets, length-sets, getD-set-same, getD-set-other}
+use lib.Seq.{length-sets, getD-set-same, getD-set-other}
 use Rattle.base_limits.specs.Ring.{ringPlace}
 use Rattle.base_laws.specs.Below.{tabulate}
 use Rattle.base_laws.proofs.Below.{below-suc}
+use Rattle.base_laws.proofs.Seq.{sets-outside, sets-inside}
 use Rattle.sheet_lines.specs.declared.Header.{Header}
 use Rattle.sheet_lines.specs.declared.Frame.{Frame}
 use Rattle.sheet_lines.specs.Lines.{padded}
 use Rattle.sheet_pages.specs.declared.Readout.{Readout}
 use Rattle.sheet_pages.specs.Pages.{Page}
 use Rattle.sheet_pages.specs.Walk.{noReadout, layHeader, layFrame, layFrames, layPage, layPages}
-
--- ---- a run of values stored
-module _ {A : Type 0} (d : A) where
-  pub sets-outside : (vs l : List A) (i q : ℕ) → (q < i) ⊎ (i + length vs ≤ q) → getD (sets l i vs) q d ≡ getD l q d
-  sets-outside [] l i q o = refl
-  sets-outside (v ∷ vs) l i q o =
-      sets-outside vs (set l i v) (suc i) q (⊎-elim (λ (h : q < i). inl (before h)) (λ (h : i + suc (length vs) ≤ q). inr (behind h)) o)
-      ∙ getD-set-other l i q v d (⊎-elim (λ (h : q < i). lower h) (λ (h : i + suc (length vs) ≤ q). higher h) o)
-    where
-      before : q < i → q < suc i
-      before h = omega arith
-
-      behind : i + suc (length vs) ≤ q → suc i + length vs ≤ q
-      behind h = omega arith
-
-      lower : q < i → ¬ (q ≡ i)
-      lower h e = omega arith
-
-      higher : i + suc (length vs) ≤ q → ¬ (q ≡ i)
-      higher h e = omega arith
-
-  pub sets-inside : (vs l : List A) (i j : ℕ) → i + length vs ≤ length l → j < length vs → getD (sets l i vs) (i + j) d ≡ getD vs j d
-  sets-inside [] l i j h k = absurd (not-suc-le-zero k)
-  sets-inside (v ∷ vs) l i zero h k =
-      let here : i < length l = omega arith in
-      let z : i + 0 ≡ i = omega arith in
-      let low : i < suc i = omega arith in
-      rw z (sets-outside vs (set l i v) (suc i) i (inl low) ∙ getD-set-same l i v d here)
-  sets-inside (v ∷ vs) l i (suc j) h k =
-      let e : i + suc j ≡ suc i + j = omega arith in
-      let room : suc i + length vs ≤ length (set l i v) = omega (arith, length-set l i v) in
-      rw e (sets-inside vs (set l i v) (suc i) j room (le-of-suc-le-suc k))
 
 -- ---- lists of the right lengths
 pub record Sized (r : Readout) : Type 0 where
@@ -152,7 +121,7 @@ module _ (card : ℕ) (is-card : card < 16) where
   entries-other state k [] r q j lj f = refl
   entries-other state k (fr ∷ frs) r q j lj f =
       entries-other (state + 1) (k + 1) frs (layFrame card state k fr r) q j lj (λ i h e. f (suc i) (later h) (e ∙ ap (ringPlace card) (next i)))
-      ∙ sets-outside 0 (padded (fr .entries)) (r .entries) (ringPlace card state * 16) (q * 16 + j) apart
+      ∙ sets-outside (padded (fr .entries)) (r .entries) (ringPlace card state * 16) (q * 16 + j) 0 apart
     where
       later : {i : ℕ} → i < length frs → suc i < suc (length frs)
       later h = omega arith
@@ -188,7 +157,7 @@ module _ (card : ℕ) (is-card : card < 16) where
       let in-row : j < length (padded (fr .entries)) = omega (arith, length-padded (fr .entries)) in
       rw now
       (entries-other (state + 1) (k + 1) frs (layFrame card state k fr r) (ringPlace card state) j lj (λ i l e. absurd (omega (arith, few, l, e)))
-      ∙ sets-inside 0 (padded (fr .entries)) (r .entries) (ringPlace card state * 16) j room in-row)
+      ∙ sets-inside (padded (fr .entries)) (r .entries) (ringPlace card state * 16) j 0 room in-row)
   entries-own state k (fr ∷ frs) r s few (suc i) j fr₀ h lj =
       let next : state + suc i ≡ state + 1 + i = omega arith in
       let fewer : length frs ≤ 48 = omega arith in

@@ -40,8 +40,8 @@ module _ (ps : List Page) (w : Whole formats ps) where
       (λ (l : ¬ (c < length ps)). omega (arith, k .no-base c (omega arith), k .no-count c (omega arith)))
 
   -- the change of a state, by its frame
-  maker-at : (c x i : ℕ) → (l : c < length ps) → i < length (pageAt ps c .frames) → x ≡ suc (base c + i) → changeAt (out .changes) c x ≡ getD (pageAt ps c .frames) i noFrame .change
-  maker-at c x i l g e =
+  change-at : (c x i : ℕ) → (l : c < length ps) → i < length (pageAt ps c .frames) → x ≡ suc (base c + i) → changeAt (out .changes) c x ≡ getD (pageAt ps c .frames) i noFrame .change
+  change-at c x i l g e =
       let b : base c ≡ pageAt ps c .header .base = whole-holds ps w .base c l in
       let q : x ≡ pageAt ps c .header .base + 1 + i = omega arith in
       ap (changeAt (out .changes) c) q ∙ whole-holds ps w .change c i noFrame l g
@@ -53,13 +53,13 @@ module _ (ps : List Page) (w : Whole formats ps) where
       some x a b =
           let i : ℕ = x - suc (at (out .bases) c) in
           let g : i < length (pageAt ps c .frames) = omega arith in
-          omega (arith, maker-at c x i l g (omega arith), frames-rise format (length ps) c (pageAt ps c) (w .sheet c l) i g)
+          omega (arith, change-at c x i l g (omega arith), frames-rise format (length ps) c (pageAt ps c) (w .sheet c l) i g)
 
       next : (x : ℕ) → at (out .bases) c < x → x < at (out .bases) c + length (pageAt ps c .frames) → changeAt (out .changes) c x < changeAt (out .changes) c (suc x)
       next x a b =
           let i : ℕ = x - suc (at (out .bases) c) in
           let g : suc i < length (pageAt ps c .frames) = omega arith in
-          omega (arith, maker-at c x i l (omega arith) (omega arith), maker-at c (suc x) (suc i) l g (omega arith), frames-rise format (length ps) c (pageAt ps c) (w .sheet c l) (suc i) g)
+          omega (arith, change-at c x i l (omega arith) (omega arith), change-at c (suc x) (suc i) l g (omega arith), frames-rise format (length ps) c (pageAt ps c) (w .sheet c l) (suc i) g)
 
   orderly : Orderly (out .changes) (out .bases) (out .counts) (out .cards)
   orderly = record { states = states; rises = record { card = each } }

@@ -1,8 +1,6 @@
 // The walk over the lines of sheets, into a read-out by value.
 ghost use mathlib.Core.Path.{_≡_};
-ghost use Prim.Native.Nat.{_+_, _≤_};
 ghost use mathlib.Core.Bool.{cond};
-ghost use lib.Seq.{sets};
 ghost use lib.Dec.{eqb};
 ghost use Rattle.sheet_pages.specs.Walk.{readingOf};
 use base_limits::Limits;
@@ -21,18 +19,6 @@ fn sheets_left(all: bool, first: u32, left: u32, cards: u32) -> u32
         if all { cards } else { left }
     } else {
         left
-    }
-}
-
-// Stores the entries of a frame.
-fn store_entries(to: &mut [u32; Limits::ENTRIES], at: usize, entries: [u32; Limits::CARDS])
-    requires { ⌜ at + 16 ≤ 12288 ⌝ }
-    ensures { λ r. ⌜ now (to .exit) ≡ sets (now (to .entry)) at entries ⌝ }
-{
-    let mut j = 0;
-    while j < Limits::CARDS {
-        to[at + j] = entries[j];
-        j += 1;
     }
 }
 
@@ -90,7 +76,7 @@ pub fn read_sheets(s: &[u8], card: u32, all: bool) -> Reading
             let place = base_limits::ring_place(due, state as usize);
             r.counts[i] = k + 1;
             r.changes[place] = change;
-            store_entries(&mut r.entries, place * Limits::CARDS, entries);
+            base_rows::put_row(&mut r.entries, place, entries);
             last = Frame { change, entries };
             at += width + 8 + n as usize * width + 5;
             k += 1;

@@ -66,8 +66,8 @@ module _ (L : Limits) (lim : SheetLimits L) (n : ℕ) (low : 1 ≤ n) (high : n 
       back : suc (m .numbers .base c + (x - suc (m .numbers .base c))) ≡ x
       back = omega arith
 
-  maker-on : (c x : ℕ) → c < L .width → m .numbers .base c < x → x ≤ m .numbers .stored c → changeOn (page c) x ≡ m .memory .change c x
-  maker-on c x l a b = rw (is-on c x l a b) (ap (λ (f : Frame). f .change) (frame-for c x a b))
+  change-on : (c x : ℕ) → c < L .width → m .numbers .base c < x → x ≤ m .numbers .stored c → changeOn (page c) x ≡ m .memory .change c x
+  change-on c x l a b = rw (is-on c x l a b) (ap (λ (f : Frame). f .change) (frame-for c x a b))
 
   entry-on : (c x i : ℕ) → c < L .width → m .numbers .base c < x → x ≤ m .numbers .stored c → vectorOn (page c) x i ≡ getD (sheetFrame L m c x .entries) i 0
   entry-on c x i l a b = rw (is-on c x l a b) (ap (λ (f : Frame). getD (f .entries) i 0) (frame-for c x a b))
@@ -83,7 +83,7 @@ module _ (L : Limits) (lim : SheetLimits L) (n : ℕ) (low : 1 ≤ n) (high : n 
         absent = λ c l e. (ap (λ (p : Page). p .header .base) (no-page c e), ap pageStored (no-page c e));
         held = refl;
         reached = refl;
-        change = λ c x l e a b. ap (λ (p : Page). changeOn p x) (page-at c (below c e)) ∙ maker-on c x l a b;
+        change = λ c x l e a b. ap (λ (p : Page). changeOn p x) (page-at c (below c e)) ∙ change-on c x l a b;
         frame = λ c x i l li e f a b. ap (λ (p : Page). vectorOn p x i) (page-at c (below c e)) ∙ entry-on c x i l a b ∙ entry-written L n m high present-is c x i (below i f);
         no-entry = λ c x i l li e f a b. ap (λ (p : Page). vectorOn p x i) (page-at c (below c e)) ∙ entry-on c x i l a b
             ∙ entry-absent L n m high present-is c x i (ltb-false i n (sym (present-is i) ∙ f));

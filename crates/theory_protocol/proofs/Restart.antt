@@ -177,8 +177,8 @@ module _ (L : Limits) (n : CardSet) (m m' : Model) (j : Journal) (present-is : (
   stored-there : (c x : ℕ) → c < L .width → m .numbers .base c < x → x ≤ m .numbers .stored c → m .present c ≡ true
   stored-there c x l a b = test (m .present c) (λ e. e) (λ e. absurd (omega (arith, absent-numbers c l e .1, b, a)))
 
-  maker-same : (c x : ℕ) → c < L .width → m .numbers .base c < x → x ≤ m .numbers .stored c → m' .memory .change c x ≡ m .memory .change c x
-  maker-same c x l a b = k .change c x l (stored-there c x l a b) a b
+  change-same : (c x : ℕ) → c < L .width → m .numbers .base c < x → x ≤ m .numbers .stored c → m' .memory .change c x ≡ m .memory .change c x
+  change-same c x l a b = k .change c x l (stored-there c x l a b) a b
 
   -- an entry of a card that is not there is none
   entry-none : (c x i : ℕ) → c < L .width → i < L .width → m .present i ≡ false → m .numbers .base c < x → x ≤ m .numbers .stored c → m .memory .frame c x i ≡ 0
@@ -284,7 +284,7 @@ module _ (L : Limits) (n : CardSet) (m m' : Model) (j : Journal) (present-is : (
               framed =
                   record {
                     number-is = λ i c h l e y z. let w : made H (j .start) i c ≤ m .numbers .stored c = omega (arith, z, reached-is c, stored-same c l) in
-                        maker-same c (made H (j .start) i c) l (rw (base-same c l) at y) w
+                        change-same c (made H (j .start) i c) l (rw (base-same c l) at y) w
                         ∙ a .framed .number-is i c h l e (rw (base-same c l) at y) (le-trans w (a .intact .stored-reached c l));
                     vector-is = intact-again H a .vectors;
                   };

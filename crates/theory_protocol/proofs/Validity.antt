@@ -54,8 +54,8 @@ module _ (L : Limits) (present : CardSet) (start : Numbers) (n : ℕ) (H : Histo
   -- the frames in hand
   module _ (base reached : Numbers) (y : Memory) (f : Framed (L .width) H start n base reached (y .change) (y .frame)) (latest : ℕ) (nb : Numbered (L .width) H n latest)
       (c : ℕ) (l : c < L .width) (from-start : start c ≤ base c) (top : reached c ≤ start c + writers H c n) where
-    pub frame-maker : (x : ℕ) → base c < x → x ≤ reached c → Maker H start n c x
-    frame-maker x a b = maker H start n c x (omega arith) (omega arith)
+    pub frame-change : (x : ℕ) → base c < x → x ≤ reached c → Maker H start n c x
+    frame-change x a b = maker H start n c x (omega arith) (omega arith)
 
     pub number-at : (x : ℕ) → base c < x → x ≤ reached c → (k : Maker H start n c x) → y .change c x ≡ H (k .at) .number
     number-at x a b k = ap (y .change c) (sym (k .makes)) ∙ f .number-is (k .at) c (k .in-history) l (k .wrote) (omega (arith, k .makes, a)) (omega (arith, k .makes, b))
@@ -65,7 +65,7 @@ module _ (L : Limits) (present : CardSet) (start : Numbers) (n : ℕ) (H : Histo
 
     pub one-frame : (x : ℕ) → base c < x → x ≤ reached c → not (eqb (y .change c x) 0) && eqb (y .frame c x c) x && entriesValid L present (y .frame c x) ≡ true
     one-frame x a b =
-        let k : Maker H start n c x = frame-maker x a b in
+        let k : Maker H start n c x = frame-change x a b in
         and-intro
         (and-intro (not-intro (ne-eqb (y .change c x) 0 (λ (z : y .change c x ≡ 0). absurd (omega (arith, nb .positive (k .at) (k .in-history), number-at x a b k, z)))))
         (eq-eqb (y .frame c x c) x (vector-at x a b k c l ∙ vector-own (L .width) H start (k .at) c l (k .wrote) ∙ k .makes)))
@@ -73,8 +73,8 @@ module _ (L : Limits) (present : CardSet) (start : Numbers) (n : ℕ) (H : Histo
 
     pub two-frames : (x : ℕ) → base c < x → suc x ≤ reached c → risesValid L y c x ≡ true
     two-frames x a b =
-        let k : Maker H start n c x = frame-maker x a (omega arith) in
-        let k′ : Maker H start n c (suc x) = frame-maker (suc x) (omega arith) b in
+        let k : Maker H start n c x = frame-change x a (omega arith) in
+        let k′ : Maker H start n c (suc x) = frame-change (suc x) (omega arith) b in
         let o : k .at < k′ .at = by-cases (decLt (k .at) (k′ .at)) (λ z. z) (λ z. absurd (omega (arith, k .makes, k′ .makes, found-mono H start c {i = k′ .at} {k = k .at} (omega (arith, z))))) in
         let u : UpTo (L .width) H (k .at) (k′ .at) = inr (writers-precede (L .width) H c l o (k .wrote) (k′ .wrote)) in
         and-intro

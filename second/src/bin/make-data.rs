@@ -1,7 +1,7 @@
 //! Writes the data of the gate's programs, with this package's answers:
-//! `stdin` and `stdout` of replay, line and check_sheets, `stdout` of check_summit.
+//! `stdin` and `stdout` of replay, line and check_sheets, `stdout` of check_forged.
 
-use second::data::{calls, sheets, summit_end, worked_line, Data};
+use second::data::{calls, forged, sheets, worked_line, Data};
 use std::path::{Path, PathBuf};
 use std::{fs, io};
 
@@ -19,5 +19,5 @@ fn main() -> io::Result<()> {
     write("replay", calls())?;
     write("line", worked_line())?;
     write("check_sheets", sheets())?;
-    fs::write(file("check_summit", "stdout"), summit_end())
+    fs::write(file("check_forged", "stdout"), forged())
 }

@@ -16,6 +16,12 @@ loop-holds c = search needs
 add-x : tie.Need-add-x Inv-loop μ-loop
 add-x c = search needs
 
+cast-ring-place : tie.Need-cast-ring-place Inv-loop μ-loop
+cast-ring-place c = search needs
+
+ring-place-requires : tie.Need-ring-place-requires Inv-loop μ-loop
+ring-place-requires c κs = search needs
+
 mul-kept : tie.Need-mul-kept Inv-loop μ-loop
 mul-kept c = search needs
 
@@ -27,15 +33,6 @@ kept-requires c κs = search needs
 
 mul-out : tie.Need-mul-out Inv-loop μ-loop
 mul-out c = search needs
-
-add-out : tie.Need-add-out Inv-loop μ-loop
-add-out c = search needs
-
-cast-out : tie.Need-cast-out Inv-loop μ-loop
-cast-out c = search needs
-
-mul-out-2 : tie.Need-mul-out-2 Inv-loop μ-loop
-mul-out-2 c = search needs
 
 array-write-out : tie.Need-array-write-out Inv-loop μ-loop
 array-write-out c = search needs
@@ -60,13 +57,12 @@ changes-spec =
     μ-loop
     loop-holds
     add-x
+    cast-ring-place
+    ring-place-requires
     mul-kept
     add-kept
     kept-requires
     mul-out
-    add-out
-    cast-out
-    mul-out-2
     array-write-out
     add-p
     loop-less

@@ -16,26 +16,26 @@ loop-holds c = search needs
 add-x : tie.Need-add-x Inv-loop μ-loop
 add-x c = search needs
 
+cast-ring-place : tie.Need-cast-ring-place Inv-loop μ-loop
+cast-ring-place c = search needs
+
+ring-place-requires : tie.Need-ring-place-requires Inv-loop μ-loop
+ring-place-requires c κs = search needs
+
 kept-requires : tie.Need-kept-requires Inv-loop μ-loop
 kept-requires c κs = search needs
 
 mul-out : tie.Need-mul-out Inv-loop μ-loop
 mul-out c = search needs
 
+cast-out : tie.Need-cast-out Inv-loop μ-loop
+cast-out c = search needs
+
 add-out : tie.Need-add-out Inv-loop μ-loop
 add-out c = search needs
 
 mul-out-2 : tie.Need-mul-out-2 Inv-loop μ-loop
 mul-out-2 c = search needs
-
-add-out-2 : tie.Need-add-out-2 Inv-loop μ-loop
-add-out-2 c = search needs
-
-cast-out : tie.Need-cast-out Inv-loop μ-loop
-cast-out c = search needs
-
-mul-out-3 : tie.Need-mul-out-3 Inv-loop μ-loop
-mul-out-3 c = search needs
 
 array-write-out : tie.Need-array-write-out Inv-loop μ-loop
 array-write-out c = search needs
@@ -60,13 +60,13 @@ entries-spec =
     μ-loop
     loop-holds
     add-x
+    cast-ring-place
+    ring-place-requires
     kept-requires
     mul-out
+    cast-out
     add-out
     mul-out-2
-    add-out-2
-    cast-out
-    mul-out-3
     array-write-out
     add-p
     loop-less

@@ -12,7 +12,7 @@ use Rattle.cabinet_layout.specs.Shape.{limits16, at, modelOf, emptySlot}
 use Rattle.cabinet_plans.specs.Plans.{alone}
 use Rattle.cabinet_plans.proofs.Call.{Passed, passed}
 use Rattle.cabinet_taking.proofs.Taken.{Taken, taken, take-room}
-use Rattle.cabinet_taking.proofs.Share.{share-grown, grown-entries, grown-makers, share-raised, raised-entries, raised-makers, take-done, take-refused}
+use Rattle.cabinet_taking.proofs.Share.{share-grown, grown-entries, grown-changes, share-raised, raised-entries, raised-changes, take-done, take-refused}
 use borrow.Author.Needs.{needs}
 use Rattle.cabinet_taking.proofs.take.Statement.{statement}
 use Rattle.cabinet_taking.proofs.take.Tie as tie
@@ -127,10 +127,10 @@ enum-told-2 : tie.Need-enum-told-2
 enum-told-2 c = search needs
 
 returns : tie.Need-returns
-returns c = let a : _ = c .before .before .before .before .before .before .before .before .before .before .before .before .args in let s : _ = a .t2 in let z : Slot = getD (s .slots) (c .before .before .before .before .before .before .slot-of .result) emptySlot in let x : ℕ = at (s .reached) (a .card) + 1 in let w : member (z .writes) (a .card) ≡ true = sym (c .before .before .has .ensures) ∙ c .before .if1 .taken in take-done (a .valid) s (a .change) (a .card) (c .before .before .before .before .before .before .slot-of .result) (c .before .before .before .vector-of .result .entries) x (z .number) _ _ (first (c .before .before .before .before .before .before .before .before .before)) (c .before .before .before .before .before .before .before .enum-told .given .1) (c .before .before .before .before .before .before .slot-of .ensures) (share-grown s (a .card) x (c .before .before .before .before .before .before .slot-of .result) (c .before .before .before .vector-of .result) z (c .before .before .before .before .took .result) w (add-one (at (s .reached) (a .card))) (c .before .before .before .vector-of .ensures .0) (c .before .before .before .vector-of .ensures .1) (c .before .before .before .before .took .ensures)) (grown-entries s (a .card) x (c .before .before .before .before .before .before .slot-of .result) (c .before .before .before .vector-of .result) z (facts (c .before .before .before .before .before .before .before) .card) w (add-one (at (s .reached) (a .card))) (c .before .before .before .vector-of .ensures .0)) (grown-makers s (a .card) x (c .before .before .before .before .before .before .slot-of .result) z (facts (c .before .before .before .before .before .before .before) .card) w (add-one (at (s .reached) (a .card))))
+returns c = let a : _ = c .before .before .before .before .before .before .before .before .before .before .before .before .args in let s : _ = a .t2 in let z : Slot = getD (s .slots) (c .before .before .before .before .before .before .slot-of .result) emptySlot in let x : ℕ = at (s .reached) (a .card) + 1 in let w : member (z .writes) (a .card) ≡ true = sym (c .before .before .has .ensures) ∙ c .before .if1 .taken in take-done (a .valid) s (a .change) (a .card) (c .before .before .before .before .before .before .slot-of .result) (c .before .before .before .vector-of .result .entries) x (z .number) _ _ (first (c .before .before .before .before .before .before .before .before .before)) (c .before .before .before .before .before .before .before .enum-told .given .1) (c .before .before .before .before .before .before .slot-of .ensures) (share-grown s (a .card) x (c .before .before .before .before .before .before .slot-of .result) (c .before .before .before .vector-of .result) z (c .before .before .before .before .took .result) w (add-one (at (s .reached) (a .card))) (c .before .before .before .vector-of .ensures .0) (c .before .before .before .vector-of .ensures .1) (c .before .before .before .before .took .ensures)) (grown-entries s (a .card) x (c .before .before .before .before .before .before .slot-of .result) (c .before .before .before .vector-of .result) z (facts (c .before .before .before .before .before .before .before) .card) w (add-one (at (s .reached) (a .card))) (c .before .before .before .vector-of .ensures .0)) (grown-changes s (a .card) x (c .before .before .before .before .before .before .slot-of .result) z (facts (c .before .before .before .before .before .before .before) .card) w (add-one (at (s .reached) (a .card))))
 
 returns-2 : tie.Need-returns-2
-returns-2 c = let a : _ = c .before .before .before .before .before .before .before .before .before .before .before .before .before .before .args in let s : _ = a .t2 in let z : Slot = getD (s .slots) (c .before .before .before .before .before .before .before .before .slot-of .result) emptySlot in let w : _ = sym (c .before .before .before .before .has .ensures) ∙ c .before .before .before .if1 .left in take-done (a .valid) s (a .change) (a .card) (c .before .before .before .before .before .before .before .before .slot-of .result) _ 0 0 _ _ (first (c .before .before .before .before .before .before .before .before .before .before .before)) (c .before .before .before .before .before .before .before .before .before .enum-told .given .1) (c .before .before .before .before .before .before .before .before .slot-of .ensures) (share-raised s (a .card) (c .before .before .before .before .before .before .before .before .slot-of .result) (c .before .before .before .before .before .vector-of .result) (c .raised .result) z (c .before .before .before .before .before .before .took .result) w (c .before .before .before .before .before .vector-of .ensures .0) (c .raised .ensures) (c .before .before .before .before .before .before .took .ensures)) (raised-entries s (a .card) (c .before .before .before .before .before .before .before .before .slot-of .result) z w) (raised-makers s (a .card) (c .before .before .before .before .before .before .before .before .slot-of .result) z w)
+returns-2 c = let a : _ = c .before .before .before .before .before .before .before .before .before .before .before .before .before .before .args in let s : _ = a .t2 in let z : Slot = getD (s .slots) (c .before .before .before .before .before .before .before .before .slot-of .result) emptySlot in let w : _ = sym (c .before .before .before .before .has .ensures) ∙ c .before .before .before .if1 .left in take-done (a .valid) s (a .change) (a .card) (c .before .before .before .before .before .before .before .before .slot-of .result) _ 0 0 _ _ (first (c .before .before .before .before .before .before .before .before .before .before .before)) (c .before .before .before .before .before .before .before .before .before .enum-told .given .1) (c .before .before .before .before .before .before .before .before .slot-of .ensures) (share-raised s (a .card) (c .before .before .before .before .before .before .before .before .slot-of .result) (c .before .before .before .before .before .vector-of .result) (c .raised .result) z (c .before .before .before .before .before .before .took .result) w (c .before .before .before .before .before .vector-of .ensures .0) (c .raised .ensures) (c .before .before .before .before .before .before .took .ensures)) (raised-entries s (a .card) (c .before .before .before .before .before .before .before .before .slot-of .result) z w) (raised-changes s (a .card) (c .before .before .before .before .before .before .before .before .slot-of .result) z w)
 
 returns-3 : tie.Need-returns-3
 returns-3 c = let a : _ = c .before .before .before .before .before .args in take-refused (a .valid) (a .t2) (a .change) (a .card) _ _ _ _ (first (c .before .before)) (c .enum-told2 .given .1) refl

@@ -22,6 +22,7 @@ use Rattle.sheet_lines.proofs.Judged.{row-small}
 use Rattle.sheet_lines.proofs.Passed.{Header-in-limits, header-within, header-passed, frame-passed}
 use Rattle.sheet_pages.specs.declared.Reading.{Reading}
 use Rattle.sheet_pages.specs.Walk.{readUpTo}
+use Rattle.base_rows.proofs.Rows.{put-there}
 use Rattle.sheet_pages.proofs.Walk.{Outer, Inner, header-read-is, header-fault-is, frame-read-is, frame-fault-is, outer-start, outer-end, outer-fault, outer-inner, inner-fault, inner-end, inner-again, sheets-fewer, lift-pos, read-as, kept, wiped}
 use Rattle.sheet_walk.proofs.read_sheets.Statement.{statement}
 use Rattle.sheet_walk.proofs.read_sheets.Tie as tie
@@ -221,11 +222,8 @@ mul-r-4 c = omega (arith, c .before .before .before .before .before .before .bef
 element-write-r-4 : tie.Need-element-write-r-4 Inv-loop μ-loop Inv-sheets μ-sheets
 element-write-r-4 c = omega (arith, c .before .before .before .before .before .before .before .before .loop .inv .below, c .before .before .before .before .before .before .before .before .loop .inv .cards)
 
-mul-store-entries : tie.Need-mul-store-entries Inv-loop μ-loop Inv-sheets μ-sheets
-mul-store-entries c = omega (arith, c .before .before .before .before .before .before .before .before .before .loop .inv .below, c .before .before .before .before .before .before .before .before .before .loop .inv .cards)
-
-store-entries-requires : tie.Need-store-entries-requires Inv-loop μ-loop Inv-sheets μ-sheets
-store-entries-requires c κs = omega (arith, c .before .before .before .before .before .before .before .before .before .loop .inv .below, c .before .before .before .before .before .before .before .before .before .loop .inv .cards)
+put-row-requires : tie.Need-put-row-requires Inv-loop μ-loop Inv-sheets μ-sheets
+put-row-requires c κs = search needs
 
 add-at-4 : tie.Need-add-at-4 Inv-loop μ-loop Inv-sheets μ-sheets
 add-at-4 c = omega (arith, fits (of-header (c .before .before .before .before .before .before .before)) .width)
@@ -254,7 +252,7 @@ loop-less c = omega (arith, c .before .before .before .before .before .before .b
 loop-again : tie.Need-loop-again Inv-loop μ-loop Inv-sheets μ-sheets
 loop-again c =
     let e = frame-is (c .before .before .before .before .before .before .before) _ (c .before .before .before .before .before .told .given .1) in
-    inner-again (c .before .before .before .before .before .before .before .before .before .before .loop .inv) (c .before .before .before .before .before .before .before .before .before .loop-test .taken) (e .0) (e .1) (entries-is (c .before .before .before .before .before .before .before) (e .0)) (c .before .before .ring-place .ensures) (c .store-entries .ensures)
+    inner-again (c .before .before .before .before .before .before .before .before .before .before .loop .inv) (c .before .before .before .before .before .before .before .before .before .loop-test .taken) (e .0) (e .1) (entries-is (c .before .before .before .before .before .before .before) (e .0)) (c .before .before .ring-place .ensures) (put-there (c .before .before .before .before .before .before .before .before .before .before .loop .r .entries) (c .before .before .before .before .before .before .before .frame-at .result .entries) (c .before .before .ring-place .result) (omega (arith, c .before .before .ring-place .ensures, c .before .before .before .before .before .before .before .before .before .before .loop .inv .below, c .before .before .before .before .before .before .before .before .before .before .loop .inv .cards)) (c .put-row .ensures))
 
 add-due : tie.Need-add-due Inv-loop μ-loop Inv-sheets μ-sheets
 add-due c = omega (arith, c .before .loop .inv .below, c .before .loop .inv .cards)
@@ -354,8 +352,7 @@ read-sheets-spec =
     element-write-r-3
     mul-r-4
     element-write-r-4
-    mul-store-entries
-    store-entries-requires
+    put-row-requires
     add-at-4
     cast-at
     mul-at

@@ -1,8 +1,8 @@
--- `check_summit::session` ends after 600 changes. Assumes nothing.
+-- `check_forged::summit::session` ends after 600 changes. Assumes nothing.
 use Prim.Native.Nat.{_-_}
 use borrow.Author.Needs.{needs}
-use Rattle.check_summit.proofs.session.Statement.{statement}
-use Rattle.check_summit.proofs.session.Tie as tie
+use Rattle.check_forged.proofs.summit.session.Statement.{statement}
+use Rattle.check_forged.proofs.summit.session.Tie as tie
 
 abbrev Inv-loop : tie.InvT-loop
 Inv-loop from c₀ k₀ c k = Unit {0}

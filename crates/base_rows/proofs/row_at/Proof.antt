@@ -1,11 +1,15 @@
--- `sheet_page_writer::row_at` copies a row. The invariant: the entries passed are stored. Assumes nothing.
+-- `base_rows::row_at` copies a row. The invariant: the entries passed are stored. Assumes nothing.
 use Prim.Native.Nat.{_+_, _*_, _-_}
-use mathlib.Core.Path.{refl}
+use mathlib.Core.Path.{refl, sym, _∙_}
 use borrow.Author.Needs.{needs}
 use lib.ListN.{getD}
+use borrow.Author.Tests.{lt-ltb, le-ltb}
+use Rattle.base_laws.specs.Below.{tabulate}
+use Rattle.base_laws.proofs.Logic.{cond-true, cond-false}
 use Rattle.base_laws.proofs.Fill.{FilledSoFar, filled-none, filled-more, filled-done}
-use Rattle.sheet_page_writer.proofs.row_at.Statement.{statement}
-use Rattle.sheet_page_writer.proofs.row_at.Tie as tie
+use Rattle.base_rows.specs.Row.{entriesAt}
+use Rattle.base_rows.proofs.row_at.Statement.{statement}
+use Rattle.base_rows.proofs.row_at.Tie as tie
 
 abbrev Inv-loop : tie.InvT-loop
 Inv-loop entries place row₀ j₀ row j = FilledSoFar 0 16 (λ i. getD entries (place * 16 + i) 0) row j
@@ -44,7 +48,14 @@ loop-again : tie.Need-loop-again Inv-loop μ-loop
 loop-again c = filled-more (c .before .before .loop .inv) (c .before .loop-test .taken) refl
 
 returns : tie.Need-returns Inv-loop μ-loop
-returns c = filled-done (c .before .loop .inv) (c .loop-test .left) refl
+returns c =
+    let a = c .before .before .before .args in
+    filled-done (c .before .loop .inv) (c .loop-test .left) refl ∙ sym (cond-true (entriesAt (a .entries .now) (a .place)) (tabulate 16 (λ j. 0)) (lt-ltb (a .place) 768 (c .before .before .if1 .taken)))
+
+returns-2 : tie.Need-returns-2 Inv-loop μ-loop
+returns-2 c =
+    let a = c .before .args in
+    sym (cond-false (entriesAt (a .entries .now) (a .place)) (tabulate 16 (λ j. 0)) (le-ltb (a .place) 768 (c .if1 .left)))
 
 pub row-at-spec : {M : Type 1} → statement M
 row-at-spec =
@@ -62,4 +73,5 @@ row-at-spec =
     add-j
     loop-less
     loop-again
-    returns)
+    returns
+    returns-2)
