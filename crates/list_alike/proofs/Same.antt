@@ -18,15 +18,15 @@ use Rattle.cabinet_layout.specs.Shape.{limits16}
 use Rattle.cabinet.specs.declared.Cabinet.{Cabinet}
 use Rattle.cabinet.specs.View.{view}
 use Rattle.cabinet.specs.Apply.{applyAll, OpenCarried}
-use Rattle.base_text.specs.Lines.{spaced, textLine}
+use Rattle.base_lines.specs.Lines.{spaced, textLine}
 use Rattle.list_answers.specs.Texts.{fixedWord, lostWord, rowsText, answerText, replyText}
-use Rattle.list_parse.specs.declared.Request.{Request}
-use Rattle.list_parse.specs.declared.Request.the-variants.{Open, Vote, Take, Withdraw, Store, Trim, Safe, Lose, Fix, Roll, Sheet, Restart, Show, Frames}
-use Rattle.list_parse.specs.declared.Command.{Command}
-use Rattle.list_parse.specs.declared.Command.the-variants.{Fresh, Asks, Unreadable}
+use Rattle.list_commands.specs.declared.Request.{Request}
+use Rattle.list_commands.specs.declared.Request.the-variants.{Open, Vote, Take, Withdraw, Store, Trim, Safe, Lose, Fix, Roll, Sheet, Restart, Show, Frames}
+use Rattle.list_commands.specs.declared.Command.{Command}
+use Rattle.list_commands.specs.declared.Command.the-variants.{Fresh, Asks, Unreadable}
 use Rattle.list_results.specs.declared.Replay.{Replay}
 use Rattle.list_results.specs.Result.{Result, Continuing, Kept, Planned, OpenResult, readsBeyond, writesBeyond, openWithin, LoseResult, setBeyond, lostWithin, FixSaid, RestartResult}
-use Rattle.list_execute.specs.Step.{Steps, Asked, Stays}
+use Rattle.list_results.specs.Step.{Steps, Asked, Stays}
 
 -- ---- lists that have every number equally often
 

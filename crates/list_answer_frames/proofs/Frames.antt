@@ -22,9 +22,9 @@ use Rattle.sheet_lines.specs.Lines.{noFrame}
 use Rattle.cabinet_layout.specs.declared.Core.{Core}
 use Rattle.cabinet_layout.specs.Shape.{limits16, at, presentOf, inHand, frameInHand, ringChange, ringFrame, truncate, modelOf}
 use Rattle.cabinet_layout.proofs.Limits.{width16}
-use Rattle.base_text.specs.Lines.{spaced, textLine, joined}
-use Rattle.base_text.proofs.Spaced.{selected-more}
-use Rattle.list_answers.specs.Texts.{refusedText}
+use Rattle.base_lines.specs.Lines.{spaced, textLine, joined}
+use Rattle.base_lines.proofs.Spaced.{selected-more}
+use Rattle.list_answer_words.specs.Words.{refusedText}
 use Rattle.list_answer_frames.specs.Frames.{framesWord, entryText, entriesText, frameText, stateText, framesText, framesAnswer, ringText}
 
 -- ---- how the text goes on

@@ -12,8 +12,8 @@ use Rattle.theory_protocol.specs.Valid.{valid}
 use Rattle.sheet_lines.specs.declared.Frame.{Frame}
 use Rattle.sheet_pages.specs.Ring.{ringFrame}
 use Rattle.cabinet_layout.specs.Shape.{limits16, at, presentOf}
-use Rattle.base_text.specs.Lines.{spaced, textLine, joined}
-use Rattle.list_answers.specs.Texts.{refusedText}
+use Rattle.base_lines.specs.Lines.{spaced, textLine, joined}
+use Rattle.list_answer_words.specs.Words.{refusedText}
 
 abbrev pub framesWord : List ℕ
 framesWord = 102 ∷ 114 ∷ 97 ∷ 109 ∷ 101 ∷ 115 ∷ []

@@ -6,7 +6,7 @@ ghost use mathlib.Core.Path.{_≡_};
 ghost use Rattle.base_laws.specs.Below.{tabulate, selected};
 ghost use Rattle.cabinet_layout.specs.Shape.{limits16, at, presentOf, modelOf};
 ghost use Rattle.base_text.specs.Put.{Put};
-ghost use Rattle.base_text.specs.Lines.{joined};
+ghost use Rattle.base_lines.specs.Lines.{joined};
 ghost use Rattle.list_answer_frames.specs.Frames.{entryText, entriesText, frameText, framesAnswer, ringText};
 use base_limits::Limits;
 use base_refusal::Refusal;
@@ -26,7 +26,7 @@ fn put_entry(b: &mut [u8], w: Progress, there: bool, entry: u32) -> Progress
         return base_text::put(b, w, b" -");
     }
     let state = [entry - 1];
-    base_text::put_numbers(b, w, &state)
+    base_lines::put_numbers(b, w, &state)
 }
 
 // The entries of a vector, one for each card of the cabinet.
@@ -49,8 +49,8 @@ fn put_frame(b: &mut [u8], w: Progress, cards: u32, state: u32, f: Frame) -> Pro
 {
     let change = [f.change];
     let vector = f.entries;
-    let w = base_text::put_number(b, w, state);
-    let w = base_text::put_numbers(b, w, &change);
+    let w = base_lines::put_number(b, w, state);
+    let w = base_lines::put_numbers(b, w, &change);
     let w = put_entries(b, w, cards, vector);
     base_text::put(b, w, b"\n")
 }
@@ -100,12 +100,12 @@ pub fn put_frames<'a, 'b>(
 {
     let valid = cabinet_valid::cabinet_valid(entries, changes, core);
     if !valid {
-        return list_answers::put_refusal(b, w, Refusal::BadCabinet);
+        return list_answer_words::put_refusal(b, w, Refusal::BadCabinet);
     }
     let head = core.head;
     let there = is_card(head, card);
     if !there {
-        return list_answers::put_refusal(b, w, Refusal::NoSuchCard);
+        return list_answer_words::put_refusal(b, w, Refusal::NoSuchCard);
     }
     let bases = core.base;
     let ends = core.reached;
@@ -113,6 +113,6 @@ pub fn put_frames<'a, 'b>(
     let reached = cabinet_layout::at(ends, card);
     let count = in_hand(base, reached);
     let number = [count];
-    let w = base_text::put_line(b, w, b"frames", &number);
+    let w = base_lines::put_line(b, w, b"frames", &number);
     put_states(b, w, entries, changes, head.cards, card, base, count)
 }

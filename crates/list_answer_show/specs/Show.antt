@@ -7,7 +7,7 @@ use Rattle.cabinet_layout.specs.declared.Phase.{Phase}
 use Rattle.cabinet_layout.specs.declared.Phase.the-variants.{Up, Down, Rolling}
 use Rattle.cabinet_layout.specs.declared.Head.{Head}
 use Rattle.cabinet_layout.specs.Shape.{limits16, at, presentOf}
-use Rattle.base_text.specs.Lines.{spaced, textLine, joined}
+use Rattle.base_lines.specs.Lines.{spaced, textLine, joined}
 
 abbrev pub sessionWord : List ℕ
 sessionWord = 115 ∷ 101 ∷ 115 ∷ 115 ∷ 105 ∷ 111 ∷ 110 ∷ []

@@ -25,11 +25,11 @@ fn put_head(b: &mut [u8], w: Progress, head: Head) -> Progress
     let cards = [head.cards];
     let phase = head.phase;
     let w = base_text::put(b, w, b"session");
-    let w = base_text::put_numbers(b, w, &session);
+    let w = base_lines::put_numbers(b, w, &session);
     let w = base_text::put(b, w, b" ");
     let w = put_phase(b, w, phase);
     let w = base_text::put(b, w, b" ");
-    base_text::put_line(b, w, b"cards", &cards)
+    base_lines::put_line(b, w, b"cards", &cards)
 }
 
 // The lines of the cards.
@@ -49,7 +49,7 @@ fn put_cards(
     while c < Limits::CARDS_U32 {
         let i = c as usize;
         let row = [base[i], stored[i], held[i], reached[i]];
-        at = base_text::put_card(b, at, cards, c, &row);
+        at = base_lines::put_card(b, at, cards, c, &row);
         c += 1;
     }
     at

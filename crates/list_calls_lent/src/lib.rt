@@ -62,7 +62,7 @@ pub fn fix(c: Cabinet, records: u32, numbers: u32, b: &mut [u8], w: Progress) ->
     let cabinet = a.cabinet;
     let stored = cabinet.core.stored;
     let line = cabinet.core.line;
-    let written = list_whole::put_fix(b, w, cards, stored, line, list, places, r);
+    let written = list_whole_lent::put_fix(b, w, cards, stored, line, list, places, r);
     let replay = Replay {
         cabinet,
         begun: true,
@@ -96,7 +96,7 @@ pub fn sheet(c: Cabinet, card: u32, bytes: u32, b: &mut [u8], w: Progress) -> St
     let places = lent_bytes(bytes);
     let a = c.sheet(card, &mut buffer[0..places]);
     let r = a.reply;
-    let written = list_whole::put_sheet(b, w, &buffer, places, r);
+    let written = list_whole_lent::put_sheet(b, w, &buffer, places, r);
     let cabinet = a.cabinet;
     let replay = Replay {
         cabinet,
@@ -130,7 +130,7 @@ pub fn show(c: Cabinet, b: &mut [u8], w: Progress) -> Stepped
     let stored = core.stored;
     let held = core.held;
     let reached = core.reached;
-    let written = list_whole::put_show(b, w, head, base, stored, held, reached);
+    let written = list_whole_lent::put_show(b, w, head, base, stored, held, reached);
     let replay = Replay {
         cabinet: c,
         begun: true,
@@ -143,7 +143,7 @@ pub fn frames(c: Cabinet, card: u32, b: &mut [u8], w: Progress) -> Stepped
     ensures { λ r. ⌜ Written (Continuing (Kept c (framesAnswer limits16 (view c) card)) (r .replay)) (now (b .entry)) w (r .written) (now (b .exit)) ⌝ }
 {
     let core = c.core;
-    let written = list_whole::put_frames(b, w, &c.entries, &c.changes, core, card);
+    let written = list_whole_lent::put_frames(b, w, &c.entries, &c.changes, core, card);
     let replay = Replay {
         cabinet: c,
         begun: true,

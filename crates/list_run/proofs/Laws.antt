@@ -11,17 +11,17 @@ use Rattle.base_laws.proofs.Logic.{test}
 use Rattle.base_laws.proofs.Seq.{sets-append}
 use Rattle.base_text.specs.declared.Progress.{Progress}
 use Rattle.base_text.specs.declared.Progress.the-variants.{Next, Counting, TooShort}
-use Rattle.list_parse.specs.declared.Command.{Command}
+use Rattle.list_commands.specs.declared.Command.{Command}
 use Rattle.list_parse.specs.declared.Token.{Token}
 use Rattle.list_parse.specs.declared.Token.the-variants.{Line, End}
-use Rattle.list_parse.specs.Calls.{tokenAt}
+use Rattle.list_parse.specs.Lines.{tokenAt}
 use Rattle.base_text.specs.Put.{greatest, countedOn, placeAfter, bufferAfter, Put, wholeAfter, fittingOf}
 use Rattle.base_text.proofs.Puts.{place-fits, place-beyond, count-fits, count-beyond, put-nothing, put-then, put-length}
 use Rattle.base_text.proofs.Wholes.{whole-fits, whole-kept, whole-length, fitting-fits, fitting-beyond}
 use Rattle.list_results.specs.declared.Replay.{Replay}
 use Rattle.list_results.specs.Result.{Written}
-use Rattle.list_execute.specs.Step.{Steps}
-use Rattle.list_step.specs.Executed.{nothingYet}
+use Rattle.list_results.specs.Step.{Steps}
+use Rattle.list_results.specs.Going.{nothingYet}
 use Rattle.list_run.specs.Steps.{Ran, noLine, oneMore, Holds, Passed, Replayed}
 use Rattle.list_run.proofs.Once.{same-length}
 

@@ -6,11 +6,11 @@ use mathlib.Core.Logic.{by-cases}
 use native.Mathlib.Decide.{decLe}
 use native.Mathlib.Omega.{arith}
 use lib.ListN.{length, length-append}
-use Rattle.list_parse.specs.declared.Command.{Command}
+use Rattle.list_commands.specs.declared.Command.{Command}
 use Rattle.list_parse.specs.declared.Token.the-variants.{Line, End}
-use Rattle.list_parse.specs.Calls.{tokenAt}
+use Rattle.list_parse.specs.Lines.{tokenAt}
 use Rattle.list_results.specs.declared.Replay.{Replay}
-use Rattle.list_execute.specs.Step.{Steps}
+use Rattle.list_results.specs.Step.{Steps}
 use Rattle.list_alike.proofs.Same.{Alike, steps-alike}
 use Rattle.list_run.specs.Steps.{Ran, noLine, oneMore}
 

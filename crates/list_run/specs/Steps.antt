@@ -6,13 +6,13 @@ use lib.ListN.{length}
 use lib.Seq.{sets}
 use Rattle.base_text.specs.declared.Progress.{Progress}
 use Rattle.base_text.specs.declared.Progress.the-variants.{Next, Counting, TooShort}
-use Rattle.list_parse.specs.declared.Command.{Command}
+use Rattle.list_commands.specs.declared.Command.{Command}
 use Rattle.list_parse.specs.declared.Token.the-variants.{Line, End}
-use Rattle.list_parse.specs.Calls.{tokenAt}
-use Rattle.base_text.specs.Put.{greatest, placeAfter, Whole}
+use Rattle.list_parse.specs.Lines.{tokenAt}
+use Rattle.base_text.specs.Put.{placeAfter, Whole, countOf}
 use Rattle.list_results.specs.declared.Replay.{Replay}
-use Rattle.list_execute.specs.Step.{Steps}
-use Rattle.list_step.specs.Executed.{nothingYet}
+use Rattle.list_results.specs.Step.{Steps}
+use Rattle.list_results.specs.Going.{nothingYet}
 
 -- those before a place, from the first on: the replay after them, and the texts of their answers, joined
 pub data Ran (s : List ℕ) (start : Replay) : ℕ → Replay → List ℕ → Type 0 where
@@ -45,12 +45,7 @@ pub record Replayed (s : List ℕ) (start : Replay) (b : List ℕ) (w : Progress
   pub end : tokenAt s place ≡ End
   pub put : Whole b (Next 0) text w e
 
--- the same as a number: the count of bytes, or the greatest number of 64 bits where the buffer is too short
-abbrev pub countOf : Progress → ℕ
-countOf (Next n) = n
-countOf (Counting n) = greatest
-countOf TooShort = greatest
-
+-- the same as a number
 pub record Counted (s b : List ℕ) (n : ℕ) (e : List ℕ) : Type 0 where
   pub written : Progress
   pub replayed : Replayed s nothingYet b written e
