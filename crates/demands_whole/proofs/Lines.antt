@@ -49,8 +49,8 @@ use Rattle.list_results.specs.declared.Replay.{Replay}
 use Rattle.list_results.specs.Result.{Planned, readsBeyond, writesBeyond, openWithin, setBeyond, lostWithin, Result}
 use Rattle.list_results.specs.Step.{freshReply, afterFresh, Asked as AskedOf, Steps}
 use Rattle.list_results.specs.Going.{nothingYet}
-use Rattle.list_step.specs.Executed.{Executed}
-use Rattle.list_run.specs.Steps.{Ran, noLine, oneMore}
+use Rattle.list_texts.specs.Executed.{Executed}
+use Rattle.list_texts.specs.Steps.{Ran, noLine, oneMore}
 use Rattle.demands_lists.specs.Claims.{Said, answers, refuses}
 use Rattle.demands_lists.proofs.Some.{lowest-is-barred}
 use Rattle.demands_lists.proofs.Refusing.{every}

@@ -20,7 +20,7 @@ use Rattle.list_results.specs.declared.Replay.{Replay}
 use Rattle.list_results.specs.Result.{Result, Continuing}
 use Rattle.list_results.specs.Step.{Freshened, Asked as AskedOf, Steps}
 use Rattle.list_results.specs.Going.{nothingYet}
-use Rattle.list_run.specs.Steps.{Ran, noLine, oneMore}
+use Rattle.list_texts.specs.Steps.{Ran, noLine, oneMore}
 use Rattle.demands_lists.specs.Lists.{Asked, callOf, Typed, Lent, Answered, List16, start, next}
 use Rattle.demands_lists.proofs.Whole.{demands-2-3}
 use Rattle.demands_whole.specs.Texts.{Makes, NoCall, refuses-fresh, unreadable, Listed, begins, calls, stays, RunsLists}

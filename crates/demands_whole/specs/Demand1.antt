@@ -32,8 +32,8 @@ use Rattle.list_answers.specs.Texts.{replyText}
 use Rattle.list_results.specs.declared.Replay.{Replay}
 use Rattle.list_results.specs.Step.{Steps}
 use Rattle.list_results.specs.Going.{nothingYet}
-use Rattle.list_step.specs.Executed.{Executed}
-use Rattle.list_run.specs.Steps.{Replayed}
+use Rattle.list_texts.specs.Executed.{Executed}
+use Rattle.list_texts.specs.Steps.{Replayed}
 use Rattle.demands_lists.specs.Lists.{Asked, Lent}
 use Rattle.demands_lists.specs.Claims.{Said, Gets, CallsAnswer}
 use Rattle.demands_whole.specs.Texts.{Makes, NoCall}

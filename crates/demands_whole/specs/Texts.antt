@@ -19,7 +19,7 @@ use Rattle.list_answers.specs.Texts.{replyText}
 use Rattle.list_results.specs.declared.Replay.{Replay}
 use Rattle.list_results.specs.Step.{Steps}
 use Rattle.list_results.specs.Going.{nothingYet}
-use Rattle.list_run.specs.Steps.{Ran}
+use Rattle.list_texts.specs.Steps.{Ran}
 use Rattle.demands_lists.specs.Lists.{Asked, opening, plain, lose, fix, sheet, restart, callOf, Typed, Lent, Answered, List16, start, next}
 use Rattle.demands_lists.specs.Claims.{Throughout}
 

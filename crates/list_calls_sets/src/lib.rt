@@ -13,7 +13,7 @@ use list_results::Stepped;
 fn no_such_card(c: Cabinet, b: &mut [u8], w: Progress) -> Stepped
     ensures { λ r. ⌜ Written (Continuing (Kept c (refusedText NoSuchCard)) (r .replay)) (now (b .entry)) w (r .written) (now (b .exit)) ⌝ }
 {
-    let written = list_whole::put_refusal(b, w, Refusal::NoSuchCard);
+    let written = list_whole_words::put_refusal(b, w, Refusal::NoSuchCard);
     let replay = Replay {
         cabinet: c,
         begun: true,

@@ -34,7 +34,7 @@ fn freshen(r: Replay, cards: u32, b: &mut [u8], w: Progress) -> Stepped
 fn none(r: Replay, b: &mut [u8], w: Progress) -> Stepped
     ensures { λ s. ⌜ Written (Stays r noneText (s .replay)) (now (b .entry)) w (s .written) (now (b .exit)) ⌝ }
 {
-    let written = list_whole::put_none(b, w);
+    let written = list_whole_words::put_none(b, w);
     Stepped { replay: r, written }
 }
 
@@ -42,7 +42,7 @@ fn none(r: Replay, b: &mut [u8], w: Progress) -> Stepped
 fn unreadable(r: Replay, b: &mut [u8], w: Progress) -> Stepped
     ensures { λ s. ⌜ Written (Stays r unreadableText (s .replay)) (now (b .entry)) w (s .written) (now (b .exit)) ⌝ }
 {
-    let written = list_whole::put_unreadable(b, w);
+    let written = list_whole_words::put_unreadable(b, w);
     Stepped { replay: r, written }
 }
 
@@ -82,9 +82,9 @@ pub fn done(r: Replay, said: Command, b: &mut [u8], w: Progress) -> Stepped
                 ),
                 Request::Roll(card) => list_calls::roll(c, card, b, w),
                 Request::Sheet { card, bytes } => list_calls_lent::sheet(c, card, bytes, b, w),
-                Request::Restart => list_calls_lent::restart(c, b, w),
-                Request::Show => list_calls_lent::show(c, b, w),
-                Request::Frames(card) => list_calls_lent::frames(c, card, b, w),
+                Request::Restart => list_calls_looks::restart(c, b, w),
+                Request::Show => list_calls_looks::show(c, b, w),
+                Request::Frames(card) => list_calls_looks::frames(c, card, b, w),
             }
         }
     }

@@ -8,7 +8,7 @@ use Rattle.list_commands.specs.declared.Request.the-variants.{Open, Take, Withd
 use Rattle.list_commands.specs.Calls.{asFix, asSheet, asVote}
 use Rattle.list_words.specs.declared.Figures.{Figures}
 use Rattle.list_words.specs.declared.Figures.the-variants.{Zero, One, Two, Three, Malformed}
-use Rattle.list_words.specs.Line.{same}
+use Rattle.base_search.specs.Search.{same}
 
 -- ---- the names of the calls, as bytes
 

@@ -9,13 +9,13 @@ use list_words::Figures;
 fn say_bare(word: &[u8]) -> Command
     ensures { λ r. ⌜ r ≡ parseBare (now (word .entry)) ⌝ }
 {
-    if list_words::is_same(word, b"trim") {
+    if base_search::is_same(word, b"trim") {
         return Command::Asks(Request::Trim);
     }
-    if list_words::is_same(word, b"restart") {
+    if base_search::is_same(word, b"restart") {
         return Command::Asks(Request::Restart);
     }
-    if list_words::is_same(word, b"show") {
+    if base_search::is_same(word, b"show") {
         return Command::Asks(Request::Show);
     }
     Command::Unreadable
@@ -25,22 +25,22 @@ fn say_bare(word: &[u8]) -> Command
 fn say_one(word: &[u8], a: u32) -> Command
     ensures { λ r. ⌜ r ≡ parseOne (now (word .entry)) a ⌝ }
 {
-    if list_words::is_same(word, b"fresh") {
+    if base_search::is_same(word, b"fresh") {
         return Command::Fresh(a);
     }
-    if list_words::is_same(word, b"withdraw") {
+    if base_search::is_same(word, b"withdraw") {
         return Command::Asks(Request::Withdraw(a));
     }
-    if list_words::is_same(word, b"safe") {
+    if base_search::is_same(word, b"safe") {
         return Command::Asks(Request::Safe(a));
     }
-    if list_words::is_same(word, b"lose") {
+    if base_search::is_same(word, b"lose") {
         return Command::Asks(Request::Lose(a));
     }
-    if list_words::is_same(word, b"roll") {
+    if base_search::is_same(word, b"roll") {
         return Command::Asks(Request::Roll(a));
     }
-    if list_words::is_same(word, b"frames") {
+    if base_search::is_same(word, b"frames") {
         return Command::Asks(Request::Frames(a));
     }
     Command::Unreadable
@@ -50,22 +50,22 @@ fn say_one(word: &[u8], a: u32) -> Command
 fn say_two(word: &[u8], a: u32, b: u32) -> Command
     ensures { λ r. ⌜ r ≡ parseTwo (now (word .entry)) a b ⌝ }
 {
-    if list_words::is_same(word, b"open") {
+    if base_search::is_same(word, b"open") {
         return Command::Asks(Request::Open {
             reads: a,
             writes: b,
         });
     }
-    if list_words::is_same(word, b"take") {
+    if base_search::is_same(word, b"take") {
         return Command::Asks(Request::Take { change: a, card: b });
     }
-    if list_words::is_same(word, b"store") {
+    if base_search::is_same(word, b"store") {
         return Command::Asks(Request::Store { card: a, state: b });
     }
-    if list_words::is_same(word, b"fix") {
+    if base_search::is_same(word, b"fix") {
         return list_commands::as_fix(a, b);
     }
-    if list_words::is_same(word, b"sheet") {
+    if base_search::is_same(word, b"sheet") {
         return list_commands::as_sheet(a, b);
     }
     Command::Unreadable
@@ -75,7 +75,7 @@ fn say_two(word: &[u8], a: u32, b: u32) -> Command
 fn say_three(word: &[u8], a: u32, b: u32, c: u32) -> Command
     ensures { λ r. ⌜ r ≡ parseThree (now (word .entry)) a b c ⌝ }
 {
-    if list_words::is_same(word, b"vote") {
+    if base_search::is_same(word, b"vote") {
         return list_commands::as_vote(a, b, c);
     }
     Command::Unreadable

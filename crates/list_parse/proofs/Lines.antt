@@ -9,8 +9,9 @@ use lib.ListN.{length, take, drop, length-drop}
 use borrow.Author.Tests.{le-leb, lt-leb, leb-false, lt-ltb, le-ltb, ltb-true, ltb-false}
 use Rattle.base_laws.proofs.Logic.{test}
 use Rattle.list_words.specs.declared.Figures.{Figures}
-use Rattle.list_words.specs.Line.{before, figuresAt}
-use Rattle.list_words.proofs.Texts.{before-take, before-length}
+use Rattle.list_words.specs.Line.{figuresAt}
+use Rattle.base_search.specs.Search.{before}
+use Rattle.base_search.proofs.Texts.{before-take, before-length}
 use Rattle.list_commands.specs.declared.Command.{Command}
 use Rattle.list_commands.specs.declared.Command.the-variants.{Unreadable}
 use Rattle.list_names.specs.Names.{parseWith}

@@ -4,7 +4,8 @@ use mathlib.Core.Bool.{cond}
 use mathlib.Core.List.{List}
 use lib.Dec.{leb, ltb}
 use lib.ListN.{length, drop}
-use Rattle.list_words.specs.Line.{before, figuresAt}
+use Rattle.base_search.specs.Search.{before}
+use Rattle.list_words.specs.Line.{figuresAt}
 use Rattle.list_commands.specs.declared.Command.{Command}
 use Rattle.list_commands.specs.declared.Command.the-variants.{Unreadable}
 use Rattle.list_names.specs.Names.{parseWith}

@@ -16,7 +16,7 @@ pub fn parse(line: &[u8]) -> Command
     if 128 < line.len() {
         return Command::Unreadable;
     }
-    let end = list_words::find(line, 0, 32);
+    let end = base_search::find(line, 0, 32);
     let f = list_words::figures_at(line, end);
     list_names::say_with(&line[0..end], f)
 }
@@ -28,7 +28,7 @@ pub fn line_at(s: &[u8], from: usize) -> Token
     if s.len() <= from {
         return Token::End;
     }
-    let end = list_words::find(s, from, 10);
+    let end = base_search::find(s, from, 10);
     let said = parse(&s[from..end]);
     if end < s.len() {
         Token::Line(said, end + 1)

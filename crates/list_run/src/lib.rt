@@ -1,6 +1,6 @@
 // Lists of calls as text, over slices: text in, answers out.
 ghost use Rattle.list_results.specs.Going.{nothingYet};
-ghost use Rattle.list_run.specs.Steps.{Passed, Replayed, Counted};
+ghost use Rattle.list_texts.specs.Steps.{Passed, Replayed, Counted};
 use base_text::Progress;
 use list_parse::Token;
 

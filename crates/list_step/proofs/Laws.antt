@@ -8,7 +8,7 @@ use Rattle.list_results.specs.declared.Replay.{Replay}
 use Rattle.list_results.specs.Result.{Written}
 use Rattle.list_results.specs.Step.{Steps}
 use Rattle.list_results.specs.Going.{goingOn}
-use Rattle.list_step.specs.Executed.{Executed}
+use Rattle.list_texts.specs.Executed.{Executed}
 
 module _ {b : List ℕ} {w r : Progress} {e : List ℕ} where
   -- ---- nothing is done where the answer has no room

@@ -1,7 +1,7 @@
 // A line of a list, done where its answer has room.
 ghost use Rattle.base_text.specs.declared.Progress.the-variants.{Next};
 ghost use Rattle.list_parse.specs.Lines.{parseLine};
-ghost use Rattle.list_step.specs.Executed.{Executed};
+ghost use Rattle.list_texts.specs.Executed.{Executed};
 use base_text::Progress;
 use list_commands::Command;
 use list_results::Replay;

@@ -1,40 +1,11 @@
-// The answers that are one line, each written whole or not at all: it is counted first, and written where the buffer has room for all of it.
+// The answers of calls that are one line, each written whole or not at all: it is counted first, and written where the buffer has room for all of it.
 ghost use Rattle.cabinet_layout.specs.Answers.{replyOf, openReplyOf, safeReplyOf};
 ghost use Rattle.base_text.specs.Put.{Whole};
-ghost use Rattle.list_answer_words.specs.Words.{refusedText, noneText, unreadableText};
 ghost use Rattle.list_answers.specs.Texts.{replyText};
-use base_refusal::Refusal;
 use base_refusal::Reply;
 use base_text::Progress;
 use cabinet_layout::OpenReply;
 use cabinet_layout::SafeReply;
-
-// Before the first cabinet.
-pub fn put_none(b: &mut [u8], w: Progress) -> Progress
-    ensures { λ x. ⌜ Whole (now (b .entry)) w noneText x (now (b .exit)) ⌝ }
-{
-    let counted = list_answer_words::put_none(b, Progress::Counting(0));
-    let from = base_text::fitting(b.len(), w, counted);
-    list_answer_words::put_none(b, from)
-}
-
-// A line that is no call.
-pub fn put_unreadable(b: &mut [u8], w: Progress) -> Progress
-    ensures { λ x. ⌜ Whole (now (b .entry)) w unreadableText x (now (b .exit)) ⌝ }
-{
-    let counted = list_answer_words::put_unreadable(b, Progress::Counting(0));
-    let from = base_text::fitting(b.len(), w, counted);
-    list_answer_words::put_unreadable(b, from)
-}
-
-// A refusal.
-pub fn put_refusal(b: &mut [u8], w: Progress, q: Refusal) -> Progress
-    ensures { λ x. ⌜ Whole (now (b .entry)) w (refusedText q) x (now (b .exit)) ⌝ }
-{
-    let counted = list_answer_words::put_refusal(b, Progress::Counting(0), q);
-    let from = base_text::fitting(b.len(), w, counted);
-    list_answer_words::put_refusal(b, from, q)
-}
 
 // The answer of a call that answers nothing but acceptance.
 pub fn put_reply(b: &mut [u8], w: Progress, r: Reply) -> Progress

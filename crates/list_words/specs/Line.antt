@@ -1,7 +1,7 @@
--- A line of a list of calls: a word, and numbers after it, each after one space. A text is a list of bytes.
+-- The numbers of a line of a list of calls, each after one space. A text is a list of bytes.
 use Prim.Native.Nat.{ℕ, _+_}
-use mathlib.Core.Bool.{Bool, true, false, _&&_, cond}
-use mathlib.Core.List.{List, [], _∷_}
+use mathlib.Core.Bool.{cond}
+use mathlib.Core.List.{List}
 use lib.Dec.{eqb, leb}
 use lib.ListN.{length, getD}
 use Rattle.base_reading.specs.declared.Reading.{Reading}
@@ -11,18 +11,6 @@ use Rattle.list_words.specs.declared.Figure.{Figure}
 use Rattle.list_words.specs.declared.Figure.the-variants.{Value, Nothing, Other}
 use Rattle.list_words.specs.declared.Figures.{Figures}
 use Rattle.list_words.specs.declared.Figures.the-variants.{Zero, One, Two, Three, Malformed}
-
--- a text up to the first byte b, or the whole of it
-abbrev pub before : ℕ → List ℕ → List ℕ
-before b [] = []
-before b (a ∷ s) = cond (eqb a b) [] (a ∷ before b s)
-
--- whether two texts are the same
-abbrev pub same : List ℕ → List ℕ → Bool
-same [] [] = true
-same [] (b ∷ t) = false
-same (a ∷ s) [] = false
-same (a ∷ s) (b ∷ t) = eqb a b && same s t
 
 -- a number that was read, and the place after it
 abbrev pub asFigure : Reading → Figure

@@ -1,8 +1,6 @@
-// The word of a line and the numbers after it, each after one space.
-ghost use Prim.Native.Nat.{_+_, _≤_};
+// The numbers of a line, each after one space.
 ghost use mathlib.Core.Path.{_≡_};
-ghost use lib.ListN.{length, drop};
-ghost use Rattle.list_words.specs.Line.{before, same, nextFigure, afterThree, afterTwo, afterOne, figuresAt};
+ghost use Rattle.list_words.specs.Line.{nextFigure, afterThree, afterTwo, afterOne, figuresAt};
 use base_reading::Reading;
 
 // What stands after a word or a number of a line.
@@ -19,38 +17,6 @@ pub enum Figures {
     Two(u32, u32),
     Three(u32, u32, u32),
     Malformed,
-}
-
-// The place of the first such byte from `from` on, or the end.
-pub fn find(s: &[u8], from: usize, b: u8) -> usize
-    requires { ⌜ from ≤ length (now s) ⌝ }
-    ensures { λ r. ⌜ r ≡ from + length (before b (drop from (now (s .entry)))) ⌝ }
-{
-    let mut i = from;
-    while i < s.len() {
-        if s[i] == b {
-            return i;
-        }
-        i += 1;
-    }
-    i
-}
-
-// Whether two texts are the same.
-pub fn is_same(s: &[u8], t: &[u8]) -> bool
-    ensures { λ r. ⌜ r ≡ same (now (s .entry)) (now (t .entry)) ⌝ }
-{
-    let mut i = 0;
-    while i < s.len() {
-        if t.len() <= i {
-            return false;
-        }
-        if s[i] != t[i] {
-            return false;
-        }
-        i += 1;
-    }
-    t.len() <= i
 }
 
 // A space and a number at a place of a line, or its end.
