@@ -13,7 +13,8 @@ use borrow.Author.Tests.{lt-ltb, le-ltb, ltb-true, ltb-false, le-leb, lt-leb}
 use Rattle.base_laws.proofs.Logic.{test, and-left, and-right, and-intro}
 use Rattle.base_decimal.specs.declared.Writing.the-variants.{Next, TooShort}
 use Rattle.base_decimal.specs.Answers.{Wrote}
-use Rattle.base_decimal.specs.Digits.{digit, digitsIn, decimal, lowest, isDigit, digitsOnly, valueFrom, value}
+use Rattle.base_reading.specs.Digits.{isDigit, digitsOnly, valueFrom, value}
+use Rattle.base_decimal.specs.Digits.{digit, digitsIn, decimal, lowest}
 
 -- ---- how the digits go on
 

@@ -1,3 +1,3 @@
 pub mod Digits
-pub mod Runs
+pub mod Back
 pub mod Samples

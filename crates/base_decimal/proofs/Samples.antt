@@ -1,10 +1,7 @@
--- The definitions at numbers and texts that are written out. Assumes nothing.
-use Prim.Native.Nat.{ℕ}
+-- The digits of numbers that are written out. Assumes nothing.
 use mathlib.Core.Path.{_≡_, refl}
-use mathlib.Core.List.{List, [], _∷_}
-use Rattle.base_decimal.specs.declared.Reading.the-variants.{Number, NotANumber}
+use mathlib.Core.List.{[], _∷_}
 use Rattle.base_decimal.specs.Digits.{decimal}
-use Rattle.base_decimal.specs.Answers.{readAt}
 
 -- 0 is "0", 60000 is "60000", and the greatest number of 32 bits has ten digits
 zero-text : decimal 0 ≡ 48 ∷ []
@@ -15,23 +12,3 @@ limit-text = refl
 
 greatest-text : decimal 4294967295 ≡ 52 ∷ 50 ∷ 57 ∷ 52 ∷ 57 ∷ 54 ∷ 55 ∷ 50 ∷ 57 ∷ 53 ∷ []
 greatest-text = refl
-
--- "x007 1" at 1 is 7, and goes to 4; at 0 and at 9 there is no number
-abbrev word : List ℕ
-word = 120 ∷ 48 ∷ 48 ∷ 55 ∷ 32 ∷ 49 ∷ []
-
-seven : readAt word 1 ≡ Number 7 4
-seven = refl
-
-letter : readAt word 0 ≡ NotANumber
-letter = refl
-
-beyond : readAt word 9 ≡ NotANumber
-beyond = refl
-
--- "4294967295" is a number, and "4294967296" is none
-greatest-read : readAt (52 ∷ 50 ∷ 57 ∷ 52 ∷ 57 ∷ 54 ∷ 55 ∷ 50 ∷ 57 ∷ 53 ∷ []) 0 ≡ Number 4294967295 10
-greatest-read = refl
-
-over-read : readAt (52 ∷ 50 ∷ 57 ∷ 52 ∷ 57 ∷ 54 ∷ 55 ∷ 50 ∷ 57 ∷ 54 ∷ []) 0 ≡ NotANumber
-over-read = refl

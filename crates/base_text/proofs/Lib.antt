@@ -1,3 +1,3 @@
 pub mod Puts
 pub mod Wholes
-pub mod Spaced
+pub mod Taken

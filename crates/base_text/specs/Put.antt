@@ -54,3 +54,11 @@ fittingOf size (Next at) (Next k) = TooShort
 fittingOf size (Next at) TooShort = TooShort
 fittingOf size (Counting k) counted = Counting k
 fittingOf size TooShort counted = TooShort
+
+-- ---- as a number
+
+-- the count of bytes, or the greatest number of 64 bits where the buffer is too short
+abbrev pub countOf : Progress → ℕ
+countOf (Next n) = n
+countOf (Counting n) = greatest
+countOf TooShort = greatest

@@ -1,15 +1,10 @@
-// Text into a lent buffer, cut off where the buffer ends: words, numbers, lines. What is to be whole is counted first.
-ghost use Prim.Native.Nat.{_-_, _≤_};
-ghost use mathlib.Core.Bool.{cond};
-ghost use mathlib.Core.List.{[]};
+// Text into a lent buffer, cut off where the buffer ends. What is to be whole is counted first.
+ghost use Prim.Native.Nat.{_-_, _≤_, min};
 ghost use mathlib.Core.Path.{_≡_};
-ghost use lib.Dec.{ltb};
 ghost use lib.ListN.{length, take};
 ghost use lib.Seq.{sets};
-ghost use Rattle.base_decimal.specs.Digits.{decimal};
 ghost use Rattle.base_text.specs.declared.Progress.the-variants.{Next};
-ghost use Rattle.base_text.specs.Put.{countedOn, Put, fittingOf};
-ghost use Rattle.base_text.specs.Lines.{spaced, textLine};
+ghost use Rattle.base_text.specs.Put.{countedOn, Put, fittingOf, countOf};
 
 // How far a text is written; or counted, where nothing is to be written; or that the buffer is too short, or the count for 64 bits.
 pub enum Progress {
@@ -35,6 +30,13 @@ fn room_from(size: usize, at: usize) -> usize
     ensures { λ r. ⌜ r ≡ size - at ⌝ }
 {
     if size < at { 0 } else { size - at }
+}
+
+// The lesser of two numbers.
+pub fn least(a: usize, b: usize) -> usize
+    ensures { λ r. ⌜ r ≡ min a b ⌝ }
+{
+    if a < b { a } else { b }
 }
 
 // Writes a text from a place on.
@@ -93,54 +95,13 @@ pub fn fitting(size: usize, w: Progress, counted: Progress) -> Progress
     }
 }
 
-// Writes a number.
-pub fn put_number(b: &mut [u8], w: Progress, n: u32) -> Progress
-    ensures { λ r. ⌜ Put (now (b .entry)) w (decimal n) r (now (b .exit)) ⌝ }
+// The count of bytes written, or the greatest number where they are not.
+pub fn count_of(w: Progress) -> usize
+    ensures { λ r. ⌜ r ≡ countOf w ⌝ }
 {
-    let mut digits = [0u8; 10];
-    let count = base_decimal::width(n);
-    base_decimal::write(&mut digits, 0, n);
-    put(b, w, &digits[0..count])
-}
-
-// Writes numbers, each after a space.
-pub fn put_numbers(b: &mut [u8], w: Progress, numbers: &[u32]) -> Progress
-    ensures { λ r. ⌜ Put (now (b .entry)) w (spaced (now (numbers .entry))) r (now (b .exit)) ⌝ }
-{
-    let mut at = w;
-    let mut i = 0;
-    while i < numbers.len() {
-        at = put(b, at, b" ");
-        at = put_number(b, at, numbers[i]);
-        i += 1;
+    match w {
+        Progress::Next(n) => n,
+        Progress::Counting(_) => 18446744073709551615,
+        Progress::TooShort => 18446744073709551615,
     }
-    at
-}
-
-// Writes a line: a word, and numbers after it.
-pub fn put_line(b: &mut [u8], w: Progress, word: &[u8], numbers: &[u32]) -> Progress
-    ensures { λ r. ⌜ Put (now (b .entry)) w (textLine (now (word .entry)) (now (numbers .entry))) r (now (b .exit)) ⌝ }
-{
-    let w = put(b, w, word);
-    let w = put_numbers(b, w, numbers);
-    put(b, w, b"\n")
-}
-
-// Writes a line of numbers alone: a card's, and others after it.
-pub fn put_row(b: &mut [u8], w: Progress, card: u32, numbers: &[u32]) -> Progress
-    ensures { λ r. ⌜ Put (now (b .entry)) w (textLine (decimal card) (now (numbers .entry))) r (now (b .exit)) ⌝ }
-{
-    let w = put_number(b, w, card);
-    let w = put_numbers(b, w, numbers);
-    put(b, w, b"\n")
-}
-
-// The line of a card that the cabinet has.
-pub fn put_card(b: &mut [u8], w: Progress, cards: u32, card: u32, numbers: &[u32]) -> Progress
-    ensures { λ x. ⌜ Put (now (b .entry)) w (cond (ltb card cards) (textLine (decimal card) (now (numbers .entry))) []) x (now (b .exit)) ⌝ }
-{
-    if card < cards {
-        return put_row(b, w, card, numbers);
-    }
-    w
 }

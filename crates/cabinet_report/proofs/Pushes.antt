@@ -10,9 +10,9 @@ use Rattle.base_decimal.specs.Digits.{decimal}
 use Rattle.base_text.specs.declared.Progress.{Progress}
 use Rattle.base_text.specs.declared.Progress.the-variants.{Next}
 use Rattle.base_text.specs.Put.{Put}
-use Rattle.base_text.specs.Lines.{spaced, textLine}
+use Rattle.base_lines.specs.Lines.{spaced, textLine}
 use Rattle.base_text.proofs.Puts.{place-fits, buffer-fits, put-then, put-as}
-use Rattle.base_text.proofs.Spaced.{ten-digits}
+use Rattle.base_lines.proofs.Spaced.{ten-digits}
 use Rattle.theory_history.specs.Change.{Numbers}
 use Rattle.cabinet_report.specs.declared.Text.{Text}
 use Rattle.cabinet_report.specs.Report.{textOf, textAt, rowText, rowsText}

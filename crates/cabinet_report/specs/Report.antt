@@ -7,7 +7,7 @@ use Rattle.base_refusal.specs.Number.{numberOf}
 use Rattle.base_decimal.specs.Digits.{decimal}
 use Rattle.base_text.specs.declared.Progress.{Progress}
 use Rattle.base_text.specs.declared.Progress.the-variants.{Next, Counting, TooShort}
-use Rattle.base_text.specs.Lines.{textLine}
+use Rattle.base_lines.specs.Lines.{textLine}
 use Rattle.base_refusal.specs.declared.Reply.{Reply}
 use Rattle.base_refusal.specs.declared.Reply.the-variants.{Done, Refused}
 use Rattle.sheet_readout.specs.Joint.{pagesRead}

@@ -43,7 +43,7 @@ fn put_card(b: &mut [u8], w: Progress, card: u32, stored: u32, line: u32) -> Pro
     ensures room { λ r. ⌜ length (rowText card stored line) ≤ 33 ⌝ }
 {
     let numbers = [stored, line];
-    base_text::put_row(b, w, card, &numbers)
+    base_lines::put_row(b, w, card, &numbers)
 }
 
 // Writes the lines of the first cards.
@@ -80,7 +80,7 @@ fn accepted_text(
     let mut b = [0u8; 560];
     let after = [session + 1];
     let w = put_cards(&mut b, cards, stored, line);
-    let w = base_text::put_line(&mut b, w, b"session", &after);
+    let w = base_lines::put_line(&mut b, w, b"session", &after);
     text_at(b, w)
 }
 
@@ -90,7 +90,7 @@ fn refused_text(n: u32) -> Text
 {
     let mut b = [0u8; 560];
     let number = [n];
-    let w = base_text::put_line(&mut b, Progress::Next(0), b"refused", &number);
+    let w = base_lines::put_line(&mut b, Progress::Next(0), b"refused", &number);
     text_at(b, w)
 }
 

@@ -3,8 +3,8 @@
 // `line`: they are a read-out, and what the line program prints is printed. `page`: they are the sheet of the card. What is read
 // is printed, how many numbers of the read-out handed back are not 0, and the sheet as it is written again into so much room.
 ghost use Prim.Native.Nat.{_<_};
-use base_decimal::Reading;
 use base_limits::Limits;
+use base_reading::Reading;
 use base_refusal::Refusal;
 use base_refusal::Reply;
 use libc::STDOUT_FILENO;
@@ -14,7 +14,7 @@ use sheet_pages::Readout;
 
 // The number at a place of a record's line, and 0 where there is none.
 fn number_at(line: &[u8], at: usize) -> u32 {
-    let r = base_decimal::read(line, at);
+    let r = base_reading::read(line, at);
     match r {
         Reading::Number { value, next: _ } => value,
         Reading::NotANumber => 0,

@@ -35,20 +35,22 @@ use Rattle.cabinet_joined.specs.Joined.{ownSheets, ownReply, goingOn as going-o
 use Rattle.base_text.specs.declared.Progress.{Progress}
 use Rattle.base_text.specs.declared.Progress.the-variants.{Next, Counting, TooShort}
 use Rattle.base_text.specs.Put.{placeAfter, wholeAfter, Whole}
-use Rattle.list_parse.specs.declared.Command.{Command}
-use Rattle.list_parse.specs.declared.Command.the-variants.{Fresh, Asks, Unreadable}
-use Rattle.list_parse.specs.declared.Request.{Request}
-use Rattle.list_parse.specs.declared.Request.the-variants.{Open, Vote, Take, Withdraw, Store, Trim, Safe, Lose, Fix, Roll, Sheet, Restart, Show, Frames}
+use Rattle.list_commands.specs.declared.Command.{Command}
+use Rattle.list_commands.specs.declared.Command.the-variants.{Fresh, Asks, Unreadable}
+use Rattle.list_commands.specs.declared.Request.{Request}
+use Rattle.list_commands.specs.declared.Request.the-variants.{Open, Vote, Take, Withdraw, Store, Trim, Safe, Lose, Fix, Roll, Sheet, Restart, Show, Frames}
 use Rattle.list_parse.specs.declared.Token.{Token}
 use Rattle.list_parse.specs.declared.Token.the-variants.{Line, End}
-use Rattle.list_parse.specs.Calls.{tokenAt}
+use Rattle.list_parse.specs.Lines.{tokenAt}
 use Rattle.list_parse.proofs.Lines.{heard-forward}
-use Rattle.list_answers.specs.Texts.{refusedText, replyText, noneText, unreadableText}
+use Rattle.list_answer_words.specs.Words.{refusedText, noneText, unreadableText}
+use Rattle.list_answers.specs.Texts.{replyText}
 use Rattle.list_results.specs.declared.Replay.{Replay}
 use Rattle.list_results.specs.Result.{Planned, readsBeyond, writesBeyond, openWithin, setBeyond, lostWithin, Result}
-use Rattle.list_execute.specs.Step.{freshReply, afterFresh, Asked as AskedOf, Steps}
-use Rattle.list_step.specs.Executed.{nothingYet, Executed}
-use Rattle.list_run.specs.Steps.{Ran, noLine, oneMore}
+use Rattle.list_results.specs.Step.{freshReply, afterFresh, Asked as AskedOf, Steps}
+use Rattle.list_results.specs.Going.{nothingYet}
+use Rattle.list_texts.specs.Executed.{Executed}
+use Rattle.list_texts.specs.Steps.{Ran, noLine, oneMore}
 use Rattle.demands_lists.specs.Claims.{Said, answers, refuses}
 use Rattle.demands_lists.proofs.Some.{lowest-is-barred}
 use Rattle.demands_lists.proofs.Refusing.{every}

@@ -12,9 +12,9 @@ use Rattle.cabinet_layout.specs.Shape.{limits16}
 use Rattle.cabinet_records.specs.declared.CardRecord.{CardRecord}
 use Rattle.cabinet.specs.declared.Cabinet.{Cabinet}
 use Rattle.cabinet.specs.View.{view}
-use Rattle.list_parse.specs.declared.Command.the-variants.{Asks}
-use Rattle.list_parse.specs.declared.Request.{Request}
-use Rattle.list_parse.specs.declared.Request.the-variants.{Open, Vote, Take, Withdraw, Store, Trim, Safe, Lose, Fix, Roll, Sheet, Restart, Show, Frames}
+use Rattle.list_commands.specs.declared.Command.the-variants.{Asks}
+use Rattle.list_commands.specs.declared.Request.{Request}
+use Rattle.list_commands.specs.declared.Request.the-variants.{Open, Vote, Take, Withdraw, Store, Trim, Safe, Lose, Fix, Roll, Sheet, Restart, Show, Frames}
 use Rattle.list_answers.specs.Texts.{replyText}
 use Rattle.list_results.specs.Result.{Planned, OpenResult, readsBeyond, writesBeyond, openWithin, LoseResult, setBeyond, lostWithin, Result}
 use Rattle.theory_protocol.specs.Run.{voteCall, takeCall, withdrawCall, storeCall, trimCall, safeCall, rollCall}

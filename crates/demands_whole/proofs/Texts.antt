@@ -10,17 +10,17 @@ use Rattle.theory_protocol.specs.Run.{Calls, none, further}
 use Rattle.theory_protocol.specs.Calls.{freshRefused}
 use Rattle.cabinet_layout.specs.Shape.{limits16}
 use Rattle.cabinet.specs.Fresh.{zeroCabinet, freshHead, voidHead, Freshly}
-use Rattle.list_parse.specs.declared.Command.{Command}
-use Rattle.list_parse.specs.declared.Command.the-variants.{Fresh, Asks, Unreadable}
-use Rattle.list_parse.specs.declared.Request.{Request}
+use Rattle.list_commands.specs.declared.Command.{Command}
+use Rattle.list_commands.specs.declared.Command.the-variants.{Fresh, Asks, Unreadable}
+use Rattle.list_commands.specs.declared.Request.{Request}
 use Rattle.list_parse.specs.declared.Token.the-variants.{Line}
-use Rattle.list_parse.specs.Calls.{tokenAt}
+use Rattle.list_parse.specs.Lines.{tokenAt}
 use Rattle.list_answers.specs.Texts.{replyText}
 use Rattle.list_results.specs.declared.Replay.{Replay}
 use Rattle.list_results.specs.Result.{Result, Continuing}
-use Rattle.list_execute.specs.Step.{Freshened, Asked as AskedOf, Steps}
-use Rattle.list_step.specs.Executed.{nothingYet}
-use Rattle.list_run.specs.Steps.{Ran, noLine, oneMore}
+use Rattle.list_results.specs.Step.{Freshened, Asked as AskedOf, Steps}
+use Rattle.list_results.specs.Going.{nothingYet}
+use Rattle.list_texts.specs.Steps.{Ran, noLine, oneMore}
 use Rattle.demands_lists.specs.Lists.{Asked, callOf, Typed, Lent, Answered, List16, start, next}
 use Rattle.demands_lists.proofs.Whole.{demands-2-3}
 use Rattle.demands_whole.specs.Texts.{Makes, NoCall, refuses-fresh, unreadable, Listed, begins, calls, stays, RunsLists}

@@ -25,13 +25,15 @@ use Rattle.cabinet.specs.Fresh.{Freshly, zeroCabinet, voidHead}
 use Rattle.cabinet_restart.specs.Restart.{Restarted}
 use Rattle.base_text.specs.declared.Progress.{Progress}
 use Rattle.base_text.specs.declared.Progress.the-variants.{TooShort}
-use Rattle.list_parse.specs.declared.Command.{Command}
-use Rattle.list_parse.specs.declared.Command.the-variants.{Fresh}
-use Rattle.list_answers.specs.Texts.{replyText, noneText}
+use Rattle.list_commands.specs.declared.Command.{Command}
+use Rattle.list_commands.specs.declared.Command.the-variants.{Fresh}
+use Rattle.list_answer_words.specs.Words.{noneText}
+use Rattle.list_answers.specs.Texts.{replyText}
 use Rattle.list_results.specs.declared.Replay.{Replay}
-use Rattle.list_execute.specs.Step.{Steps}
-use Rattle.list_step.specs.Executed.{nothingYet, Executed}
-use Rattle.list_run.specs.Steps.{Replayed}
+use Rattle.list_results.specs.Step.{Steps}
+use Rattle.list_results.specs.Going.{nothingYet}
+use Rattle.list_texts.specs.Executed.{Executed}
+use Rattle.list_texts.specs.Steps.{Replayed}
 use Rattle.demands_lists.specs.Lists.{Asked, Lent}
 use Rattle.demands_lists.specs.Claims.{Said, Gets, CallsAnswer}
 use Rattle.demands_whole.specs.Texts.{Makes, NoCall}

@@ -10,16 +10,16 @@ use Rattle.theory_protocol.specs.Calls.{freshRefused}
 use Rattle.cabinet_layout.specs.Shape.{limits16}
 use Rattle.cabinet_records.specs.declared.CardRecord.{CardRecord}
 use Rattle.cabinet.specs.Fresh.{Freshly}
-use Rattle.list_parse.specs.declared.Command.{Command}
-use Rattle.list_parse.specs.declared.Command.the-variants.{Fresh, Asks, Unreadable}
-use Rattle.list_parse.specs.declared.Request.the-variants.{Open, Vote, Take, Withdraw, Store, Trim, Safe, Lose, Fix, Roll, Sheet, Restart, Show, Frames}
+use Rattle.list_commands.specs.declared.Command.{Command}
+use Rattle.list_commands.specs.declared.Command.the-variants.{Fresh, Asks, Unreadable}
+use Rattle.list_commands.specs.declared.Request.the-variants.{Open, Vote, Take, Withdraw, Store, Trim, Safe, Lose, Fix, Roll, Sheet, Restart, Show, Frames}
 use Rattle.list_parse.specs.declared.Token.the-variants.{Line}
-use Rattle.list_parse.specs.Calls.{tokenAt}
+use Rattle.list_parse.specs.Lines.{tokenAt}
 use Rattle.list_answers.specs.Texts.{replyText}
 use Rattle.list_results.specs.declared.Replay.{Replay}
-use Rattle.list_execute.specs.Step.{Steps}
-use Rattle.list_step.specs.Executed.{nothingYet}
-use Rattle.list_run.specs.Steps.{Ran}
+use Rattle.list_results.specs.Step.{Steps}
+use Rattle.list_results.specs.Going.{nothingYet}
+use Rattle.list_texts.specs.Steps.{Ran}
 use Rattle.demands_lists.specs.Lists.{Asked, opening, plain, lose, fix, sheet, restart, callOf, Typed, Lent, Answered, List16, start, next}
 use Rattle.demands_lists.specs.Claims.{Throughout}
 

@@ -1,15 +1,14 @@
--- Laws of the text of frames: how it goes on, and that the ring has what the model says. Assumes nothing.
+-- Laws of the text of frames: the ring has what the model says. Assumes nothing.
 use Prim.Native.Nat.{ℕ, zero, suc, _+_, _-_, _<_}
 use mathlib.Core.Path.{_≡_, refl, sym, _∙_, ap, ap₂}
-use mathlib.Core.Bool.{Bool, true, false, not, cond}
-use mathlib.Core.List.{List, [], _∷_, _++_, append-assoc, append-nil}
+use mathlib.Core.Bool.{Bool, true, false, cond}
+use mathlib.Core.List.{List, [], _∷_, _++_}
 use native.Mathlib.Nat.{le-step, lt-suc-self}
 use native.Mathlib.Omega.{arith}
-use borrow.Author.Tests.{lt-ltb, le-leb, ltb-true, eq-eqb, ne-eqb, not-true, not-false}
+use borrow.Author.Tests.{lt-ltb, le-leb, ltb-true}
 use Rattle.base_laws.specs.Below.{tabulate, selected}
 use Rattle.base_laws.proofs.Logic.{cond-true, cond-false, and-left, and-intro}
 use Rattle.base_laws.proofs.Fill.{tabulate-same, getD-tabulate}
-use Rattle.base_decimal.specs.Digits.{decimal}
 use Rattle.theory_history.specs.Vector as history
 use Rattle.theory_history.specs.Vector.{noEntries}
 use Rattle.theory_protocol.specs.Model.{Model, isCard}
@@ -22,33 +21,10 @@ use Rattle.sheet_lines.specs.Lines.{noFrame}
 use Rattle.cabinet_layout.specs.declared.Core.{Core}
 use Rattle.cabinet_layout.specs.Shape.{limits16, at, presentOf, inHand, frameInHand, ringChange, ringFrame, truncate, modelOf}
 use Rattle.cabinet_layout.proofs.Limits.{width16}
-use Rattle.base_text.specs.Lines.{spaced, textLine, joined}
-use Rattle.base_text.proofs.Spaced.{selected-more}
-use Rattle.list_answers.specs.Texts.{refusedText}
-use Rattle.list_answer_frames.specs.Frames.{framesWord, entryText, entriesText, frameText, stateText, framesText, framesAnswer, ringText}
-
--- ---- how the text goes on
-
-entries-append : (xs ys : List ℕ) → entriesText (xs ++ ys) ≡ entriesText xs ++ entriesText ys
-entries-append [] ys = refl
-entries-append (x ∷ xs) ys = ap (λ (l : List ℕ). entryText x ++ l) (entries-append xs ys) ∙ sym (append-assoc (entryText x) (entriesText xs) (entriesText ys))
-
-pub entries-more : (p : ℕ → Bool) (f : ℕ → ℕ) (i : ℕ) → entriesText (selected i p f) ++ cond (p i) (entryText (f i)) [] ≡ entriesText (selected (i + 1) p f)
-entries-more = selected-more entriesText entryText entries-append (λ x. append-nil (entryText x)) refl
-
--- an entry that is written, and one that is not
-pub entry-absent : (there : Bool) (e : ℕ) → not there ≡ true → [] ≡ cond there (entryText e) []
-entry-absent there e h = sym (cond-false (entryText e) [] (not-true there h))
-
-pub entry-none : (there : Bool) (e : ℕ) → not there ≡ false → e ≡ 0 → 32 ∷ 45 ∷ [] ≡ cond there (entryText e) []
-entry-none there e h z = sym (cond-true (entryText e) [] (not-false there h) ∙ cond-true (32 ∷ 45 ∷ []) (spaced ((e - 1) ∷ [])) (eq-eqb e 0 z))
-
-pub entry-some : (there : Bool) (e : ℕ) → not there ≡ false → (e ≡ 0 → ⊥) → spaced ((e - 1) ∷ []) ≡ cond there (entryText e) []
-entry-some there e h n = sym (cond-true (entryText e) [] (not-false there h) ∙ cond-false (32 ∷ 45 ∷ []) (spaced ((e - 1) ∷ [])) (ne-eqb e 0 n))
-
-pub frame-as : (x k : ℕ) (es : List ℕ) → ((decimal x ++ spaced (k ∷ [])) ++ entriesText es) ++ (10 ∷ []) ≡ frameText x k es
-frame-as x k es =
-    append-assoc (decimal x ++ spaced (k ∷ [])) (entriesText es) (10 ∷ []) ∙ append-assoc (decimal x) (spaced (k ∷ [])) (entriesText es ++ (10 ∷ []))
+use Rattle.base_lines.specs.Lines.{textLine, joined}
+use Rattle.list_answer_entries.specs.Entries.{frameText}
+use Rattle.list_answer_words.specs.Words.{refusedText}
+use Rattle.list_answer_frames.specs.Frames.{framesWord, stateText, framesText, framesAnswer, ringText}
 
 -- a frame that is the ring's
 pub ring-as : (changes entries : List ℕ) (cards c x y : ℕ) (f : Frame) → c < 16 → f ≡ heldFrame changes entries c x → x ≡ y

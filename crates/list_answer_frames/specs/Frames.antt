@@ -2,33 +2,20 @@
 use Prim.Native.Nat.{ℕ, suc, _+_, _-_}
 use mathlib.Core.Bool.{cond}
 use mathlib.Core.List.{List, [], _∷_, _++_}
-use lib.Dec.{eqb}
 use Rattle.base_limits.specs.Document.{mostCards}
 use Rattle.base_laws.specs.Below.{tabulate, selected}
 use Rattle.base_refusal.specs.declared.Refusal.the-variants.{NoSuchCard, BadCabinet}
-use Rattle.base_decimal.specs.Digits.{decimal}
 use Rattle.theory_protocol.specs.Model.{Limits, Model, isCard}
 use Rattle.theory_protocol.specs.Valid.{valid}
 use Rattle.sheet_lines.specs.declared.Frame.{Frame}
 use Rattle.sheet_pages.specs.Ring.{ringFrame}
 use Rattle.cabinet_layout.specs.Shape.{limits16, at, presentOf}
-use Rattle.base_text.specs.Lines.{spaced, textLine, joined}
-use Rattle.list_answers.specs.Texts.{refusedText}
+use Rattle.base_lines.specs.Lines.{textLine, joined}
+use Rattle.list_answer_entries.specs.Entries.{frameText}
+use Rattle.list_answer_words.specs.Words.{refusedText}
 
 abbrev pub framesWord : List ℕ
 framesWord = 102 ∷ 114 ∷ 97 ∷ 109 ∷ 101 ∷ 115 ∷ []
-
--- an entry after a space: a vector has the state's number plus one, and 0 for none, which is written `-`
-abbrev pub entryText : ℕ → List ℕ
-entryText e = cond (eqb e 0) (32 ∷ 45 ∷ []) (spaced ((e - 1) ∷ []))
-
-abbrev pub entriesText : List ℕ → List ℕ
-entriesText [] = []
-entriesText (e ∷ es) = entryText e ++ entriesText es
-
--- `STATE CHANGE E0 E1 ..`
-abbrev pub frameText : (state change : ℕ) (entries : List ℕ) → List ℕ
-frameText x k es = decimal x ++ (spaced (k ∷ []) ++ (entriesText es ++ (10 ∷ [])))
 
 -- the line of state x of card c: the change that made it, and of its vector the entry of each card of the cabinet
 abbrev pub stateText : Limits → Model → (c x : ℕ) → List ℕ

@@ -1,59 +1,16 @@
 // How the answer to a look at a card's frames is written: what its states in hand hang on.
 ghost use Prim.Native.Nat.{suc, _+_, _-_, _≤_, _<_};
-ghost use mathlib.Core.Bool.{cond};
-ghost use mathlib.Core.List.{[]};
 ghost use mathlib.Core.Path.{_≡_};
-ghost use Rattle.base_laws.specs.Below.{tabulate, selected};
-ghost use Rattle.cabinet_layout.specs.Shape.{limits16, at, presentOf, modelOf};
+ghost use Rattle.base_laws.specs.Below.{tabulate};
+ghost use Rattle.cabinet_layout.specs.Shape.{limits16, modelOf};
 ghost use Rattle.base_text.specs.Put.{Put};
-ghost use Rattle.base_text.specs.Lines.{joined};
-ghost use Rattle.list_answer_frames.specs.Frames.{entryText, entriesText, frameText, framesAnswer, ringText};
+ghost use Rattle.base_lines.specs.Lines.{joined};
+ghost use Rattle.list_answer_frames.specs.Frames.{framesAnswer, ringText};
 use base_limits::Limits;
 use base_refusal::Refusal;
 use base_text::Progress;
 use cabinet_layout::Core;
 use cabinet_replies::is_card;
-use sheet_lines::Frame;
-
-// The entry of a card that the cabinet has: its state, none written `-`.
-fn put_entry(b: &mut [u8], w: Progress, there: bool, entry: u32) -> Progress
-    ensures { λ x. ⌜ Put (now (b .entry)) w (cond there (entryText entry) []) x (now (b .exit)) ⌝ }
-{
-    if !there {
-        return w;
-    }
-    if entry == 0 {
-        return base_text::put(b, w, b" -");
-    }
-    let state = [entry - 1];
-    base_text::put_numbers(b, w, &state)
-}
-
-// The entries of a vector, one for each card of the cabinet.
-fn put_entries(b: &mut [u8], w: Progress, cards: u32, vector: [u32; Limits::CARDS]) -> Progress
-    ensures { λ x. ⌜ Put (now (b .entry)) w (entriesText (selected (limits16 .width) (presentOf cards) (at vector))) x (now (b .exit)) ⌝ }
-{
-    let mut at = w;
-    let mut j: u32 = 0;
-    while j < Limits::CARDS_U32 {
-        let entry = vector[j as usize];
-        at = put_entry(b, at, j < cards, entry);
-        j += 1;
-    }
-    at
-}
-
-// The line of a state.
-fn put_frame(b: &mut [u8], w: Progress, cards: u32, state: u32, f: Frame) -> Progress
-    ensures { λ x. ⌜ Put (now (b .entry)) w (frameText state (f .change) (selected (limits16 .width) (presentOf cards) (at (f .entries)))) x (now (b .exit)) ⌝ }
-{
-    let change = [f.change];
-    let vector = f.entries;
-    let w = base_text::put_number(b, w, state);
-    let w = base_text::put_numbers(b, w, &change);
-    let w = put_entries(b, w, cards, vector);
-    base_text::put(b, w, b"\n")
-}
 
 // The lines of so many states above a card's base, as the ring has them.
 fn put_states<'a, 'b>(
@@ -74,7 +31,7 @@ fn put_states<'a, 'b>(
     while k < count {
         let state = base + 1 + k;
         let f = sheet_page_writer::frame_of(changes, entries, card, state);
-        at = put_frame(b, at, cards, state, f);
+        at = list_answer_entries::put_frame(b, at, cards, state, f);
         k += 1;
     }
     at
@@ -100,12 +57,12 @@ pub fn put_frames<'a, 'b>(
 {
     let valid = cabinet_valid::cabinet_valid(entries, changes, core);
     if !valid {
-        return list_answers::put_refusal(b, w, Refusal::BadCabinet);
+        return list_answer_words::put_refusal(b, w, Refusal::BadCabinet);
     }
     let head = core.head;
     let there = is_card(head, card);
     if !there {
-        return list_answers::put_refusal(b, w, Refusal::NoSuchCard);
+        return list_answer_words::put_refusal(b, w, Refusal::NoSuchCard);
     }
     let bases = core.base;
     let ends = core.reached;
@@ -113,6 +70,6 @@ pub fn put_frames<'a, 'b>(
     let reached = cabinet_layout::at(ends, card);
     let count = in_hand(base, reached);
     let number = [count];
-    let w = base_text::put_line(b, w, b"frames", &number);
+    let w = base_lines::put_line(b, w, b"frames", &number);
     put_states(b, w, entries, changes, head.cards, card, base, count)
 }

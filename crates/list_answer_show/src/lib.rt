@@ -1,36 +1,9 @@
 // How the answer to a look at the cabinet is written.
 ghost use Rattle.base_text.specs.Put.{Put};
-ghost use Rattle.list_answer_show.specs.Show.{phaseName, headText, cardsText, showText};
+ghost use Rattle.list_answer_show.specs.Show.{cardsText, showText};
 use base_limits::Limits;
 use base_text::Progress;
 use cabinet_layout::Head;
-use cabinet_layout::Phase;
-
-// The word of a phase.
-fn put_phase(b: &mut [u8], w: Progress, phase: Phase) -> Progress
-    ensures { λ x. ⌜ Put (now (b .entry)) w (phaseName phase) x (now (b .exit)) ⌝ }
-{
-    match phase {
-        Phase::Up => base_text::put(b, w, b"up"),
-        Phase::Down => base_text::put(b, w, b"down"),
-        Phase::Rolling => base_text::put(b, w, b"rolling"),
-    }
-}
-
-// The first line of show.
-fn put_head(b: &mut [u8], w: Progress, head: Head) -> Progress
-    ensures { λ x. ⌜ Put (now (b .entry)) w (headText head) x (now (b .exit)) ⌝ }
-{
-    let session = [head.session];
-    let cards = [head.cards];
-    let phase = head.phase;
-    let w = base_text::put(b, w, b"session");
-    let w = base_text::put_numbers(b, w, &session);
-    let w = base_text::put(b, w, b" ");
-    let w = put_phase(b, w, phase);
-    let w = base_text::put(b, w, b" ");
-    base_text::put_line(b, w, b"cards", &cards)
-}
 
 // The lines of the cards.
 fn put_cards(
@@ -49,7 +22,7 @@ fn put_cards(
     while c < Limits::CARDS_U32 {
         let i = c as usize;
         let row = [base[i], stored[i], held[i], reached[i]];
-        at = base_text::put_card(b, at, cards, c, &row);
+        at = base_lines::put_card(b, at, cards, c, &row);
         c += 1;
     }
     at
@@ -68,6 +41,6 @@ pub fn put_show(
     ensures { λ x. ⌜ Put (now (b .entry)) w (showText head base stored held reached) x (now (b .exit)) ⌝ }
 {
     let cards = head.cards;
-    let w = put_head(b, w, head);
+    let w = list_answer_head::put_head(b, w, head);
     put_cards(b, w, cards, base, stored, held, reached)
 }

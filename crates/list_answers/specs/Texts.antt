@@ -3,12 +3,9 @@ use Prim.Native.Nat.{ℕ}
 use mathlib.Core.List.{List, [], _∷_, _++_}
 use lib.ListN.{length}
 use Rattle.base_decimal.specs.Digits.{decimal}
-use Rattle.base_refusal.specs.declared.Refusal.{Refusal}
-use Rattle.base_refusal.specs.declared.Told.{Told}
-use Rattle.base_refusal.specs.declared.Told.the-variants.{Alone, Card}
-use Rattle.base_refusal.specs.Number.{toldOf}
-use Rattle.base_text.specs.Lines.{textLine}
+use Rattle.base_lines.specs.Lines.{textLine}
 use Rattle.theory_protocol.specs.Plan.{CardRow, Answer, done, opened, safe, unsafe, fixed, written, Reply, accepted, refused}
+use Rattle.list_answer_words.specs.Words.{refusedText}
 
 -- ---- the words, as bytes
 
@@ -24,9 +21,6 @@ safeWord = 115 ∷ 97 ∷ 102 ∷ 101 ∷ []
 abbrev pub unsafeWord : List ℕ
 unsafeWord = 117 ∷ 110 ∷ 115 ∷ 97 ∷ 102 ∷ 101 ∷ []
 
-abbrev pub refusedWord : List ℕ
-refusedWord = 114 ∷ 101 ∷ 102 ∷ 117 ∷ 115 ∷ 101 ∷ 100 ∷ []
-
 abbrev pub fixedWord : List ℕ
 fixedWord = 102 ∷ 105 ∷ 120 ∷ 101 ∷ 100 ∷ []
 
@@ -36,29 +30,7 @@ lostWord = 108 ∷ 111 ∷ 115 ∷ 116 ∷ []
 abbrev pub sheetWord : List ℕ
 sheetWord = 115 ∷ 104 ∷ 101 ∷ 101 ∷ 116 ∷ []
 
-abbrev pub noneWord : List ℕ
-noneWord = 110 ∷ 111 ∷ 110 ∷ 101 ∷ []
-
-abbrev pub unreadableWord : List ℕ
-unreadableWord = 117 ∷ 110 ∷ 114 ∷ 101 ∷ 97 ∷ 100 ∷ 97 ∷ 98 ∷ 108 ∷ 101 ∷ []
-
 -- ---- the answers
-
--- before the first cabinet
-abbrev pub noneText : List ℕ
-noneText = textLine noneWord []
-
--- a line that is no call
-abbrev pub unreadableText : List ℕ
-unreadableText = textLine unreadableWord []
-
--- "21 answers `refused 21 CARD`"
-abbrev pub toldNumbers : Told → List ℕ
-toldNumbers (Alone k) = k ∷ []
-toldNumbers (Card k card) = k ∷ card ∷ []
-
-abbrev pub refusedText : Refusal → List ℕ
-refusedText q = textLine refusedWord (toldNumbers (toldOf q))
 
 -- a line for each card record of fix
 abbrev pub rowsText : List CardRow → List ℕ

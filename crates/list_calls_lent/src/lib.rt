@@ -1,4 +1,4 @@
-// Fix and sheet writing with lists that a line lends, restart, and looks at the present cabinet, each with its answer written.
+// Fix and sheet writing with lists that a line lends, each with its answer written.
 ghost use Prim.Native.Nat.{min};
 ghost use mathlib.Core.Path.{_≡_};
 ghost use lib.ListN.{length};
@@ -6,9 +6,7 @@ ghost use Rattle.theory_protocol.specs.Codec.{sheetPlan};
 ghost use Rattle.theory_codec.specs.Sheets.{codec};
 ghost use Rattle.cabinet_layout.specs.Shape.{limits16};
 ghost use Rattle.cabinet.specs.View.{view};
-ghost use Rattle.list_answer_show.specs.Show.{showText};
-ghost use Rattle.list_answer_frames.specs.Frames.{framesAnswer};
-ghost use Rattle.list_results.specs.Result.{Planned, FixSaid, RestartResult, Kept, Written, Continuing};
+ghost use Rattle.list_results.specs.Result.{Planned, FixSaid, Written, Continuing};
 use base_limits::Limits;
 use base_text::Progress;
 use cabinet::Cabinet;
@@ -62,7 +60,7 @@ pub fn fix(c: Cabinet, records: u32, numbers: u32, b: &mut [u8], w: Progress) ->
     let cabinet = a.cabinet;
     let stored = cabinet.core.stored;
     let line = cabinet.core.line;
-    let written = list_whole::put_fix(b, w, cards, stored, line, list, places, r);
+    let written = list_whole_lent::put_fix(b, w, cards, stored, line, list, places, r);
     let replay = Replay {
         cabinet,
         begun: true,
@@ -96,56 +94,10 @@ pub fn sheet(c: Cabinet, card: u32, bytes: u32, b: &mut [u8], w: Progress) -> St
     let places = lent_bytes(bytes);
     let a = c.sheet(card, &mut buffer[0..places]);
     let r = a.reply;
-    let written = list_whole::put_sheet(b, w, &buffer, places, r);
+    let written = list_whole_lent::put_sheet(b, w, &buffer, places, r);
     let cabinet = a.cabinet;
     let replay = Replay {
         cabinet,
-        begun: true,
-    };
-    Stepped { replay, written }
-}
-
-// The result takes the cabinet's place.
-pub fn restart(c: Cabinet, b: &mut [u8], w: Progress) -> Stepped
-    ensures { λ r. ⌜ Written (Continuing (RestartResult c) (r .replay)) (now (b .entry)) w (r .written) (now (b .exit)) ⌝ }
-{
-    let a = cabinet_joined::restart(c);
-    let r = a.reply;
-    let written = list_whole::put_reply(b, w, r);
-    let cabinet = a.cabinet;
-    let replay = Replay {
-        cabinet,
-        begun: true,
-    };
-    Stepped { replay, written }
-}
-
-// What the cabinet is.
-pub fn show(c: Cabinet, b: &mut [u8], w: Progress) -> Stepped
-    ensures { λ r. ⌜ Written (Continuing (Kept c (showText (c .core .head) (c .core .base) (c .core .stored) (c .core .held) (c .core .reached))) (r .replay)) (now (b .entry)) w (r .written) (now (b .exit)) ⌝ }
-{
-    let core = c.core;
-    let head = core.head;
-    let base = core.base;
-    let stored = core.stored;
-    let held = core.held;
-    let reached = core.reached;
-    let written = list_whole::put_show(b, w, head, base, stored, held, reached);
-    let replay = Replay {
-        cabinet: c,
-        begun: true,
-    };
-    Stepped { replay, written }
-}
-
-// What the states in hand of a card hang on.
-pub fn frames(c: Cabinet, card: u32, b: &mut [u8], w: Progress) -> Stepped
-    ensures { λ r. ⌜ Written (Continuing (Kept c (framesAnswer limits16 (view c) card)) (r .replay)) (now (b .entry)) w (r .written) (now (b .exit)) ⌝ }
-{
-    let core = c.core;
-    let written = list_whole::put_frames(b, w, &c.entries, &c.changes, core, card);
-    let replay = Replay {
-        cabinet: c,
         begun: true,
     };
     Stepped { replay, written }

@@ -1,12 +1,12 @@
 // The lines of a list: a call on the present cabinet, a fresh one, or none of them, each with its answer written.
-ghost use Rattle.list_answers.specs.Texts.{noneText, unreadableText};
+ghost use Rattle.list_answer_words.specs.Words.{noneText, unreadableText};
 ghost use Rattle.list_results.specs.Result.{Written};
-ghost use Rattle.list_execute.specs.Step.{Steps, Stays, Freshened};
+ghost use Rattle.list_results.specs.Step.{Steps, Stays, Freshened};
 use base_refusal::Reply;
 use base_text::Progress;
 use cabinet::Cabinet;
-use list_parse::Command;
-use list_parse::Request;
+use list_commands::Command;
+use list_commands::Request;
 use list_results::Replay;
 use list_results::Stepped;
 
@@ -34,7 +34,7 @@ fn freshen(r: Replay, cards: u32, b: &mut [u8], w: Progress) -> Stepped
 fn none(r: Replay, b: &mut [u8], w: Progress) -> Stepped
     ensures { λ s. ⌜ Written (Stays r noneText (s .replay)) (now (b .entry)) w (s .written) (now (b .exit)) ⌝ }
 {
-    let written = list_whole::put_none(b, w);
+    let written = list_whole_words::put_none(b, w);
     Stepped { replay: r, written }
 }
 
@@ -42,7 +42,7 @@ fn none(r: Replay, b: &mut [u8], w: Progress) -> Stepped
 fn unreadable(r: Replay, b: &mut [u8], w: Progress) -> Stepped
     ensures { λ s. ⌜ Written (Stays r unreadableText (s .replay)) (now (b .entry)) w (s .written) (now (b .exit)) ⌝ }
 {
-    let written = list_whole::put_unreadable(b, w);
+    let written = list_whole_words::put_unreadable(b, w);
     Stepped { replay: r, written }
 }
 
@@ -61,7 +61,7 @@ pub fn done(r: Replay, said: Command, b: &mut [u8], w: Progress) -> Stepped
             }
             let c = r.cabinet;
             match q {
-                Request::Open { reads, writes } => list_calls::open(c, reads, writes, b, w),
+                Request::Open { reads, writes } => list_calls_sets::open(c, reads, writes, b, w),
                 Request::Vote {
                     change,
                     card,
@@ -72,7 +72,7 @@ pub fn done(r: Replay, said: Command, b: &mut [u8], w: Progress) -> Stepped
                 Request::Store { card, state } => list_calls::store(c, card, state, b, w),
                 Request::Trim => list_calls::trim(c, b, w),
                 Request::Safe(change) => list_calls::safe(c, change, b, w),
-                Request::Lose(cards) => list_calls::lose(c, cards, b, w),
+                Request::Lose(cards) => list_calls_sets::lose(c, cards, b, w),
                 Request::Fix { records, numbers } => list_calls_lent::fix(
                     c,
                     records,
@@ -82,9 +82,9 @@ pub fn done(r: Replay, said: Command, b: &mut [u8], w: Progress) -> Stepped
                 ),
                 Request::Roll(card) => list_calls::roll(c, card, b, w),
                 Request::Sheet { card, bytes } => list_calls_lent::sheet(c, card, bytes, b, w),
-                Request::Restart => list_calls_lent::restart(c, b, w),
-                Request::Show => list_calls_lent::show(c, b, w),
-                Request::Frames(card) => list_calls_lent::frames(c, card, b, w),
+                Request::Restart => list_calls_looks::restart(c, b, w),
+                Request::Show => list_calls_looks::show(c, b, w),
+                Request::Frames(card) => list_calls_looks::frames(c, card, b, w),
             }
         }
     }

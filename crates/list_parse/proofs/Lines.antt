@@ -1,41 +1,23 @@
--- Laws of a line: its numbers as they are read one after the other, its word, and where the next one begins. Assumes nothing.
+-- Laws of a line: its word, and where the next one begins. Assumes nothing.
 use Prim.Native.Nat.{ℕ, _+_, _-_, _≤_, _<_}
 use mathlib.Core.Path.{_≡_, refl, sym, _∙_, ap, ap₂}
 use mathlib.Core.Bool.{Bool, cond}
 use mathlib.Core.List.{List}
 use native.Mathlib.Omega.{arith}
 use lib.Dec.{leb, ltb}
-use lib.ListN.{length, getD, take, drop, length-drop}
-use borrow.Author.Tests.{le-leb, lt-leb, leb-false, lt-ltb, le-ltb, ltb-true, ltb-false, eq-eqb, ne-eqb}
+use lib.ListN.{length, take, drop, length-drop}
+use borrow.Author.Tests.{le-leb, lt-leb, leb-false, lt-ltb, le-ltb, ltb-true, ltb-false}
 use Rattle.base_laws.proofs.Logic.{test}
-use Rattle.base_decimal.specs.declared.Reading.{Reading}
-use Rattle.base_decimal.specs.Answers.{readAt}
-use Rattle.list_parse.specs.declared.Figure.{Figure}
-use Rattle.list_parse.specs.declared.Figure.the-variants.{Nothing, Other}
-use Rattle.list_parse.specs.declared.Figures.{Figures}
-use Rattle.list_parse.specs.declared.Command.{Command}
-use Rattle.list_parse.specs.declared.Command.the-variants.{Unreadable}
+use Rattle.list_words.specs.declared.Figures.{Figures}
+use Rattle.list_words.specs.Line.{figuresAt}
+use Rattle.base_search.specs.Search.{before}
+use Rattle.base_search.proofs.Texts.{before-take, before-length}
+use Rattle.list_commands.specs.declared.Command.{Command}
+use Rattle.list_commands.specs.declared.Command.the-variants.{Unreadable}
+use Rattle.list_names.specs.Names.{parseWith}
 use Rattle.list_parse.specs.declared.Token.{Token}
 use Rattle.list_parse.specs.declared.Token.the-variants.{Line, End}
-use Rattle.list_parse.specs.Line.{before, asFigure, nextFigure, goOn, figuresAt}
-use Rattle.list_parse.specs.Calls.{parseWith, parseLine, lineEnd, nextLine, tokenAt}
-use Rattle.list_parse.proofs.Texts.{before-take, before-length}
-
-module _ (s : List ℕ) (at : ℕ) where
-  pub figure-end : length s ≤ at → Nothing ≡ nextFigure s at
-  figure-end h = rw (le-leb (length s) at h)
-
-  pub figure-other : at < length s → (getD s at 0 ≡ 32 → ⊥) → Other ≡ nextFigure s at
-  figure-other h n = rw (lt-leb (length s) at h, ne-eqb (getD s at 0) 32 n)
-
-  pub figure-read : at < length s → getD s at 0 ≡ 32 → (r q : Reading) → r ≡ readAt s (at + 1) → r ≡ q → asFigure q ≡ nextFigure s at
-  figure-read h e r q p z = ap asFigure (sym z ∙ p) ∙ sym (rw (lt-leb (length s) at h, eq-eqb (getD s at 0) 32 e))
-
--- what was found at a place, and what was made of it
-pub go-on : (here : Figures) (more : ℕ → ℕ → Figures) {f g k : Figure} {r : Figures} → f ≡ g → f ≡ k → r ≡ goOn k here more → r ≡ goOn g here more
-go-on here more e z p = p ∙ ap (λ (x : Figure). goOn x here more) (sym z ∙ e)
-
--- ---- whole lines
+use Rattle.list_parse.specs.Lines.{parseLine, lineEnd, nextLine, tokenAt}
 
 -- the word and the numbers of a line that is not too long
 pub parse-long : (l : List ℕ) → 128 < length l → Unreadable ≡ parseLine l

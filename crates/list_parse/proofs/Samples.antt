@@ -3,10 +3,11 @@ use Prim.Native.Nat.{ℕ}
 use mathlib.Core.Path.{_≡_, refl}
 use mathlib.Core.Bool.{true}
 use mathlib.Core.List.{List, [], _∷_, _++_}
-use Rattle.list_parse.specs.declared.Command.the-variants.{Asks, Unreadable}
-use Rattle.list_parse.specs.declared.Request.the-variants.{Open, Vote, Trim, Fix, Frames}
+use Rattle.list_commands.specs.declared.Command.the-variants.{Asks, Unreadable}
+use Rattle.list_commands.specs.declared.Request.the-variants.{Open, Vote, Trim, Fix, Frames}
 use Rattle.list_parse.specs.declared.Token.the-variants.{Line, End}
-use Rattle.list_parse.specs.Calls.{openName, voteName, trimName, fixName, framesName, parseLine, tokenAt}
+use Rattle.list_names.specs.Names.{openName, voteName, trimName, fixName, framesName}
+use Rattle.list_parse.specs.Lines.{parseLine, tokenAt}
 
 -- "open 01 0" is an opening that reads card 0, since leading zeros are digits; "open  1 0", "open 1" and "open 1 0 " are none
 open-zeros : parseLine (openName ++ (32 ∷ 48 ∷ 49 ∷ 32 ∷ 48 ∷ [])) ≡ Asks (Open 1 0)

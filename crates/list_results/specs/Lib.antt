@@ -1,1 +1,3 @@
 pub mod Result
+pub mod Step
+pub mod Going

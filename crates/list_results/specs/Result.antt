@@ -18,10 +18,11 @@ use Rattle.cabinet.specs.View.{view}
 use Rattle.list_results.specs.declared.Replay.{Replay}
 use Rattle.cabinet.specs.Apply.{applyAll, OpenCarried}
 use Rattle.cabinet_joined.specs.Joined.{FromOwnSheets}
-use Rattle.list_parse.specs.declared.Request.{Request}
-use Rattle.list_parse.specs.declared.Request.the-variants.{Open, Vote, Take, Withdraw, Store, Trim, Safe, Lose, Fix, Roll, Sheet, Restart, Show, Frames}
+use Rattle.list_commands.specs.declared.Request.{Request}
+use Rattle.list_commands.specs.declared.Request.the-variants.{Open, Vote, Take, Withdraw, Store, Trim, Safe, Lose, Fix, Roll, Sheet, Restart, Show, Frames}
 use Rattle.base_text.specs.Put.{Whole}
-use Rattle.list_answers.specs.Texts.{refusedText, replyText}
+use Rattle.list_answer_words.specs.Words.{refusedText}
+use Rattle.list_answers.specs.Texts.{replyText}
 use Rattle.list_answer_show.specs.Show.{showText}
 use Rattle.list_answer_frames.specs.Frames.{framesAnswer}
 

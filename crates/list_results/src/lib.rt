@@ -1,4 +1,6 @@
-// What a line of a list leaves behind.
+// What a line of a list leaves behind, and what there is before the first.
+ghost use mathlib.Core.Path.{_≡_};
+ghost use Rattle.list_results.specs.Going.{nothingYet};
 use base_text::Progress;
 use cabinet::Cabinet;
 
@@ -12,4 +14,16 @@ pub struct Replay {
 pub struct Stepped {
     pub replay: Replay,
     pub written: Progress,
+}
+
+// Before the first cabinet.
+pub fn begin() -> Replay
+    ensures { λ r. ⌜ r ≡ nothingYet ⌝ }
+{
+    let a = Cabinet::fresh(0);
+    let cabinet = a.cabinet;
+    Replay {
+        cabinet,
+        begun: false,
+    }
 }

@@ -1,6 +1,6 @@
 // Lists of calls as text, over slices: text in, answers out.
-ghost use Rattle.list_step.specs.Executed.{nothingYet};
-ghost use Rattle.list_run.specs.Steps.{Passed, Replayed, Counted};
+ghost use Rattle.list_results.specs.Going.{nothingYet};
+ghost use Rattle.list_texts.specs.Steps.{Passed, Replayed, Counted};
 use base_text::Progress;
 use list_parse::Token;
 
@@ -8,7 +8,7 @@ use list_parse::Token;
 fn pass(text: &[u8], out: &mut [u8], from: Progress) -> Progress
     ensures { λ w. ⌜ Passed (now (text .entry)) nothingYet (now (out .entry)) from w (now (out .exit)) ⌝ }
 {
-    let mut r = list_step::begin();
+    let mut r = list_results::begin();
     let mut w = from;
     let mut at = 0;
     loop {
@@ -48,9 +48,5 @@ pub extern "C" fn yerwaqis_replay(text: &[u8], out: &mut [u8]) -> usize
     ensures { λ n. ⌜ Counted (now (text .entry)) (now (out .entry)) n (now (out .exit)) ⌝ }
 {
     let w = run(text, out);
-    match w {
-        Progress::Next(n) => n,
-        Progress::Counting(_) => 18446744073709551615,
-        Progress::TooShort => 18446744073709551615,
-    }
+    base_text::count_of(w)
 }

@@ -1,11 +1,9 @@
 // A line of a list, done where its answer has room.
-ghost use mathlib.Core.Path.{_≡_};
 ghost use Rattle.base_text.specs.declared.Progress.the-variants.{Next};
-ghost use Rattle.list_parse.specs.Calls.{parseLine};
-ghost use Rattle.list_step.specs.Executed.{nothingYet, Executed};
+ghost use Rattle.list_parse.specs.Lines.{parseLine};
+ghost use Rattle.list_texts.specs.Executed.{Executed};
 use base_text::Progress;
-use cabinet::Cabinet;
-use list_parse::Command;
+use list_commands::Command;
 use list_results::Replay;
 use list_results::Stepped;
 
@@ -23,18 +21,6 @@ pub fn execute(r: Replay, said: Command, b: &mut [u8], w: Progress) -> Stepped
         }
     }
     s
-}
-
-// Before the first cabinet.
-pub fn begin() -> Replay
-    ensures { λ r. ⌜ r ≡ nothingYet ⌝ }
-{
-    let a = Cabinet::fresh(0);
-    let cabinet = a.cabinet;
-    Replay {
-        cabinet,
-        begun: false,
-    }
 }
 
 // One line, its byte 10 left out: the answer goes to the front of the buffer, and nothing is done where it has no room there.

@@ -161,7 +161,7 @@ fn finish(f: Reader) {
 }
 
 fn main() {
-    let replay = list_step::begin();
+    let replay = list_results::begin();
     let line = [0u8; 129];
     let mut f = Reader {
         replay,

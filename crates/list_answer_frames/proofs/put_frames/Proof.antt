@@ -2,7 +2,7 @@
 use Prim.Native.Nat.{ℕ, suc, _+_}
 use borrow.Author.Tests.{not-true, not-false}
 use Rattle.base_laws.specs.Below.{tabulate}
-use Rattle.base_text.specs.Lines.{joined}
+use Rattle.base_lines.specs.Lines.{joined}
 use Rattle.base_text.proofs.Puts.{put-then, put-as}
 use Rattle.list_answer_frames.specs.Frames.{ringText}
 use Rattle.list_answer_frames.proofs.Frames.{refused-28, refused-2, told-frames, card-below}

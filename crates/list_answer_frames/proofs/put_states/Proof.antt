@@ -4,9 +4,9 @@ use mathlib.Core.Path.{_≡_, ap}
 use native.Mathlib.Omega.{arith}
 use Rattle.base_laws.specs.Below.{tabulate}
 use Rattle.base_text.specs.Put.{Put}
-use Rattle.base_text.specs.Lines.{joined}
+use Rattle.base_lines.specs.Lines.{joined}
 use Rattle.base_text.proofs.Puts.{put-nothing, put-then, put-as, put-length}
-use Rattle.base_text.proofs.Spaced.{joined-next}
+use Rattle.base_lines.proofs.Spaced.{joined-next}
 use Rattle.list_answer_frames.specs.Frames.{ringText}
 use Rattle.list_answer_frames.proofs.Frames.{ring-as}
 use borrow.Author.Needs.{needs}

@@ -8,9 +8,9 @@ use Rattle.base_decimal.specs.Digits.{decimal}
 use Rattle.cabinet_layout.specs.Shape.{at, presentOf}
 use Rattle.cabinet_layout.proofs.Limits.{width16}
 use Rattle.base_text.specs.Put.{Put}
-use Rattle.base_text.specs.Lines.{textLine, joined}
+use Rattle.base_lines.specs.Lines.{textLine, joined}
 use Rattle.base_text.proofs.Puts.{put-nothing, put-then, put-as, put-length}
-use Rattle.base_text.proofs.Spaced.{joined-more}
+use Rattle.base_lines.proofs.Spaced.{joined-more}
 use borrow.Author.Needs.{needs}
 use Rattle.list_answer_show.proofs.put_cards.Statement.{statement}
 use Rattle.list_answer_show.proofs.put_cards.Tie as tie

@@ -1,8 +1,8 @@
 -- `list_execute::done` does what a line says. Assumes nothing.
 use borrow.Author.Tests.{not-true, not-false}
-use Rattle.list_parse.specs.declared.Command.{Command}
-use Rattle.list_execute.specs.Step.{Steps}
-use Rattle.list_execute.proofs.Laws.{told-for, asked-here, asked-nowhere}
+use Rattle.list_commands.specs.declared.Command.{Command}
+use Rattle.list_results.specs.Step.{Steps}
+use Rattle.list_results.proofs.Steps.{told-for, asked-here, asked-nowhere}
 use borrow.Author.Needs.{needs}
 use Rattle.list_execute.proofs.done.Statement.{statement}
 use Rattle.list_execute.proofs.done.Tie as tie

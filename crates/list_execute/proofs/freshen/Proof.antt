@@ -1,5 +1,5 @@
 -- `list_execute::freshen` puts a fresh cabinet in the place of the present one. Assumes nothing.
-use Rattle.list_execute.proofs.Laws.{freshened-done, freshened-refused}
+use Rattle.list_results.proofs.Steps.{freshened-done, freshened-refused}
 use borrow.Author.Needs.{needs}
 use Rattle.list_execute.proofs.freshen.Statement.{statement}
 use Rattle.list_execute.proofs.freshen.Tie as tie

@@ -4,7 +4,7 @@ use mathlib.Core.Path.{sym, _∙_}
 use native.Mathlib.Omega.{arith}
 use lib.ListN.{length}
 use Rattle.list_parse.proofs.Lines.{heard-forward}
-use Rattle.list_run.proofs.Laws.{Going, going-none, going-more, going-ends}
+use Rattle.list_texts.proofs.Laws.{Going, going-none, going-more, going-ends}
 use borrow.Author.Needs.{needs}
 use Rattle.list_run.proofs.pass.Statement.{statement}
 use Rattle.list_run.proofs.pass.Tie as tie

@@ -3,7 +3,7 @@ use Prim.Native.Nat.{_≤_}
 use native.Mathlib.Omega.{arith}
 use lib.ListN.{length}
 use Rattle.base_text.specs.Put.{greatest}
-use Rattle.list_run.proofs.Laws.{replayed-whole, replayed-counting, replayed-short}
+use Rattle.list_texts.proofs.Laws.{replayed-whole, replayed-counting, replayed-short}
 use borrow.Author.Needs.{needs}
 use Rattle.list_run.proofs.run.Statement.{statement}
 use Rattle.list_run.proofs.run.Tie as tie

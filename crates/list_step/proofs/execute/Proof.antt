@@ -1,5 +1,6 @@
 -- `list_step::execute` does what a line says, or nothing where its answer has no room. Assumes nothing.
-use Rattle.list_step.proofs.Laws.{executed, goes-on, counts-on, stays-there}
+use Rattle.list_results.proofs.Going.{goes-on, counts-on, stays-there}
+use Rattle.list_step.proofs.Laws.{executed}
 use borrow.Author.Needs.{needs}
 use Rattle.list_step.proofs.execute.Statement.{statement}
 use Rattle.list_step.proofs.execute.Tie as tie

@@ -1,0 +1,1 @@
+// Theory alone: what the lines of a text do one after the other.

@@ -1,0 +1,30 @@
+-- `list_whole_words::put_none` writes all of the answer or nothing. Assumes nothing.
+use Prim.Native.Nat.{_≤_}
+use native.Mathlib.Omega.{arith}
+use lib.ListN.{length}
+use Rattle.base_text.specs.Put.{greatest}
+use Rattle.base_text.proofs.Wholes.{whole-of}
+use borrow.Author.Needs.{needs}
+use Rattle.list_whole_words.proofs.put_none.Statement.{statement}
+use Rattle.list_whole_words.proofs.put_none.Tie as tie
+
+put-none-requires : tie.Need-put-none-requires
+put-none-requires c κs = search needs
+
+fitting-requires : tie.Need-fitting-requires
+fitting-requires c κs = search needs
+
+put-none-requires-2 : tie.Need-put-none-requires-2
+put-none-requires-2 c κs = search needs
+
+same-length : tie.Need-same-length
+same-length c = search needs
+
+returns : tie.Need-returns
+returns c =
+    let h : length (c .before .before .before .before .before .before .before .before .before .before .args .b .now) ≤ greatest = omega arith in
+    whole-of h (c .before .before .before .before .before .before .before .put-none .ensures) (c .before .before .before .before .fitting .ensures) (c .before .before .put-none2 .ensures)
+
+pub put-none-spec : {M : Type 1} → statement M
+put-none-spec =
+    tie.close (tie.spec put-none-requires fitting-requires put-none-requires-2 same-length returns)
