@@ -42,7 +42,7 @@ use Rattle.list_commands.specs.declared.Request.the-variants.{Open, Vote, Take,
 use Rattle.list_parse.specs.declared.Token.{Token}
 use Rattle.list_parse.specs.declared.Token.the-variants.{Line, End}
 use Rattle.list_parse.specs.Lines.{tokenAt}
-use Rattle.list_parse.proofs.Lines.{heard-forward}
+use Rattle.list_parse.proofs.Lines.{token-forward}
 use Rattle.list_answer_words.specs.Words.{refusedText, noneText, unreadableText}
 use Rattle.list_answers.specs.Texts.{replyText}
 use Rattle.list_results.specs.declared.Replay.{Replay}
@@ -167,7 +167,7 @@ module _ (s : List ℕ) where
 
   -- what stands at a place that is no end is before the end
   more : {said : Command} {place : ℕ} (k at : ℕ) → length s - at ≤ k → Line said place ≡ tokenAt s at → (1 ≤ k) × (length s - place ≤ k - 1)
-  more k at h e = let f = heard-forward s at e in (omega (arith, f .0, f .1), omega (arith, f .0, f .1))
+  more k at h e = let f = token-forward s at e in (omega (arith, f .0, f .1), omega (arith, f .0, f .1))
 
   -- at the end
   at-end : (at : ℕ) (r : Replay) (t : List ℕ) → Ran s nothingYet at r t → length s - at ≤ 0 → (h : Token) → tokenAt s at ≡ h → Ended

@@ -33,7 +33,7 @@ record Made (s : List ℕ) (at : ℕ) (r : Replay) (t : List ℕ) : Type 0 where
   pub list : List16 n cs (r .cabinet)
   pub listed : Listed s at r t n cs list
 
-module _ (s : List ℕ) (at : ℕ) (r : Replay) (t : List ℕ) (said : Command) (place : ℕ) (heard : Line said place ≡ tokenAt s at) (new : Replay) (u : List ℕ) where
+module _ (s : List ℕ) (at : ℕ) (r : Replay) (t : List ℕ) (said : Command) (place : ℕ) (token : Line said place ≡ tokenAt s at) (new : Replay) (u : List ℕ) where
   -- one call more
   one-more : Made s at r t → (asked : Asked) → Makes said asked → Typed asked → (reply : Reply) (after : Lent) → Answered (r .cabinet) asked reply (new .cabinet) after → u ≡ replyText reply → Made s place new (t ++ u)
   one-more m asked k typed reply after d e =
@@ -42,14 +42,14 @@ module _ (s : List ℕ) (at : ℕ) (r : Replay) (t : List ℕ) (said : Command) 
         n = m .n;
         cs = further (m .cs) (callOf asked) reply;
         list = next (m .list) asked typed reply (new .cabinet) after d;
-        listed = calls (m .listed) said place heard asked k typed reply new after d;
+        listed = calls (m .listed) said place token asked k typed reply new after d;
       })
 
   -- no call
   no-call : Made s at r t → NoCall said → new ≡ r → Steps said r new u → Made s place new (t ++ u)
   no-call m k e d =
       subst (λ (x : Replay). Made s place x (t ++ u)) (sym e)
-      (record { n = m .n; cs = m .cs; list = m .list; listed = stays (m .listed) said place heard k u (subst (λ (x : Replay). Steps said r x u) e d) })
+      (record { n = m .n; cs = m .cs; list = m .list; listed = stays (m .listed) said place token k u (subst (λ (x : Replay). Steps said r x u) e d) })
 
 -- a replay by its parts
 pub same-replay : (r new : Replay) → new .cabinet ≡ r .cabinet → new .begun ≡ r .begun → new ≡ r

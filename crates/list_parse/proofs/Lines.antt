@@ -39,8 +39,8 @@ pub found-within : (s : List ℕ) (from b : ℕ) {r : ℕ} → from ≤ length s
 found-within s from b h e = omega (arith, before-length b (drop from s), length-drop from s)
 
 -- a line of a text, and where the next one begins
-pub heard-end : (s : List ℕ) (from : ℕ) → length s ≤ from → End ≡ tokenAt s from
-heard-end s from h = rw (le-leb (length s) from h)
+pub token-end : (s : List ℕ) (from : ℕ) → length s ≤ from → End ≡ tokenAt s from
+token-end s from h = rw (le-leb (length s) from h)
 
 module _ (s : List ℕ) (from end : ℕ) {r : Command} (h : from < length s) (e : end ≡ from + length (before 10 (drop from s))) (p : r ≡ parseLine (take (end - from) (drop from s))) where
   line-said : r ≡ parseLine (before 10 (drop from s))
@@ -48,20 +48,20 @@ module _ (s : List ℕ) (from end : ℕ) {r : Command} (h : from < length s) (e 
       let k : end - from ≡ length (before 10 (drop from s)) = omega arith in
       p ∙ ap (λ (n : ℕ). parseLine (take n (drop from s))) k ∙ ap parseLine (before-take 10 (drop from s))
 
-  line-heard : (n : ℕ) → n ≡ nextLine s from → Line r n ≡ tokenAt s from
-  line-heard n q = ap₂ Line line-said q ∙ sym (ap (λ (b : Bool). cond b End (Line (parseLine (before 10 (drop from s))) (nextLine s from))) (lt-leb (length s) from h))
+  line-token : (n : ℕ) → n ≡ nextLine s from → Line r n ≡ tokenAt s from
+  line-token n q = ap₂ Line line-said q ∙ sym (ap (λ (b : Bool). cond b End (Line (parseLine (before 10 (drop from s))) (nextLine s from))) (lt-leb (length s) from h))
 
-  pub heard-more : end < length s → Line r (end + 1) ≡ tokenAt s from
-  heard-more l =
-      line-heard (end + 1)
+  pub token-more : end < length s → Line r (end + 1) ≡ tokenAt s from
+  token-more l =
+      line-token (end + 1)
       (ap (λ (k : ℕ). k + 1) e ∙ sym (ap (λ (b : Bool). cond b (lineEnd s from + 1) (lineEnd s from)) (lt-ltb (lineEnd s from) (length s) (omega arith))))
 
-  pub heard-last : length s ≤ end → Line r end ≡ tokenAt s from
-  heard-last l = line-heard end (e ∙ sym (ap (λ (b : Bool). cond b (lineEnd s from + 1) (lineEnd s from)) (le-ltb (lineEnd s from) (length s) (omega arith))))
+  pub token-last : length s ≤ end → Line r end ≡ tokenAt s from
+  token-last l = line-token end (e ∙ sym (ap (λ (b : Bool). cond b (lineEnd s from + 1) (lineEnd s from)) (le-ltb (lineEnd s from) (length s) (omega arith))))
 
 -- the next line begins further on, and at the end at the latest
-pub heard-forward : (s : List ℕ) (from : ℕ) {r : Command} {n : ℕ} → Line r n ≡ tokenAt s from → (from < n) × (n ≤ length s)
-heard-forward s from {r} {n} e =
+pub token-forward : (s : List ℕ) (from : ℕ) {r : Command} {n : ℕ} → Line r n ≡ tokenAt s from → (from < n) × (n ≤ length s)
+token-forward s from {r} {n} e =
     test (leb (length s) from)
     (λ q. let z : Line r n ≡ End = e ∙ ap (λ (b : Bool). cond b End here) q in let k : _≡_ {A = ℕ} 0 1 = cc in absurd (omega arith))
     (λ q.

@@ -12,8 +12,8 @@ fn pass(text: &[u8], out: &mut [u8], from: Progress) -> Progress
     let mut w = from;
     let mut at = 0;
     loop {
-        let heard = list_parse::line_at(text, at);
-        match heard {
+        let token = list_parse::line_at(text, at);
+        match token {
             Token::End => {
                 return w;
             }

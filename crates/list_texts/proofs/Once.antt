@@ -25,15 +25,15 @@ module _ (s : List ℕ) (start : Replay) where
     pub replay : r ≡ q
     pub long : length t ≡ length u
 
-  heard-once : (a b : ℕ) (said said′ : Command) (place place′ : ℕ) → a ≡ b → Line said place ≡ tokenAt s a → Line said′ place′ ≡ tokenAt s b → (said′ ≡ said) × (place ≡ place′)
-  heard-once a b said said′ place place′ e h h′ =
+  token-once : (a b : ℕ) (said said′ : Command) (place place′ : ℕ) → a ≡ b → Line said place ≡ tokenAt s a → Line said′ place′ ≡ tokenAt s b → (said′ ≡ said) × (place ≡ place′)
+  token-once a b said said′ place place′ e h h′ =
       let z : Line said place ≡ Line said′ place′ = h ∙ ap (tokenAt s) e ∙ sym h′ in
       (cc, cc)
 
   further : (a b : ℕ) (r q : Replay) (t u : List ℕ) → Level a b r q t u → (said said′ : Command) (place place′ : ℕ) → Line said place ≡ tokenAt s a → Line said′ place′ ≡ tokenAt s b
       → (n m : Replay) (v w : List ℕ) → Steps said r n v → Steps said′ q m w → Level place place′ n m (t ++ v) (u ++ w)
   further a b r q t u l said said′ place place′ h h′ n m v w st st′ =
-      let c : (said′ ≡ said) × (place ≡ place′) = heard-once a b said said′ place place′ (l .place) h h′ in
+      let c : (said′ ≡ said) × (place ≡ place′) = token-once a b said said′ place place′ (l .place) h h′ in
       let k : Alike n m v w = steps-alike said r st (subst₂ (λ (x : Command) (y : Replay). Steps x y m w) (c .0) (sym (l .replay)) st′) in
       record {
         place = c .1;

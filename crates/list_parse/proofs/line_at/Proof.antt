@@ -1,12 +1,12 @@
 -- `list_parse::line_at` finds the end of a line and reads it. Assumes nothing.
 use native.Mathlib.Omega.{arith}
-use Rattle.list_parse.proofs.Lines.{heard-end, heard-more, heard-last, found-within}
+use Rattle.list_parse.proofs.Lines.{token-end, token-more, token-last, found-within}
 use borrow.Author.Needs.{needs}
 use Rattle.list_parse.proofs.line_at.Statement.{statement}
 use Rattle.list_parse.proofs.line_at.Tie as tie
 
 returns : tie.Need-returns
-returns c = heard-end (c .before .before .args .s .now) (c .before .before .args .from) (search needs)
+returns c = token-end (c .before .before .args .s .now) (c .before .before .args .from) (search needs)
 
 find-requires : tie.Need-find-requires
 find-requires c κs = search needs
@@ -27,10 +27,10 @@ add-t11 : tie.Need-add-t11
 add-t11 c = search needs
 
 returns-2 : tie.Need-returns-2
-returns-2 c = heard-more (c .before .before .before .before .before .before .args .s .now) (c .before .before .before .before .before .before .args .from) _ (search needs) (c .before .before .before .find .ensures) (c .before .parse .ensures) (c .if2 .taken)
+returns-2 c = token-more (c .before .before .before .before .before .before .args .s .now) (c .before .before .before .before .before .before .args .from) _ (search needs) (c .before .before .before .find .ensures) (c .before .parse .ensures) (c .if2 .taken)
 
 returns-3 : tie.Need-returns-3
-returns-3 c = heard-last (c .before .before .before .before .before .before .args .s .now) (c .before .before .before .before .before .before .args .from) _ (search needs) (c .before .before .before .find .ensures) (c .before .parse .ensures) (c .if2 .left)
+returns-3 c = token-last (c .before .before .before .before .before .before .args .s .now) (c .before .before .before .before .before .before .args .from) _ (search needs) (c .before .before .before .find .ensures) (c .before .parse .ensures) (c .if2 .left)
 
 pub line-at-spec : {M : Type 1} → statement M
 line-at-spec =

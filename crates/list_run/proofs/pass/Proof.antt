@@ -3,7 +3,7 @@ use Prim.Native.Nat.{_-_}
 use mathlib.Core.Path.{sym, _∙_}
 use native.Mathlib.Omega.{arith}
 use lib.ListN.{length}
-use Rattle.list_parse.proofs.Lines.{heard-forward}
+use Rattle.list_parse.proofs.Lines.{token-forward}
 use Rattle.list_texts.proofs.Laws.{Going, going-none, going-more, going-ends}
 use borrow.Author.Needs.{needs}
 use Rattle.list_run.proofs.pass.Statement.{statement}
@@ -33,17 +33,17 @@ same-length c = c .before .before .before .loop .inv .size
 returns : tie.Need-returns Inv-loop μ-loop
 returns c = going-ends (c .before .before .before .loop .inv) (c .before .before .line-at .ensures) (c .enum-told .given .1)
 
-enum-known-heard : tie.Need-enum-known-heard Inv-loop μ-loop
-enum-known-heard c = search needs
+enum-known-token : tie.Need-enum-known-token Inv-loop μ-loop
+enum-known-token c = search needs
 
 done-requires : tie.Need-done-requires Inv-loop μ-loop
 done-requires c κs = search needs
 
 loop-less : tie.Need-loop-less Inv-loop μ-loop
-loop-less c = let h = heard-forward (c .before .before .before .before .before .before .before .before .before .before .before .before .before .args .text .now) (c .before .before .before .before .before .before .before .before .before .loop .at) (sym (c .before .before .before .before .before .before .heard .given .1) ∙ c .before .before .before .before .before .before .before .before .line-at .ensures) in omega (arith, h .0, h .1)
+loop-less c = let h = token-forward (c .before .before .before .before .before .before .before .before .before .before .before .before .before .args .text .now) (c .before .before .before .before .before .before .before .before .before .loop .at) (sym (c .before .before .before .before .before .before .token .given .1) ∙ c .before .before .before .before .before .before .before .before .line-at .ensures) in omega (arith, h .0, h .1)
 
 loop-again : tie.Need-loop-again Inv-loop μ-loop
-loop-again c = going-more (c .before .before .before .before .before .before .before .before .before .loop .inv) (c .before .before .before .before .before .before .before .before .line-at .ensures) (c .before .before .before .before .before .before .heard .given .1) (c .before .before .before .«done» .ensures)
+loop-again c = going-more (c .before .before .before .before .before .before .before .before .before .loop .inv) (c .before .before .before .before .before .before .before .before .line-at .ensures) (c .before .before .before .before .before .before .token .given .1) (c .before .before .before .«done» .ensures)
 
 pub pass-spec : {M : Type 1} → statement M
 pass-spec =
@@ -57,7 +57,7 @@ pass-spec =
     enum-told
     same-length
     returns
-    enum-known-heard
+    enum-known-token
     done-requires
     loop-less
     loop-again)
