@@ -2,8 +2,8 @@
 // Every function is total: a card or a number of cards outside the set's 16 digits is answered too.
 ghost use mathlib.Core.Path.{_≡_};
 ghost use mathlib.Core.Bool.{not};
-ghost use Rattle.base_laws.specs.Below.{anyBelow, countBelow, firstBelow};
-ghost use Rattle.base_bits.specs.Sets.{either, both, except, one, below, truncate, inside};
+ghost use Rattle.base_laws.specs.Below.{anyBelow};
+ghost use Rattle.base_bits.specs.Sets.{either, both, except, one, below, truncate};
 ghost use Rattle.base_bits.specs.Member.{member};
 use base_limits::Limits;
 
@@ -77,25 +77,4 @@ pub fn is_empty(set: u16) -> bool
     ensures { λ r. ⌜ r ≡ not (anyBelow 16 (member set)) ⌝ }
 {
     set == 0
-}
-
-// How many cards are in the set.
-pub fn count(set: u16) -> u32
-    ensures { λ r. ⌜ r ≡ countBelow 16 (member set) ⌝ }
-{
-    u16::count_ones(set)
-}
-
-// The lowest card of the set, and 16 where it is empty.
-pub fn lowest(set: u16) -> u32
-    ensures { λ r. ⌜ r ≡ firstBelow 16 (member set) ⌝ }
-{
-    u16::trailing_zeros(set)
-}
-
-// Whether every card of the set is below n.
-pub fn within(set: u16, n: u32) -> bool
-    ensures { λ r. ⌜ r ≡ inside 16 n (member set) ⌝ }
-{
-    if n < WIDTH { set >> n == 0 } else { true }
 }

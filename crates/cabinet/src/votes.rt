@@ -15,7 +15,7 @@ impl Cabinet {
     {
         let core = self.core;
         let valid = cabinet_valid::cabinet_valid(&self.entries, &self.changes, core);
-        let out = cabinet_voting::open(valid, core, reads, writes);
+        let out = cabinet_open::open(valid, core, reads, writes);
         let r = out.reply;
         let next = out.core;
         self.core = next;

@@ -11,9 +11,7 @@ use lib.Dec.{eqb, ltb}
 use borrow.Author.Tests.{lt-ltb, le-leb, ltb-false, eqb-true}
 use Rattle.base_laws.specs.Below.{anyBelow, countBelow, greatest, occurs, one-if}
 use Rattle.base_laws.proofs.Logic.{test, clash, fails, and-intro, and-right, or-elim, cond-true, cond-case}
-use Rattle.base_laws.proofs.Below.{any-elim, Found, greatest-above, any-same, count-same}
-use Rattle.base_bits.specs.Member.{member}
-use Rattle.base_bits.specs.Sets.{below, truncate}
+use Rattle.base_laws.proofs.Below.{any-elim, Found, greatest-above, any-same}
 use Rattle.base_refusal.specs.declared.Refusal.{Refusal}
 use Rattle.base_refusal.specs.declared.Refusal.the-variants.{BadCabinet, TooShort}
 use Rattle.theory_history.specs.Line.{climb}
@@ -72,12 +70,6 @@ module _ (w v : ℕ) (ew : w ≡ 768) (ev : v ≡ 8) (changes line reached ended
         so = refl;
         end = λ j h. fails (lostBy changes line reached ended cards j) (λ (t : lostBy changes line reached ended cards j ≡ true). let l : j ≤ greatest w (at changes) + greatest v (at ended) = lost-below j t in absurd (omega arith));
       }
-
--- the cards of a cabinet of n cards
-pub rows-count : (all n : ℕ) → member all ≡ truncate 16 (below n) → countBelow 16 (member all) ≡ countBelow (limits16 .width) (presentOf n)
-rows-count all n e =
-    ap (countBelow 16) e ∙ count-same 16 (truncate 16 (below n)) (presentOf n) (λ k h. ap (λ (b : Bool). b && ltb k n) (lt-ltb k 16 h))
-    ∙ ap (λ (w : ℕ). countBelow w (presentOf n)) (sym width16)
 
 -- ---- the line is at or above base
 climb-from : (f : ℕ → Bool) (base k : ℕ) → base ≤ climb f base k

@@ -1,20 +1,18 @@
-// The reply of each call: the first check that fails, in document 01's order.
+// The reply of a call: the first check that fails, in document 01's order. Of store and of lose.
 ghost use mathlib.Core.Path.{_≡_};
 ghost use mathlib.Core.Bool.{not};
 ghost use mathlib.Core.List.{[]};
 ghost use Rattle.base_bits.specs.Member.{member};
 ghost use Rattle.theory_protocol.specs.Model.{isCard};
-ghost use Rattle.theory_protocol.specs.Calls.{storeChecks, takeChecks, loseChecks};
-ghost use Rattle.cabinet_layout.specs.Shape.{limits16, headModel, numbersModel, slotsModel};
+ghost use Rattle.theory_protocol.specs.Calls.{storeChecks, loseChecks};
+ghost use Rattle.cabinet_layout.specs.Shape.{limits16, headModel, numbersModel};
 ghost use Rattle.cabinet_layout.specs.Answers.{next, firstFailing, after28};
 use base_limits::Limits;
 use base_refusal::Refusal;
 use base_refusal::Reply;
 use cabinet_layout::Head;
-use cabinet_layout::Slot;
 use cabinet_layout::at;
 use cabinet_layout::is_rolling;
-use cabinet_layout::is_up;
 
 // One check more: it refuses where no earlier one did and it fails.
 pub fn next(earlier: Reply, fails: bool, r: Refusal) -> Reply
@@ -64,30 +62,11 @@ pub fn store_verdict(
     )
 }
 
-// 3. take
-pub fn take_verdict(valid: bool, head: Head, all: [Slot; Limits::SLOTS], k: u32, card: u32) -> Reply
-    ensures { λ r. ⌜ r ≡ firstFailing (after28 (not valid) (takeChecks limits16 (slotsModel head all [] []) k card)) ⌝ }
-{
-    let there = is_card(head, card);
-    let phase = head.phase;
-    let up = is_up(phase);
-    let p = cabinet_slots::slot_of(all, k);
-    let o = cabinet_slots::slot_at(all, p);
-    let made = cabinet_slots::is_decided(o);
-    let due = cabinet_slots::is_awaited(o, o.taken, card);
-    let r = next(Reply::Done, !valid, Refusal::BadCabinet);
-    let r = next(r, !there, Refusal::NoSuchCard);
-    let r = next(r, !up, Refusal::WrongPhase);
-    let r = next(r, !(p < Limits::SLOTS), Refusal::NotAwaited);
-    let r = next(r, !made, Refusal::NotDecided);
-    next(r, !due, Refusal::NotAwaited)
-}
-
 // 8. lose
 pub fn lose_verdict(valid: bool, head: Head, cards: u16) -> Reply
     ensures { λ r. ⌜ r ≡ firstFailing (after28 (not valid) (loseChecks limits16 (headModel head) (member cards))) ⌝ }
 {
-    let inside = base_bits::within(cards, head.cards);
+    let inside = base_set_bounds::within(cards, head.cards);
     let r = next(Reply::Done, !valid, Refusal::BadCabinet);
     next(r, !inside, Refusal::NoSuchCard)
 }

@@ -23,7 +23,8 @@ use Rattle.cabinet_layout.specs.Shape.{limits16, phaseOf, at, ringChange, ringF
 use Rattle.cabinet_layout.proofs.Limits.{width16}
 use Rattle.theory_history.specs.Vector.{noEntries}
 use Rattle.theory_history.specs.Vector as history
-use Rattle.cabinet_sheet.specs.Card.{sessionFor, cardHeader, Within, sheetModel}
+use Rattle.cabinet_sheet_header.specs.Told.{sessionFor, cardHeader}
+use Rattle.cabinet_sheet.specs.Card.{Within, sheetModel}
 
 -- ---- a frame in hand is what stands in the ring
 module _ (entries changes base top : List ℕ) (c x : ℕ) (e : inHand base top c x ≡ true) where

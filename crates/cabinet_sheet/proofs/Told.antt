@@ -27,7 +27,8 @@ use Rattle.sheet_lines.specs.Format.{formats}
 use Rattle.sheet_lines.specs.Lines.{formatFor, headerAllowed}
 use Rattle.sheet_pages.specs.Pages.{Page, pageBytes}
 use Rattle.sheet_pages.specs.Ring.{ringPage}
-use Rattle.cabinet_sheet.specs.Card.{cardHeader, Within, sheetModel, sheetPlanFor, SheetResult}
+use Rattle.cabinet_sheet_header.specs.Told.{cardHeader}
+use Rattle.cabinet_sheet.specs.Card.{Within, sheetModel, sheetPlanFor, SheetResult}
 use Rattle.cabinet_sheet.proofs.Sheets.{page-is, header-passes}
 
 -- a plan that refuses, and a writer that answers that refusal and changes no byte

@@ -1,13 +1,11 @@
 -- A card's sheet out of a cabinet held in lists, and what its writer answers and leaves in the buffer.
-use Prim.Native.Nat.{ℕ, suc, _+_, _-_, _≤_, _<_}
+use Prim.Native.Nat.{ℕ, _+_, _≤_, _<_}
 use mathlib.Core.Path.{_≡_}
-use mathlib.Core.Bool.{Bool, true, not, _&&_, cond}
+use mathlib.Core.Bool.{Bool, true, not}
 use mathlib.Core.List.{List, []}
 use lib.ListN.{length, take}
 use lib.Seq.{sets}
 use Rattle.base_limits.specs.Document.{mostCards, mostInHand, lastState, lastNumber}
-use Rattle.base_bits.specs.Member.{member}
-use Rattle.sheet_lines.specs.declared.Header.{Header}
 use Rattle.sheet_lines.specs.Format.{formats}
 use Rattle.sheet_pages.specs.Pages.{pageBytes}
 use Rattle.theory_protocol.specs.Model.{Model, isRolling}
@@ -20,14 +18,6 @@ use Rattle.cabinet_layout.specs.Shape.{limits16, phaseOf, at, bare, withNumbers
 use Rattle.cabinet_layout.specs.Answers.{after28}
 use Rattle.sheet_page_writer.specs.declared.Written.{Written}
 use Rattle.sheet_page_writer.specs.declared.Written.the-variants.{Length, Refused}
-
--- "A card already rolled writes the next session's number."
-abbrev pub sessionFor : Head → (rolled card : ℕ) → ℕ
-sessionFor h rolled c = cond (isRolling (phaseOf (h .phase)) && member rolled c) (suc (h .session)) (h .session)
-
--- the header of card c's sheet: "Frames run from base + 1 to stored."
-abbrev pub cardHeader : Head → (rolled base stored card : ℕ) → Header
-cardHeader h rolled base stored c = record { session = sessionFor h rolled c; card = c; cards = h .cards; base = base; count = stored - base }
 
 -- what a cabinet that passes 28 shows of its head, and of the numbers of card c where it is there
 pub record Within (h : Head) (base stored : List ℕ) (c : ℕ) : Type 0 where

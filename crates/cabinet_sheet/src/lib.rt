@@ -1,51 +1,18 @@
 // A card's sheet out of a cabinet, and its bytes in a lent buffer.
-ghost use Prim.Native.Nat.{_≤_};
 ghost use mathlib.Core.Path.{_≡_};
 ghost use mathlib.Core.Bool.{true};
 ghost use lib.ListN.{length};
-ghost use Rattle.theory_protocol.specs.Model.{isRolling};
 ghost use Rattle.theory_protocol.specs.Codec.{sheetPlan};
 ghost use Rattle.theory_codec.specs.Sheets.{codec};
-ghost use Rattle.cabinet_layout.specs.Shape.{limits16, phaseOf, modelOf};
-ghost use Rattle.cabinet_sheet.specs.Card.{sessionFor, cardHeader, Within, sheetModel, sheetPlanFor, SheetResult};
+ghost use Rattle.cabinet_layout.specs.Shape.{limits16, modelOf};
+ghost use Rattle.cabinet_sheet.specs.Card.{Within, sheetModel, sheetPlanFor, SheetResult};
 use base_limits::Limits;
 use base_refusal::Refusal;
 use cabinet_layout::Core;
 use cabinet_layout::Head;
-use cabinet_layout::is_rolling;
 use cabinet_replies::is_card;
-use sheet_lines::Header;
+use cabinet_sheet_header::header_of;
 use sheet_page_writer::Written;
-
-// "A card already rolled writes the next session's number."
-fn session_for(head: Head, rolled: u16, card: u32) -> u32
-    requires { ⌜ (isRolling (phaseOf (head .phase)) ≡ true → head .session ≡ 4294967295 → ⊥) ⌝ }
-    ensures { λ r. ⌜ r ≡ sessionFor head rolled card ⌝ }
-{
-    let phase = head.phase;
-    let rolling = is_rolling(phase);
-    let done = base_bits::has(rolled, card);
-    if rolling & done {
-        head.session + 1
-    } else {
-        head.session
-    }
-}
-
-// The header of a card's sheet, by the card's base and stored number.
-fn header_of(head: Head, rolled: u16, base: u32, stored: u32, card: u32) -> Header
-    requires { ⌜ (base ≤ stored) × (isRolling (phaseOf (head .phase)) ≡ true → head .session ≡ 4294967295 → ⊥) ⌝ }
-    ensures { λ r. ⌜ r ≡ cardHeader head rolled base stored card ⌝ }
-{
-    let session = session_for(head, rolled, card);
-    Header {
-        session,
-        card,
-        cards: head.cards,
-        base,
-        count: stored - base,
-    }
-}
 
 // Writes a card's sheet at the front of the lent buffer: 28, 2, 4, or its length. A refusal changes no byte.
 fn write_card<'a, 'b>(

@@ -40,14 +40,14 @@ pub fn lose(valid: bool, mut core: Core, cards: u16) -> CoreAnswer
     let r = cabinet_replies::lose_verdict(valid, head, cards);
     match r {
         Reply::Done => {
-            let fallen = cabinet_parts::fallen(held, stored, cards);
+            let fallen = cabinet_losing::fallen(held, stored, cards);
             core.held = fallen;
             let phase = head.phase;
             let up = cabinet_layout::is_up(phase);
             if up {
-                let ended = cabinet_parts::ended_numbers(slots);
+                let ended = cabinet_losing::ended_numbers(slots);
                 core.ended = ended;
-                let free = cabinet_parts::no_slots();
+                let free = cabinet_losing::no_slots();
                 core.slots = free;
                 let down = cabinet_layout::in_phase(head, Phase::Down);
                 core.head = down;

@@ -24,7 +24,7 @@ pub fn take(valid: bool, mut core: Core, change: u32, card: u32) -> TakenCore
 {
     let slots = core.slots;
     let head = core.head;
-    let r = cabinet_replies::take_verdict(valid, head, slots, change, card);
+    let r = cabinet_slot_replies::take_verdict(valid, head, slots, change, card);
     let mut frame = Vector {
         entries: [0u32; Limits::CARDS],
     };
@@ -34,7 +34,7 @@ pub fn take(valid: bool, mut core: Core, change: u32, card: u32) -> TakenCore
         Reply::Done => {
             let at = cabinet_slots::slot_of(slots, change);
             let o = slots[at];
-            let shared = cabinet_slots::took(o, card);
+            let shared = cabinet_awaited::took(o, card);
             core.slots[at] = shared;
             let w = cabinet_parts::vector_of(o);
             let c = card as usize;

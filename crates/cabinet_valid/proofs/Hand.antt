@@ -1,31 +1,24 @@
 -- The frames in hand are those at the ring's places, where the check for 28 looks. Assumes nothing.
-use Prim.Native.Nat.{ℕ, zero, suc, _+_, _*_, _-_, _%_, _≤_, _<_}
+use Prim.Native.Nat.{ℕ, zero, suc, _+_, _-_, _<_}
 use mathlib.Core.Path.{_≡_, sym, _∙_, ap, ap₂}
 use mathlib.Core.Bool.{Bool, true, not, _&&_, _||_, cond}
-use mathlib.Core.List.{List, []}
+use mathlib.Core.List.{List}
 use native.Mathlib.Omega.{arith}
 use lib.Dec.{eqb, leb, ltb}
-use native.Mathlib.Numerals.{add-one}
-use native.Mathlib.Decide.{decLe}
-use mathlib.Core.Logic.{by-cases}
-use borrow.Author.Tests.{lt-ltb, le-ltb, le-leb, eq-eqb, ne-eqb}
-use Rattle.base_laws.specs.Below.{allBelow, anyBelow}
+use borrow.Author.Tests.{lt-ltb, le-leb}
+use Rattle.base_laws.specs.Below.{allBelow}
 use Rattle.base_laws.proofs.Logic.{and-intro}
 use Rattle.base_laws.proofs.Fill.{all-same}
-use Rattle.base_bits.specs.Sets.{subset, below, either}
-use Rattle.base_bits.specs.Member.{member}
 use Rattle.theory_history.specs.Vector as history
 use Rattle.theory_history.specs.Vector.{noEntries}
 use Rattle.theory_history.specs.Change.{CardSet}
-use Rattle.theory_protocol.specs.Model.{Memory, StateNumbers, up, toWrite, strays}
-use Rattle.theory_protocol.specs.Valid.{frameValid, risesValid, framesValid, entriesValid, numbersValid, lineValid, cardValid, roomToWrite, slotValid}
+use Rattle.theory_protocol.specs.Model.{Memory, StateNumbers, up}
+use Rattle.theory_protocol.specs.Valid.{frameValid, risesValid, framesValid, entriesValid, numbersValid, lineValid, cardValid}
 use Rattle.cabinet_layout.specs.declared.Head.{Head}
 use Rattle.cabinet_layout.specs.declared.Vector.{Vector}
-use Rattle.cabinet_layout.specs.declared.Slot.{Slot}
 use Rattle.cabinet_layout.specs.declared.Core.{Core}
-use Rattle.cabinet_layout.specs.Shape.{limits16, phaseOf, at, presentOf, vectorAt, ring, ringChange, ringFrame, truncate, numbersOf, partOf, inHand, changeInHand, frameInHand, openOf, numbersModel, modelOf, thereValid}
+use Rattle.cabinet_layout.specs.Shape.{limits16, phaseOf, at, presentOf, vectorAt, ring, ringChange, ringFrame, truncate, numbersOf, partOf, inHand, changeInHand, frameInHand, modelOf, thereValid}
 use Rattle.cabinet_layout.proofs.Limits.{width16}
-use Rattle.cabinet_layout.proofs.Cards.{strays-within}
 use Rattle.cabinet_numbers.proofs.Tests.{entries-absent}
 
 module _ (entries changes base reached : List ℕ) (last pending : List Vector) where
@@ -77,34 +70,6 @@ module _ (entries changes base reached : List ℕ) (last pending : List Vector) 
           let i : inHand base reached c (at base c + suc k) ≡ true = ap (λ (x : ℕ). inHand base reached c x) (let e : at base c + suc k ≡ suc (at base c + k) = omega arith in e) ∙ in-hand c k l in
           ap₂ (λ (a b : Bool). a && (eqb (suc k) 0 || b)) (frame-here n c (suc (at base c + suc k)) b16 (in-hand c (suc k) h)) (rises-here c (at base c + suc k) i (in-hand c (suc k) h))
 
--- carried along, the place of a state among the 48 of its card is the state's remainder
-pub next-slot : (x s r : ℕ) → s ≡ x % 48 → r ≡ cond (ltb s 47) (s + 1) 0 → r ≡ suc x % 48
-next-slot x s r es er =
-    by-cases (decLe 47 s)
-    (λ (h : 47 ≤ s). let e : r ≡ 0 = er ∙ ap (λ (b : Bool). cond b (s + 1) 0) (le-ltb s 47 h) in omega (arith, es, e, h))
-    (λ (h : 47 ≤ s → ⊥). let l : s < 47 = omega (arith, h) in let e : r ≡ s + 1 = er ∙ ap (λ (b : Bool). cond b (s + 1) 0) (lt-ltb s 47 l) in omega (arith, es, e, l))
-
--- a frame and its step from the one before, at places of the ring
-abbrev frameAt : (entries changes : List ℕ) (n c place x : ℕ) → Bool
-frameAt entries changes n c place x =
-    not (eqb (at changes place) 0) && eqb (at entries (place * 16 + c)) x && entriesValid limits16 (presentOf n) (λ j. at entries (place * 16 + j))
-
-abbrev risesAt : (entries changes : List ℕ) (place next : ℕ) → Bool
-risesAt entries changes place next =
-    ltb (at changes place) (at changes next) && allBelow (limits16 .width) (λ j. leb (at entries (place * 16 + j)) (at entries (next * 16 + j)))
-
-pub step-whole : (entries changes : List ℕ) (n c base reached k s r : ℕ) (f g : Bool)
-    → s ≡ (base + k) % 48
-    → r ≡ suc (base + k) % 48
-    → f ≡ frameAt entries changes n c (c * 48 + r) (base + k + 1)
-    → g ≡ risesAt entries changes (c * 48 + s) (c * 48 + r)
-    → f && (eqb k 0 || g)
-    ≡ frameValid limits16 (partOf n up (numbersOf base 0 0 reached) (ring entries changes) 0) c (suc (base + k)) && (eqb k 0 || risesValid limits16 (ring entries changes) c (base + k))
-step-whole entries changes n c base reached k s r f g es er ef eg =
-    ap₂ (λ (a b : Bool). a && (eqb k 0 || b))
-    (ef ∙ ap₂ (λ (y x : ℕ). frameAt entries changes n c (c * 48 + y) x) er (add-one (base + k)))
-    (eg ∙ ap₂ (λ (y z : ℕ). risesAt entries changes (c * 48 + y) (c * 48 + z)) es er)
-
 -- the flags that the check of a card works out, with the cards that its vectors may have entries of
 pub card-flags : (h : Head) (c n : ℕ) (last pending : List ℕ) (a b w there : Bool)
     → n ≡ cond (presentOf (h .cards) c) (h .cards) 0
@@ -119,41 +84,14 @@ card-flags h c n last pending a b w there en ea eb ew =
     ap₂ (λ (x y : Bool). x && y) (ap₂ (λ (x y : Bool). x && y) (ea ∙ seen (at last)) (eb ∙ seen (at pending))) (ap (λ (x : Bool). not (presentOf (h .cards) c) || x) ew)
 
 -- what the check of a card says of its elements is what the definition says of the card
-pub card-whole : (entries changes : List ℕ) (s : Core) (c : ℕ)
+pub card-whole : (entries changes : List ℕ) (s : Core) (c : ℕ) (found : Bool)
     → c < 16
-    → entriesValid limits16 (λ j. presentOf (s .head .cards) c && presentOf (s .head .cards) j) (vectorAt (s .last) c) && entriesValid limits16 (λ j. presentOf (s .head .cards) c && presentOf (s .head .cards) j) (vectorAt (s .pending) c)
+    → found
+    ≡ entriesValid limits16 (λ j. presentOf (s .head .cards) c && presentOf (s .head .cards) j) (vectorAt (s .last) c) && entriesValid limits16 (λ j. presentOf (s .head .cards) c && presentOf (s .head .cards) j) (vectorAt (s .pending) c)
     && (not (presentOf (s .head .cards) c) || thereValid (partOf (s .head .cards) (phaseOf (s .head .phase)) (numbersOf (at (s .base) c) (at (s .stored) c) (at (s .held) c) (at (s .reached) c)) (ring entries changes) (at (s .line) c)) c)
-    ≡ cardValid limits16 (modelOf entries changes s) c
-card-whole entries changes s c b16 =
-    ap (λ (x : Bool). entriesValid limits16 (λ j. presentOf (s .head .cards) c && presentOf (s .head .cards) j) (vectorAt (s .last) c) && entriesValid limits16 (λ j. presentOf (s .head .cards) c && presentOf (s .head .cards) j) (vectorAt (s .pending) c)
+    → found ≡ cardValid limits16 (modelOf entries changes s) c
+card-whole entries changes s c found b16 e =
+    e
+    ∙ ap (λ (x : Bool). entriesValid limits16 (λ j. presentOf (s .head .cards) c && presentOf (s .head .cards) j) (vectorAt (s .last) c) && entriesValid limits16 (λ j. presentOf (s .head .cards) c && presentOf (s .head .cards) j) (vectorAt (s .pending) c)
     && (not (presentOf (s .head .cards) c) || (numbersValid limits16 (numbersOf (at (s .base) c) (at (s .stored) c) (at (s .held) c) (at (s .reached) c)) c && lineValid (partOf (s .head .cards) (phaseOf (s .head .phase)) (numbersOf (at (s .base) c) (at (s .stored) c) (at (s .held) c) (at (s .reached) c)) (ring entries changes) (at (s .line) c)) c && x)))
     (sym (frames-in-hand entries changes (s .base) (s .reached) (s .last) (s .pending) (s .head .cards) c b16))
-
--- what is looked at of an open change
-abbrev openValid : (o : Slot) (base reached : List ℕ) → Head → Bool
-openValid o base reached h =
-    not (strays limits16 (numbersModel h base [] [] reached) (either (member (o .reads)) (member (o .writes))))
-    && allBelow (limits16 .width) (λ c. not (toWrite (openOf o) c) || roomToWrite limits16 (numbersOf (at base c) 0 0 (at reached c)) 0)
-    && entriesValid limits16 (presentOf (h .cards)) (at (o .vector))
-
--- a free slot is valid
-pub slot-free : (o : Slot) (base reached : List ℕ) (h : Head) → o .number ≡ 0
-    → true ≡ slotValid limits16 (numbersModel h base [] [] reached) (openOf o)
-slot-free o base reached h z =
-    sym (ap (λ (b : Bool). not (not b) || openValid o base reached h) (eq-eqb (o .number) 0 z))
-
--- the flags that the check of an open change works out are what the definition says of it
-pub slot-whole : (o : Slot) (base reached : List ℕ) (h : Head) (touched : ℕ) (i f e : Bool)
-    → (o .number ≡ 0 → ⊥)
-    → member touched ≡ either (member (o .reads)) (member (o .writes))
-    → i ≡ subset 16 (member touched) (below (h .cards))
-    → f ≡ allBelow (limits16 .width) (λ c. not (toWrite (openOf o) c) || roomToWrite limits16 (numbersOf (at base c) 0 0 (at reached c)) 0)
-    → e ≡ entriesValid limits16 (presentOf (h .cards)) (at (o .vector))
-    → i && f && e ≡ slotValid limits16 (numbersModel h base [] [] reached) (openOf o)
-slot-whole o base reached h touched i f e full et ei ef ee =
-    let s : CardSet = either (member (o .reads)) (member (o .writes)) in
-    let inside : i ≡ not (strays limits16 (numbersModel h base [] [] reached) s) =
-    ei ∙ ap (λ (p : CardSet). subset 16 p (below (h .cards))) et ∙ sym (strays-within 16 (h .cards) s)
-    ∙ ap (λ (w : ℕ). not (anyBelow w (λ c. s c && not (presentOf (h .cards) c)))) (sym width16) in
-    ap₂ (λ (x y : Bool). x && y) (ap₂ (λ (x y : Bool). x && y) inside ef) ee
-    ∙ sym (ap (λ (b : Bool). not (not b) || openValid o base reached h) (ne-eqb (o .number) 0 full))

@@ -1,46 +1,12 @@
-// Calls 1, 2 and 4 over the core of a cabinet: open, vote, withdraw. Each is told what the check for 28 found.
+// Calls 2 and 4 over the core of a cabinet: vote, withdraw. Each is told what the check for 28 found.
 ghost use mathlib.Core.Path.{_≡_};
 ghost use mathlib.Core.Bool.{true};
-ghost use Rattle.cabinet_layout.specs.Answers.{replyOf, openReplyOf};
+ghost use Rattle.cabinet_layout.specs.Answers.{replyOf};
 ghost use Rattle.cabinet_layout.specs.Applied.{CoreCarried};
-ghost use Rattle.cabinet_plans.specs.Plans.{Stands, OpenCarriedOn, voteOn, withdrawOn};
+ghost use Rattle.cabinet_plans.specs.Plans.{Stands, voteOn, withdrawOn};
 use base_refusal::Reply;
 use cabinet_layout::Core;
 use cabinet_layout::CoreAnswer;
-use cabinet_layout::OpenReply;
-
-// What open hands back.
-pub struct OpenedCore {
-    pub core: Core,
-    pub reply: OpenReply,
-}
-
-// 1. open. Of the cards that are barred the lowest is named.
-pub fn open(valid: bool, mut core: Core, reads: u16, writes: u16) -> OpenedCore
-    ensures { λ r. ⌜ OpenCarriedOn valid core reads writes (openReplyOf (r .reply)) (r .core) ⌝ }
-{
-    let slots = core.slots;
-    let base = core.base;
-    let reached = core.reached;
-    let head = core.head;
-    let r = cabinet_opening::open_verdict(valid, head, slots, base, reached, reads, writes);
-    let answer = cabinet_parts::open_answer(r, head.latest);
-    match r {
-        Reply::Done => {
-            let at = cabinet_slots::free_at(slots);
-            let k = head.latest + 1;
-            let o = cabinet_opening::opened(k, reads, writes);
-            core.slots[at] = o;
-            let h = cabinet_layout::counted(head, k);
-            core.head = h;
-        }
-        Reply::Refused(_) => {}
-    }
-    OpenedCore {
-        core: core,
-        reply: answer,
-    }
-}
 
 // 2. vote
 pub fn vote(valid: bool, mut core: Core, change: u32, card: u32, agrees: bool) -> CoreAnswer
@@ -52,7 +18,7 @@ pub fn vote(valid: bool, mut core: Core, change: u32, card: u32, agrees: bool) -
     let slots = core.slots;
     let reached = core.reached;
     let head = core.head;
-    let r = cabinet_changes::vote_verdict(valid, head, slots, change, card);
+    let r = cabinet_slot_replies::vote_verdict(valid, head, slots, change, card);
     match r {
         Reply::Done => {
             let at = cabinet_slots::slot_of(slots, change);
@@ -74,7 +40,7 @@ pub fn withdraw(valid: bool, mut core: Core, change: u32) -> CoreAnswer
 {
     let slots = core.slots;
     let head = core.head;
-    let r = cabinet_changes::withdraw_verdict(valid, head, slots, change);
+    let r = cabinet_slot_replies::withdraw_verdict(valid, head, slots, change);
     match r {
         Reply::Done => {
             let at = cabinet_slots::slot_of(slots, change);

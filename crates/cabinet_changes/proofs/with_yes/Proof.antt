@@ -8,7 +8,7 @@ use Rattle.base_laws.proofs.Logic.{cond-true, cond-false}
 use Rattle.base_laws.specs.Below.{allBelow}
 use mathlib.Core.Path.{_≡_, refl, sym, _∙_, ap}
 use mathlib.Core.Bool.{true, false, not, _||_}
-use Rattle.cabinet_slots.proofs.Votes.{none-awaited}
+use Rattle.cabinet_awaited.proofs.Votes.{none-awaited}
 use borrow.Author.Needs.{needs}
 use Rattle.cabinet_changes.proofs.with_yes.Statement.{statement}
 use Rattle.cabinet_changes.proofs.with_yes.Tie as tie

@@ -1,5 +1,4 @@
 use Prim.Native.Nat.{_-_}
-use mathlib.Core.Path.{_∙_}
 use Rattle.base_laws.proofs.Fill.{AllSoFar, all-none, all-more, all-done}
 use Rattle.theory_protocol.specs.Valid.{cardValid}
 use Rattle.cabinet_layout.specs.Shape.{limits16, bare, withVectors, withNumbers, withLine, modelOf}
@@ -70,7 +69,7 @@ loop-less : tie.Need-loop-less Inv-loop μ-loop
 loop-less c = search needs
 
 loop-again : tie.Need-loop-again Inv-loop μ-loop
-loop-again c = let a : _ = c .before .before .before .before .before .before .before .before .before .before .before .before .before .before .before .args in all-more (c .before .before .before .before .before .before .loop .inv) (c .before .before .before .before .before .loop-test .taken) (c .card-valid .ensures ∙ card-whole (a .entries .now) (a .changes .now) (a .core) (c .before .before .before .before .before .before .loop .c) (c .before .before .before .before .before .loop-test .taken))
+loop-again c = let a : _ = c .before .before .before .before .before .before .before .before .before .before .before .before .before .before .before .args in all-more (c .before .before .before .before .before .before .loop .inv) (c .before .before .before .before .before .loop-test .taken) (card-whole (a .entries .now) (a .changes .now) (a .core) (c .before .before .before .before .before .before .loop .c) _ (c .before .before .before .before .before .loop-test .taken) (c .card-valid .ensures))
 
 returns : tie.Need-returns Inv-loop μ-loop
 returns c = all-done (c .before .loop .inv) (c .loop-test .left) width16
