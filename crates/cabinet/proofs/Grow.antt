@@ -1,17 +1,18 @@
 -- The law of an append: the ring shows the new frame at its state, and every other frame in hand as it was. Assumes nothing.
-use Prim.Native.Nat.{ℕ, zero, suc, _+_, _*_, _≤_, _<_}
+use Prim.Native.Nat.{ℕ, suc, _+_, _*_, _≤_, _<_}
 use mathlib.Core.Path.{_≡_, refl, sym, _∙_, ap, ap₂}
 use mathlib.Core.Bool.{Bool, true, false, _&&_, cond}
-use mathlib.Core.List.{List, [], _∷_}
+use mathlib.Core.List.{List, []}
 use mathlib.Core.Logic.{_⊎_, inl, inr, by-cases}
 use native.Mathlib.Decide.{decLt, ℕ-discrete}
 use native.Mathlib.Omega.{arith}
 use lib.Dec.{eqb, leb, ltb}
-use lib.ListN.{length, getD, set, length-set}
+use lib.ListN.{length, set}
 use lib.Seq.{sets, getD-set-same, getD-set-other}
 use borrow.Author.Tests.{eq-eqb, ne-eqb, lt-ltb, le-ltb, le-leb, ltb-true, leb-true}
 use Rattle.base_limits.specs.Ring.{ringPlace}
 use Rattle.base_laws.proofs.Logic.{test, and-left, and-right, and-intro, same-test}
+use Rattle.base_laws.proofs.Seq.{sets-outside, sets-inside}
 use Rattle.base_laws.proofs.Fill.{length-tabulate}
 use Rattle.theory_history.specs.Vector.{noEntries}
 use Rattle.theory_history.specs.Vector as history
@@ -25,29 +26,6 @@ use Rattle.cabinet.specs.declared.Cabinet.{Cabinet}
 use Rattle.cabinet.specs.View.{view}
 use Rattle.cabinet.specs.Apply.{apply}
 use Rattle.cabinet.proofs.Laws.{shown-set, at-set}
-
--- ---- what a list shows after a run of stores
-module _ {A : Type 0} where
-  pub getD-sets-out : (vs l : List A) (i k : ℕ) (d : A) → (k < i) ⊎ (i + length vs ≤ k) → getD (sets l i vs) k d ≡ getD l k d
-  getD-sets-out [] l i k d h = refl
-  getD-sets-out (a ∷ vs) l i k d h = getD-sets-out vs (set l i a) (suc i) k d (further h) ∙ getD-set-other l i k a d (apart h)
-    where
-      further : (k < i) ⊎ (i + suc (length vs) ≤ k) → (k < suc i) ⊎ (suc i + length vs ≤ k)
-      further (inl l) = inl (omega arith)
-      further (inr l) = inr (omega arith)
-
-      apart : (k < i) ⊎ (i + suc (length vs) ≤ k) → ¬ (k ≡ i)
-      apart (inl l) e = omega arith
-      apart (inr l) e = omega arith
-
-  pub getD-sets-in : (vs l : List A) (i j : ℕ) (d : A) → i + length vs ≤ length l → j < length vs → getD (sets l i vs) (i + j) d ≡ getD vs j d
-  getD-sets-in [] l i j d h g = absurd (omega arith)
-  getD-sets-in (a ∷ vs) l i zero d h g =
-      ap (λ (k : ℕ). getD (sets (set l i a) (suc i) vs) k d) (let e : i + 0 ≡ i = omega arith in e)
-      ∙ getD-sets-out vs (set l i a) (suc i) i d (inl (omega arith)) ∙ getD-set-same l i a d (omega arith)
-  getD-sets-in (a ∷ vs) l i (suc j) d h g =
-      ap (λ (k : ℕ). getD (sets (set l i a) (suc i) vs) k d) (let e : i + suc j ≡ suc i + j = omega arith in e)
-      ∙ getD-sets-in vs (set l i a) (suc i) j d (let q : length (set l i a) ≡ length l = length-set l i a in omega arith) (omega arith)
 
 -- ---- the ring
 places-apart : (d y c x : ℕ) → ¬ (d ≡ c) → ¬ (ringPlace d y ≡ ringPlace c x)
@@ -149,7 +127,7 @@ module _ (s : Cabinet) (c k : ℕ) (v : history.Vector) (g : Grows s c v) where
       inside : (j : ℕ) → j < 16 → truncate (ringFrame (sets (s .entries) from (listOf v)) c x) j ≡ v j
       inside j h =
           ap (λ (b : Bool). cond b (at (sets (s .entries) from (listOf v)) (from + j)) 0) (lt-ltb j (limits16 .width) (omega (arith, width16)))
-          ∙ getD-sets-in (listOf v) (s .entries) from j 0 (omega (arith, listed, g .entries, g .card)) (omega (arith, listed)) ∙ at-list v j h
+          ∙ sets-inside (listOf v) (s .entries) from j 0 (omega (arith, listed, g .entries, g .card)) (omega (arith, listed)) ∙ at-list v j h
 
       outside : (j : ℕ) → ¬ (j < 16) → truncate (ringFrame (sets (s .entries) from (listOf v)) c x) j ≡ v j
       outside j h =
@@ -166,7 +144,7 @@ module _ (s : Cabinet) (c k : ℕ) (v : history.Vector) (g : Grows s c v) where
           (λ b. by-cases (decLt (ringPlace c x) (ringPlace d y)) (λ b′. inr (omega (arith, listed))) (λ b′. absurd (h (omega (arith, b, b′)))))
 
       inside : (j : ℕ) → j < 16 → truncate (ringFrame (sets (s .entries) from (listOf v)) d y) j ≡ truncate (ringFrame (s .entries) d y) j
-      inside j l = ap (λ (e : ℕ). cond (ltb j (limits16 .width)) e 0) (getD-sets-out (listOf v) (s .entries) from (ringPlace d y * 16 + j) 0 (apart j l))
+      inside j l = ap (λ (e : ℕ). cond (ltb j (limits16 .width)) e 0) (sets-outside (listOf v) (s .entries) from (ringPlace d y * 16 + j) 0 (apart j l))
 
       outside : (j : ℕ) → ¬ (j < 16) → truncate (ringFrame (sets (s .entries) from (listOf v)) d y) j ≡ truncate (ringFrame (s .entries) d y) j
       outside j l =

@@ -1,8 +1,8 @@
--- `check_forged::summit::check` ends after 100 sessions. Assumes nothing.
+-- `check_forged::summit::climbed` ends after 100 sessions. Assumes nothing.
 use Prim.Native.Nat.{_-_}
 use borrow.Author.Needs.{needs}
-use Rattle.check_forged.proofs.summit.check.Statement.{statement}
-use Rattle.check_forged.proofs.summit.check.Tie as tie
+use Rattle.check_forged.proofs.summit.climbed.Statement.{statement}
+use Rattle.check_forged.proofs.summit.climbed.Tie as tie
 
 abbrev Inv-loop : tie.InvT-loop
 Inv-loop c₀ from₀ c from = Unit {0}
@@ -31,14 +31,11 @@ loop-less c = search needs
 loop-again : tie.Need-loop-again Inv-loop μ-loop
 loop-again c = search needs
 
-run-requires : tie.Need-run-requires Inv-loop μ-loop
-run-requires c κs = search needs
-
 returns : tie.Need-returns Inv-loop μ-loop
 returns c = search needs
 
-pub check-spec : {M : Type 1} → statement M
-check-spec =
+pub climbed-spec : {M : Type 1} → statement M
+climbed-spec =
     tie.close
     (tie.spec
     Inv-loop
@@ -50,5 +47,4 @@ check-spec =
     add-from
     loop-less
     loop-again
-    run-requires
     returns)
