@@ -33,16 +33,14 @@ before-length b (a ∷ s) = test (eqb a b) (λ e. rw e (omega arith)) (λ e. rw 
 
 -- The byte b is looked for from `from` on and was not found before i.
 pub record Missed (s : List ℕ) (from b i : ℕ) : Type 0 where
-  pub inside : i ≤ length s
   pub end : i + length (before b (drop i s)) ≡ from + length (before b (drop from s))
 
-pub missed-none : (s : List ℕ) (from b : ℕ) → from ≤ length s → Missed s from b from
-missed-none s from b h = record { inside = h; end = refl }
+pub missed-none : (s : List ℕ) (from b : ℕ) → Missed s from b from
+missed-none s from b = record { end = refl }
 
 pub missed-more : {s : List ℕ} {from b i : ℕ} → Missed s from b i → i < length s → (getD s i 0 ≡ b → ⊥) → Missed s from b (i + 1)
 missed-more {s} {from} {b} {i} r h n =
     record {
-      inside = omega arith;
       end = rw (add-one i) (omega (arith, ap length (ap (before b) (drop-cons s i 0 h) ∙ before-past b (getD s i 0) (drop (suc i) s) n), r .end));
     }
 

@@ -1,12 +1,11 @@
 // Bytes of texts: where one first stands, and whether two texts are the same.
-ghost use Prim.Native.Nat.{_+_, _≤_};
+ghost use Prim.Native.Nat.{_+_};
 ghost use mathlib.Core.Path.{_≡_};
 ghost use lib.ListN.{length, drop};
 ghost use Rattle.base_search.specs.Search.{before, same};
 
-// The place of the first such byte from `from` on, or the end.
+// The place of the first such byte from `from` on, or the end; `from` itself, where that is behind the end.
 pub fn find(s: &[u8], from: usize, b: u8) -> usize
-    requires { ⌜ from ≤ length (now s) ⌝ }
     ensures { λ r. ⌜ r ≡ from + length (before b (drop from (now (s .entry)))) ⌝ }
 {
     let mut i = from;

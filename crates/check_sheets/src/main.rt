@@ -28,9 +28,8 @@ fn entry(s: &[u32], i: usize) -> u32 {
 
 // The place of a card's frame k.
 fn place_of(card: u32, base: u32, k: usize) -> usize {
-    let first = (base % Limits::IN_HAND_U32) as usize + 1;
-    (card % Limits::CARDS_U32) as usize * Limits::IN_HAND
-        + (first + k % Limits::IN_HAND) % Limits::IN_HAND
+    let state = base as usize + 1 + k % Limits::IN_HAND;
+    base_limits::ring_place(card % Limits::CARDS_U32, state)
 }
 
 fn say(b: &[u8]) {
