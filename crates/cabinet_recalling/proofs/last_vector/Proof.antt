@@ -1,4 +1,4 @@
--- `cabinet_restart::last_vector` is the vector of a card's last frame, or none. Assumes nothing.
+-- `cabinet_recalling::last_vector` is the vector of a card's last frame, or none. Assumes nothing.
 use mathlib.Core.Path.{sym, _∙_, ap}
 use borrow.Author.Tests.{lt-ltb, le-ltb}
 use Rattle.base_laws.proofs.Logic.{cond-true, cond-false}

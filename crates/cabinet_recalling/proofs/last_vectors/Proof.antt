@@ -1,4 +1,4 @@
--- `cabinet_restart::last_vectors` is the vector of each card's last frame. Assumes nothing.
+-- `cabinet_recalling::last_vectors` is the vector of each card's last frame. Assumes nothing.
 use Prim.Native.Nat.{_-_}
 use mathlib.Core.Path.{refl}
 use mathlib.Core.Bool.{cond}

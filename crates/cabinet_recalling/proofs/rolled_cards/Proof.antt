@@ -1,4 +1,4 @@
--- `cabinet_restart::rolled_cards` is the set of the cards ahead. Assumes nothing.
+-- `cabinet_recalling::rolled_cards` is the set of the cards ahead. Assumes nothing.
 use Rattle.cabinet_recalling.proofs.Rolled.{AheadSoFar, ahead-none, ahead-more, ahead-done}
 use Prim.Native.Nat.{_-_, _<_}
 use mathlib.Core.Path.{refl}

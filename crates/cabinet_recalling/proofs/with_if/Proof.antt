@@ -1,4 +1,4 @@
--- `cabinet_restart::with_if` puts a card in, or does not. Assumes nothing.
+-- `cabinet_recalling::with_if` puts a card in, or does not. Assumes nothing.
 use mathlib.Core.Path.{sym, _∙_}
 use Rattle.base_laws.proofs.Logic.{cond-true, cond-false}
 use borrow.Author.Needs.{needs}

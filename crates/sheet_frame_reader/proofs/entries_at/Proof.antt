@@ -1,4 +1,4 @@
--- `sheet_lines::entries_at` reads the entries of a frame. The invariant: storing those left to read gives the whole. Assumes nothing.
+-- `sheet_frame_reader::entries_at` reads the entries of a frame. The invariant: storing those left to read gives the whole. Assumes nothing.
 use Prim.Native.Nat.{_+_, _*_, _-_, _≤_, zero-le}
 use mathlib.Core.Path.{_≡_, refl, sym, _∙_, ap}
 use borrow.Author.Needs.{needs}

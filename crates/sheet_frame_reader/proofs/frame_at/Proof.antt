@@ -1,4 +1,4 @@
--- `sheet_lines::frame_at` reads a frame line. Assumes nothing.
+-- `sheet_frame_reader::frame_at` reads a frame line. Assumes nothing.
 use mathlib.Core.Path.{sym, _∙_}
 use borrow.Author.Needs.{needs}
 use native.Mathlib.Omega.{arith}

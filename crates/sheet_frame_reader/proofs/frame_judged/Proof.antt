@@ -1,4 +1,4 @@
--- `sheet_lines::frame_judged` judges a frame line whose shape is right. Assumes nothing.
+-- `sheet_frame_reader::frame_judged` judges a frame line whose shape is right. Assumes nothing.
 use mathlib.Core.Path.{refl, sym, _∙_, ap}
 use borrow.Author.Needs.{needs}
 use native.Mathlib.Omega.{arith}

@@ -1,4 +1,4 @@
--- `sheet_lines::agrees` compares with the first sheet's number of cards. Assumes nothing.
+-- `sheet_header_reader::agrees` compares with the first sheet's number of cards. Assumes nothing.
 use borrow.Author.Tests.{eq-eqb, ne-eqb}
 use Rattle.sheet_header_reader.proofs.agrees.Statement.{statement}
 use Rattle.sheet_header_reader.proofs.agrees.Tie as tie

@@ -1,4 +1,4 @@
--- `sheet_lines::header_allowed` judges a header. Assumes nothing.
+-- `sheet_header_reader::header_allowed` judges a header. Assumes nothing.
 use mathlib.Core.Path.{refl, sym, _∙_}
 use borrow.Author.Needs.{needs}
 use native.Mathlib.Omega.{arith}

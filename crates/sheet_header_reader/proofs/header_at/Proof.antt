@@ -1,4 +1,4 @@
--- `sheet_lines::header_at` reads a header line. Assumes nothing.
+-- `sheet_header_reader::header_at` reads a header line. Assumes nothing.
 use mathlib.Core.Path.{sym, _∙_}
 use borrow.Author.Needs.{needs}
 use native.Mathlib.Omega.{arith}

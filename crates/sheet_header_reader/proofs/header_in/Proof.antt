@@ -1,4 +1,4 @@
--- `sheet_lines::header_in` takes the numbers of a header from its digits. Assumes nothing.
+-- `sheet_header_reader::header_in` takes the numbers of a header from its digits. Assumes nothing.
 use Prim.Native.Nat.{_+_}
 use borrow.Author.Needs.{needs}
 use lib.Seq.{drop-drop}

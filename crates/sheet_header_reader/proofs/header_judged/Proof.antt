@@ -1,4 +1,4 @@
--- `sheet_lines::header_judged` judges a header line whose shape is right. Assumes nothing.
+-- `sheet_header_reader::header_judged` judges a header line whose shape is right. Assumes nothing.
 use mathlib.Core.Path.{refl, sym, _∙_}
 use borrow.Author.Needs.{needs}
 use borrow.Author.Tests.{not-true, not-false}

@@ -1,4 +1,4 @@
--- `sheet_lines::put_entries` writes the entries of a frame. The invariant: writing those left gives the whole. Assumes nothing.
+-- `sheet_line_writer::put_entries` writes the entries of a frame. The invariant: writing those left gives the whole. Assumes nothing.
 use Prim.Native.Nat.{ℕ, _+_, _*_, _-_, _≤_, zero-le}
 use mathlib.Core.Path.{_≡_, refl, sym, _∙_, ap}
 use borrow.Author.Needs.{needs}

@@ -1,4 +1,4 @@
--- `sheet_lines::put_frame` writes a frame line. Assumes nothing.
+-- `sheet_line_writer::put_frame` writes a frame line. Assumes nothing.
 use mathlib.Core.Path.{_≡_}
 use borrow.Author.Needs.{needs}
 use lib.ListN.{length}

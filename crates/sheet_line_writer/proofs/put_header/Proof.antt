@@ -1,4 +1,4 @@
--- `sheet_lines::put_header` writes a header line. Assumes nothing.
+-- `sheet_line_writer::put_header` writes a header line. Assumes nothing.
 use borrow.Author.Needs.{needs}
 use Rattle.sheet_lines.specs.Format.{formatOf}
 use Rattle.sheet_line_writer.proofs.Puts.{header-put}

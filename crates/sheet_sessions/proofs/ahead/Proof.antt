@@ -1,4 +1,4 @@
--- `sheet_readout::ahead` tells a sheet that refusal 11 does not let pass. Assumes nothing.
+-- `sheet_sessions::ahead` tells a sheet that refusal 11 does not let pass. Assumes nothing.
 use borrow.Author.Needs.{needs}
 use Rattle.sheet_sessions.proofs.Turns.{not-ahead, far-ahead, one-ahead}
 use Rattle.sheet_sessions.proofs.ahead.Statement.{statement}

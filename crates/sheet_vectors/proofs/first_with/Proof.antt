@@ -1,4 +1,4 @@
--- `sheet_readout::first_with` finds the first card at whose head a change stands. The invariant: it stands at none of those passed. Assumes nothing.
+-- `sheet_vectors::first_with` finds the first card at whose head a change stands. The invariant: it stands at none of those passed. Assumes nothing.
 use Prim.Native.Nat.{_-_}
 use mathlib.Core.Path.{_≡_, refl, sym, _∙_}
 use native.Mathlib.Omega.{arith}

@@ -1,4 +1,4 @@
--- `sheet_readout::head_differs` tells a head of the same change with another vector. Assumes nothing.
+-- `sheet_vectors::head_differs` tells a head of the same change with another vector. Assumes nothing.
 use Prim.Native.Nat.{ℕ}
 use mathlib.Core.Path.{_∙_, ap}
 use mathlib.Core.Bool.{not}

@@ -1,4 +1,4 @@
--- `sheet_readout::heads_differ` compares the heads of one change with the first of them. Assumes nothing.
+-- `sheet_vectors::heads_differ` compares the heads of one change with the first of them. Assumes nothing.
 use Rattle.sheet_vectors.proofs.Agreed.{compared-some, compared-none}
 use borrow.Author.Needs.{needs}
 use Rattle.sheet_vectors.proofs.heads_differ.Statement.{statement}

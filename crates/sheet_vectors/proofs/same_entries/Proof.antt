@@ -1,4 +1,4 @@
--- `sheet_readout::same_entries` compares two vectors. The invariant: those passed are the same. Assumes nothing.
+-- `sheet_vectors::same_entries` compares two vectors. The invariant: those passed are the same. Assumes nothing.
 use Prim.Native.Nat.{ℕ, _+_, _*_, _-_, _≤_, zero-le}
 use mathlib.Core.Bool.{true}
 use mathlib.Core.Path.{_≡_, refl, sym, _∙_, ap}

@@ -1,4 +1,4 @@
--- `sheet_readout::some_differs` looks for a head that differs. The invariant: none of the cards passed has one. Assumes nothing.
+-- `sheet_vectors::some_differs` looks for a head that differs. The invariant: none of the cards passed has one. Assumes nothing.
 use Prim.Native.Nat.{_-_}
 use native.Mathlib.Omega.{arith}
 use Rattle.base_laws.proofs.Fill.{NoneSoFar, search-none}

@@ -1,4 +1,4 @@
--- `sheet_readout::two_vectors` merges the sheets' frames and compares the vectors of each change. The invariant: frames of one change up to k have one vector. Assumes nothing.
+-- `sheet_vectors::two_vectors` merges the sheets' frames and compares the vectors of each change. The invariant: frames of one change up to k have one vector. Assumes nothing.
 use Prim.Native.Nat.{ℕ, _-_}
 use mathlib.Core.Path.{_≡_, sym, _∙_, ap, subst}
 use mathlib.Core.List.{List}
