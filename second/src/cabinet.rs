@@ -264,7 +264,8 @@ impl Cabinet {
         Ok(())
     }
 
-    /// Call 7.
+    /// Call 7, by wish 1: a change is safe when it would be in the line if every
+    /// card were lost at this moment with the present stored numbers.
     pub fn safe(&self, change: u32) -> Result<bool, Refusal> {
         self.in_phase(&[Phase::Up])?;
         let Some(decided) = self.history().find(change) else {
@@ -273,7 +274,7 @@ impl Cabinet {
         if !self.known(decided) {
             return Err(Refusal::NotAwaited);
         }
-        Ok(members(decided.writes).all(|card| decided.made(card) <= self.cards[card].stored))
+        Ok(!self.lost_now().contains(&change))
     }
 
     /// Known are changes with a frame above base.
@@ -297,7 +298,8 @@ impl Cabinet {
         Ok(())
     }
 
-    /// The changes a fix would name lost now, rising.
+    /// The changes that a fix would name lost with the present stored numbers,
+    /// rising.
     pub fn lost_now(&self) -> Vec<u32> {
         self.history().lost(&self.stored())
     }

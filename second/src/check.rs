@@ -141,12 +141,7 @@ impl Follower {
                 count_fix(records, lost, before, counts);
                 counts.greatest("most changes in a history", self.journal.history.len());
             }
-            (Call::Safe { change }, Answer::Safe(safe)) => {
-                demand(
-                    self.journal.all_stored(change) == Some(*safe),
-                    "safe is not that all written cards stored",
-                )?;
-            }
+            (Call::Safe { change }, Answer::Safe(safe)) => self.demand_safe(change, *safe, counts)?,
             (Call::Roll { card }, _) => self.follow_roll(card as usize)?,
             (Call::Restart, _) => self.follow_restart(before, counts)?,
             _ => {}
@@ -228,6 +223,31 @@ impl Follower {
         counts.add("trims checked");
         self.journal.demand_line(&self.journal.order(), &bases)?;
         demand(cabinet.line_by_hits() == bases, "a second trim would move a base")
+    }
+
+    /// Were every card lost right here, the fix that follows would list the
+    /// change exactly if it is not safe; by the book it is then on none of its
+    /// cards, else on all.
+    fn demand_safe(&self, change: u32, safe: bool, counts: &mut Counts) -> Result<(), String> {
+        let cabinet = self.cabinet()?.clone();
+        let set = u32::from(all(cabinet.cards.len()));
+        let mut place = Place { cabinet: Some(cabinet) };
+        place.answer(Call::Lose { set });
+        let Answer::Fixed { records, lost } = place.answer(Call::Fix { records: 16, numbers: 776 }) else {
+            return Err("a fix after a loss of all cards is refused".to_string());
+        };
+        self.journal.demand_at_fix(&records, &lost)?;
+        demand(lost.contains(&change) != safe, "a loss of all cards shows another answer of safe")?;
+        let line: Vec<u32> = records.iter().map(|record| record.line).collect();
+        demand(
+            self.journal.is_on(change, &line) == Some(safe),
+            "safe is not that the change is in the line",
+        )?;
+        if !safe && self.journal.is_on(change, &self.journal.stored) == Some(true) {
+            counts.add("unsafe though stored");
+        }
+        counts.add(if safe { "answered safe" } else { "answered unsafe" });
+        Ok(())
     }
 
     /// The greatest choice and the rule of hits give the same line.

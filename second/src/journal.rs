@@ -154,12 +154,12 @@ impl Journal {
         found
     }
 
-    /// Whether every card a change wrote has stored its state; none if the
+    /// Whether a change is on every card it wrote, at these states; none if the
     /// change is not in the history.
-    pub fn all_stored(&self, number: u32) -> Option<bool> {
+    pub fn is_on(&self, number: u32, states: &[u32]) -> Option<bool> {
         let place = self.history.iter().position(|change| change.number == number)?;
         let found = &self.found()[place];
-        Some(members(self.history[place].writes).all(|card| found[card] < self.stored[card]))
+        Some(members(self.history[place].writes).all(|card| found[card] < states[card]))
     }
 
     /// The choice a set of places leaves: start plus writers.

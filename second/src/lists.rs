@@ -333,10 +333,19 @@ impl Maker {
         self.call(Call::Store { card, state });
     }
 
+    /// Asks of a number near the last one given, or of the change that made
+    /// some state in hand.
     fn safe(&mut self) {
         let last = self.cabinet().last_change;
-        let low = last.saturating_sub(8);
-        let change = self.random.from_to(low, last + 1);
+        let near = self.random.from_to(last.saturating_sub(8), last + 1);
+        let card = self.any_card();
+        let in_hand = self.cabinet().in_hand(card).unwrap_or_default();
+        let change = if in_hand.is_empty() || self.random.chance(400) {
+            near
+        } else {
+            let place = self.random.place(in_hand.len());
+            in_hand[place].change
+        };
         self.call(Call::Safe { change });
     }
 

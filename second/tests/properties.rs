@@ -17,6 +17,9 @@ fn random_lists() {
     for number in ["01", "02", "03", "04", "20", "21", "22", "23", "25", "26", "27", "29", "30"] {
         assert!(counts.numbers.contains_key(&format!("refused {number}")), "refusal {number} never came");
     }
+    for name in ["answered safe", "answered unsafe", "unsafe though stored"] {
+        assert!(counts.numbers.contains_key(name), "{name} never came");
+    }
 }
 
 #[test]

@@ -89,6 +89,35 @@ fn h_loses_nothing() {
 }
 
 #[test]
+fn safe_in_a_with_2_and_0_stored_is_change_1_alone() {
+    let calls = sample_a() + "store 0 2\nsafe 1\nsafe 2\nsafe 3\n";
+    ends(&calls, "ok\nsafe\nunsafe\nunsafe\n");
+    ends(&(calls + "lose 3\nfix 2 8\n"), "fixed 2 2\n0 2 1\n1 0 0\nlost 2 3\n");
+}
+
+#[test]
+fn safe_in_a_with_1_and_1_stored_are_1_and_2() {
+    let calls = sample_a() + "store 0 1\nstore 1 1\nsafe 1\nsafe 2\nsafe 3\n";
+    ends(&calls, "ok\nok\nsafe\nsafe\nunsafe\n");
+}
+
+#[test]
+fn half_taken_is_unsafe_and_a_read_share_left_is_safe() {
+    let half = "fresh 2\nopen 0 3\nvote 1 0 1\nvote 1 1 1\ntake 1 0\nstore 0 1\nsafe 1\n";
+    ends(half, "ok\nok\nunsafe\n");
+    let read = "fresh 2\nopen 2 1\nvote 1 0 1\nvote 1 1 1\ntake 1 0\nstore 0 1\nsafe 1\n";
+    ends(read, "ok\nok\nsafe\n");
+    ends(&(read.to_string() + "trim\nsafe 1\n"), "safe\nok\nrefused 25\n");
+}
+
+#[test]
+fn stored_but_hanging_on_an_unstored_state_is_unsafe() {
+    let calls = "fresh 2\n".to_string() + &whole(1, 0, 1) + &whole(2, 1, 2) + "store 1 1\nsafe 2\n";
+    ends(&calls, "ok\nok\nunsafe\n");
+    ends(&(calls + "store 0 1\nsafe 2\n"), "unsafe\nok\nsafe\n");
+}
+
+#[test]
 fn the_worked_read_out() {
     let input = "0000000100020000000281C5\n0001000000010000FFFF561A\n00020000000300010000A2C6\n000000010102000000008AC4\n";
     assert_eq!(line_text(input.as_bytes()), "0 2 1\n1 0 0\nsession 2\n");

@@ -191,8 +191,7 @@ impl Cabinet {
             }
         }
         if self.head.phase == Phase::Up {
-            let remembered = |o: &Place| if o.decided() && o.awaits_write() { o.number } else { 0 };
-            self.ended = std::array::from_fn(|place| remembered(&self.places[place]));
+            self.ended = std::array::from_fn(|place| self.places[place].remembered());
             self.places = [FREE; 8];
             self.head.phase = Phase::Down;
         }
@@ -218,8 +217,8 @@ impl Cabinet {
         refuse(!self.sound(), 28)?;
         refuse(self.head.phase != Phase::Up, 20)?;
         refuse(change == 0 || !self.some_above(&self.base, change), 25)?;
-        let waits = self.place_of(change).is_some_and(|place| self.places[place].awaits_write());
-        Ok(!self.some_above(&self.stored, change) && !waits)
+        let ends = self.places.iter().any(|place| place.remembered() == change);
+        Ok(!self.some_above(&self.lines(), change) && !ends)
     }
 
     pub fn all_cards(&self) -> u16 {

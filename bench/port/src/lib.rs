@@ -62,6 +62,16 @@ impl Place {
     pub fn awaits_write(&self) -> bool {
         self.writes & !self.taken != 0
     }
+
+    /// The number that a loss remembers: of a decided change with a written
+    /// share untaken its own, else 0.
+    pub fn remembered(&self) -> u32 {
+        if self.decided() && self.awaits_write() {
+            self.number
+        } else {
+            0
+        }
+    }
 }
 
 /// Frames stand in a ring: state x of card c has the place c * 48 + x % 48.

@@ -1,3 +1,4 @@
 pub mod Next
 pub mod Rise
 pub mod Merged
+pub mod Shown

@@ -40,11 +40,14 @@ nextLost heads ended k = lesser (leastOf heads) (leastEnded ended k)
 abbrev pub framedBy : (changes : List ℕ) → (c x reached k : ℕ) → Bool
 framedBy changes c x reached k = anyBelow (reached - x) (λ s. eqb (ringChange changes c (suc (x + s))) k)
 
+-- some card of the cabinet has a frame above its number that change k made
+abbrev pub someFramed : (changes numbers reached : List ℕ) → (cards k : ℕ) → Bool
+someFramed changes numbers reached cards k = anyBelow mostCards (λ c. ltb c cards && framedBy changes c (at numbers c) (at reached c) k)
+
 -- a loss ended the change k with a written share untaken
 abbrev pub endedBy : List ℕ → ℕ → Bool
 endedBy ended k = anyBelow 8 (λ p. eqb (at ended p) k)
 
 -- the change k is lost: it has a frame above the line, or it ended with a written share untaken
 abbrev pub lostBy : (changes line reached ended : List ℕ) → (cards : ℕ) → ℕ → Bool
-lostBy changes line reached ended cards k =
-    not (eqb k 0) && (anyBelow mostCards (λ c. ltb c cards && framedBy changes c (at line c) (at reached c) k) || endedBy ended k)
+lostBy changes line reached ended cards k = not (eqb k 0) && (someFramed changes line reached cards k || endedBy ended k)

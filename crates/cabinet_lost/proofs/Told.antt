@@ -1,38 +1,38 @@
 -- The lost changes of the model are those that the code finds, and what fix answers by its checks. Assumes nothing.
-use Prim.Native.Nat.{ℕ, zero, suc, _+_, _*_, _-_, _%_, _≤_, _<_}
+use Prim.Native.Nat.{ℕ, suc, _+_, _*_, _-_, _%_, _≤_, _<_}
 use mathlib.Core.Path.{_≡_, refl, sym, _∙_, ap, ap₂, subst}
-use mathlib.Core.Bool.{Bool, true, false, not, _&&_, _||_, cond}
+use mathlib.Core.Bool.{Bool, true, false, not, _&&_, _||_}
 use mathlib.Core.List.{List, [], _∷_, _++_}
 use mathlib.Core.Logic.{⊎-elim}
 use native.Mathlib.Omega.{arith}
 use lib.ListN.{length, take, drop}
 use lib.Seq.{sets, sets-eq, length-sets, take-at}
 use lib.Dec.{eqb, ltb}
-use borrow.Author.Tests.{lt-ltb, le-leb, ltb-false, eqb-true}
+use borrow.Author.Tests.{ltb-false, eqb-true}
 use Rattle.base_laws.specs.Below.{anyBelow, countBelow, greatest, occurs, one-if}
-use Rattle.base_laws.proofs.Logic.{test, clash, fails, and-intro, and-right, or-elim, cond-true, cond-case}
-use Rattle.base_laws.proofs.Below.{any-elim, Found, greatest-above, any-same}
+use Rattle.base_laws.proofs.Logic.{test, clash, fails, and-right, or-elim}
+use Rattle.base_laws.proofs.Below.{any-elim, Found, greatest-above}
 use Rattle.base_refusal.specs.declared.Refusal.{Refusal}
 use Rattle.base_refusal.specs.declared.Refusal.the-variants.{BadCabinet, TooShort}
-use Rattle.theory_history.specs.Line.{climb}
-use Rattle.theory_protocol.specs.Model.{Model, isCard}
+use Rattle.theory_protocol.specs.Model.{Model}
 use Rattle.theory_protocol.specs.Edit.{fix}
 use Rattle.theory_protocol.specs.Plan.{CardRow, fixed, Check, _⇒_, Plan, accepted, refused}
 use Rattle.theory_protocol.specs.Valid.{valid}
-use Rattle.theory_protocol.specs.Calls.{lines, recoveryLine, isLost, frameAbove, cardRows, fixChecks, fixPlan}
+use Rattle.theory_protocol.specs.Calls.{lines, isLost, cardRows, fixChecks, fixPlan}
 use Rattle.cabinet_layout.specs.declared.Core.{Core}
 use Rattle.base_refusal.specs.declared.Reply.{Reply}
 use Rattle.base_refusal.specs.declared.Reply.the-variants.{Done, Refused}
-use Rattle.cabinet_layout.specs.Shape.{limits16, at, listOf, presentOf, ringChange, inHand, changeInHand, headModel, modelOf}
+use Rattle.cabinet_layout.specs.Shape.{limits16, at, listOf, presentOf, ringChange, inHand, headModel}
 use Rattle.cabinet_layout.specs.Answers.{firstFailing, after28, next}
 use Rattle.cabinet_layout.proofs.Limits.{width16, inHand48, slots8}
-use Rattle.cabinet_layout.proofs.Held.{at-list}
 use Rattle.cabinet_layout.proofs.Checks.{done-plan, refused-plan}
 use Rattle.cabinet_recovery.specs.declared.FixReply.the-variants.{Fixed, NotFixed}
 use Rattle.base_merge.specs.Merge.{changeAt, endsOf, CardRises, Rises}
 use Rattle.cabinet_listing.specs.Lost.{Rising, Listed, framedBy, endedBy, lostBy}
 use Rattle.cabinet_recovery.specs.Fix.{rowsOf, listAfter, linesAfter, butLast, FixWorked}
 use Rattle.cabinet_recovery.proofs.Rows.{length-selected, selected-same}
+use Rattle.cabinet_listing.proofs.Shown as shown
+use Rattle.cabinet_listing.proofs.Shown.{line-at, line-above, lost-same}
 use Rattle.cabinet_listing.proofs.Rise.{those, rising-once, rising-one}
 use Rattle.cabinet_lost.proofs.Rising.{valid-rises}
 
@@ -71,11 +71,6 @@ module _ (w v : ℕ) (ew : w ≡ 768) (ev : v ≡ 8) (changes line reached ended
         end = λ j h. fails (lostBy changes line reached ended cards j) (λ (t : lostBy changes line reached ended cards j ≡ true). let l : j ≤ greatest w (at changes) + greatest v (at ended) = lost-below j t in absurd (omega arith));
       }
 
--- ---- the line is at or above base
-climb-from : (f : ℕ → Bool) (base k : ℕ) → base ≤ climb f base k
-climb-from f base zero = omega arith
-climb-from f base (suc k) = let r : suc base ≤ climb f (suc base) k = climb-from f (suc base) k in cond-case (λ (x : ℕ). base ≤ x) (f (suc base)) (λ e. let l : base ≤ base = omega arith in l) (λ e. omega arith)
-
 -- the numbers that rise from one state on rise from a later one on
 rises-later : {changes from ends : List ℕ} (later : List ℕ) → Rises changes from ends → ((c : ℕ) → c < 16 → at from c ≤ at later c) → Rises changes later ends
 rises-later {changes} {from} {ends} later r l = record { card = each }
@@ -96,49 +91,17 @@ or-out true b e = clash refl e
 or-out false b e = e
 
 module _ (entries changes : List ℕ) (core : Core) where
-  abbrev pub found : Model
-  found = modelOf entries changes core
+  abbrev found : Model
+  found = shown.found entries changes core
 
-  abbrev pub foundLine : List ℕ
-  foundLine = listOf (lines limits16 found)
-
-  line-at : (c : ℕ) → c < 16 → ltb c (core .head .cards) ≡ true → at foundLine c ≡ recoveryLine limits16 found c
-  line-at c l t =
-      at-list (lines limits16 found) c l
-      ∙ cond-true (recoveryLine limits16 found c) (at (core .base) c) (and-intro (lt-ltb c (limits16 .width) (omega (arith, width16))) t)
-
-  frames-same : (k c x : ℕ) → at (core .base) c ≤ x → framedBy changes c x (at (core .reached) c) k ≡ frameAbove found k c x
-  frames-same k c x b = any-same (at (core .reached) c - x) (λ s. eqb (ringChange changes c (suc (x + s))) k) (λ s. eqb (changeInHand changes (core .base) (core .reached) c (suc (x + s))) k) each
-    where
-      each : (s : ℕ) → s < at (core .reached) c - x → eqb (ringChange changes c (suc (x + s))) k ≡ eqb (changeInHand changes (core .base) (core .reached) c (suc (x + s))) k
-      each s l =
-          let e : inHand (core .base) (core .reached) c (suc (x + s)) ≡ true = and-intro (lt-ltb (at (core .base) c) (suc (x + s)) (omega arith)) (le-leb (suc (x + s)) (at (core .reached) c) (omega arith)) in
-          ap (λ (b : Bool). eqb (cond b (ringChange changes c (suc (x + s))) 0) k) (sym e)
-
-  card-same : (k c : ℕ) → c < 16 → ltb c (core .head .cards) && framedBy changes c (at foundLine c) (at (core .reached) c) k ≡ ltb c (core .head .cards) && frameAbove found k c (recoveryLine limits16 found c)
-  card-same k c l = test (ltb c (core .head .cards)) there (λ e. rw e)
-    where
-      there : ltb c (core .head .cards) ≡ true → ltb c (core .head .cards) && framedBy changes c (at foundLine c) (at (core .reached) c) k ≡ ltb c (core .head .cards) && frameAbove found k c (recoveryLine limits16 found c)
-      there t =
-          ap (λ (x : ℕ). ltb c (core .head .cards) && framedBy changes c x (at (core .reached) c) k) (line-at c l t)
-          ∙ ap (λ (b : Bool). ltb c (core .head .cards) && b) (frames-same k c (recoveryLine limits16 found c) (climb-from _ (at (core .base) c) (at (core .reached) c - at (core .base) c)))
-
-  pub lost-same : (k : ℕ) → lostBy changes foundLine (core .reached) (core .ended) (core .head .cards) k ≡ isLost limits16 found k
-  lost-same k =
-      ap₂ (λ (a b : Bool). not (eqb k 0) && (a || b))
-      (any-same 16 (λ c. ltb c (core .head .cards) && framedBy changes c (at foundLine c) (at (core .reached) c) k) (λ c. ltb c (core .head .cards) && frameAbove found k c (recoveryLine limits16 found c)) (card-same k) ∙ ap (λ (w : ℕ). anyBelow w (λ c. ltb c (core .head .cards) && frameAbove found k c (recoveryLine limits16 found c))) (sym width16))
-      (ap (λ (w : ℕ). anyBelow w (λ p. eqb (at (core .ended) p) k)) (sym slots8))
-
-  line-above : (c : ℕ) → c < 16 → at (core .base) c ≤ at foundLine c
-  line-above c l =
-      subst (λ (x : ℕ). at (core .base) c ≤ x) (sym (at-list (lines limits16 found) c l))
-      (cond-case (λ (x : ℕ). at (core .base) c ≤ x) (isCard limits16 found c) (λ e. climb-from _ (at (core .base) c) (at (core .reached) c - at (core .base) c)) (λ e. let s : at (core .base) c ≤ at (core .base) c = omega arith in s))
+  abbrev foundLine : List ℕ
+  foundLine = shown.foundLine entries changes core
 
   once-of : {xs : List ℕ} → Rising (lostBy changes foundLine (core .reached) (core .ended) (core .head .cards)) xs → (k : ℕ) → occurs k xs ≡ one-if (isLost limits16 found k)
-  once-of r k = rising-once r k ∙ ap one-if (lost-same k)
+  once-of r k = rising-once r k ∙ ap one-if (lost-same entries changes core k)
 
   rows-same : rowsOf (core .head .cards) (core .stored) foundLine ≡ cardRows limits16 found
-  rows-same = selected-same (limits16 .width) (presentOf (core .head .cards)) _ _ (λ c l t. ap (λ (x : ℕ). record { card = c; stored = at (core .stored) c; line = x }) (line-at c (omega (arith, width16)) t))
+  rows-same = selected-same (limits16 .width) (presentOf (core .head .cards)) _ _ (λ c l t. ap (λ (x : ℕ). record { card = c; stored = at (core .stored) c; line = x }) (line-at entries changes core c (omega (arith, width16)) t))
 
   module _ (cp : ℕ) (before : List ℕ) where
     abbrev first : Reply
@@ -213,7 +176,7 @@ module _ (entries changes : List ℕ) (core : Core) where
       pub line-rises : first ≡ Done → Rises changes line (endsOf (core .reached) (core .head .cards))
       line-rises e =
           subst (λ (l : List ℕ). Rises changes l (endsOf (core .reached) (core .head .cards))) (sym el)
-          (rises-later foundLine (valid-rises entries changes core (valid-known e)) line-above)
+          (rises-later foundLine (valid-rises entries changes core (valid-known e)) (line-above entries changes core))
 
       pub early-told : (q : Refusal) → first ≡ Refused q → FixWorked found thePlan (core .head .cards) (core .stored) z before before (NotFixed q)
       early-told q e = subst (λ (l : List ℕ). FixWorked found thePlan (core .head .cards) (core .stored) l before before (NotFixed q)) (sym ez) (told-early q e)

@@ -47,10 +47,5 @@ pub fn safe<'a>(
     ensures { λ r. ⌜ safeReplyOf r ≡ safePlan limits16 (modelOf (now (entries .entry)) (now (changes .entry)) core) change .reply ⌝ }
 {
     let valid = cabinet_valid::cabinet_valid(entries, changes, core);
-    let slots = core.slots;
-    let base = core.base;
-    let stored = core.stored;
-    let reached = core.reached;
-    let head = core.head;
-    cabinet_safety::safe_verdict(valid, changes, head, slots, base, stored, reached, change)
+    cabinet_safety::safe_verdict(valid, entries, changes, core, change)
 }

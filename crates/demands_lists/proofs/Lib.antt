@@ -6,3 +6,4 @@ pub mod Fresh
 pub mod Some
 pub mod Refusing
 pub mod Whole
+pub mod Agreement

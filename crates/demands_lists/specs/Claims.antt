@@ -1,4 +1,4 @@
--- Demands 1, 2 and 3 of the 16-card cabinet. Statements alone: the proofs are in proofs/Refusing.antt and proofs/Whole.antt.
+-- Demands 1, 2 and 3 of the 16-card cabinet, and document 02's wishes. Statements alone: the proofs are in proofs/Refusing.antt, proofs/Whole.antt and proofs/Agreement.antt.
 use Prim.Native.Nat.{ℕ, _<_}
 use mathlib.Core.Path.{_≡_}
 use mathlib.Core.List.{List}
@@ -8,15 +8,17 @@ use Rattle.base_refusal.specs.Number.{Listed, numberOf}
 use Rattle.sheet_lines.specs.Format.{formats}
 use Rattle.theory_history.specs.Change.{CardSet, Numbers}
 use Rattle.theory_codec.specs.Sheets.{joinedSheets, codec}
-use Rattle.theory_protocol.specs.Plan.{Answer, done, Reply, accepted, refused, Check, Passed, Due}
+use Rattle.theory_protocol.specs.Plan.{CardRow, Answer, done, fixed, Reply, accepted, refused, Check, Passed, Due}
 use Rattle.theory_protocol.specs.Journal.{fixing}
-use Rattle.theory_protocol.specs.Run.{Choice, Proper, checksOf, Calls, none, further, journal}
+use Rattle.theory_protocol.specs.Run.{safeCall, Choice, Proper, checksOf, Calls, none, further, journal}
 use Rattle.theory_protocol.specs.Demands.{CallRight, CabinetRight}
+use Rattle.theory_protocol.specs.Agreement.{Agrees}
 use Rattle.cabinet_layout.specs.Shape.{limits16}
 use Rattle.cabinet.specs.declared.Cabinet.{Cabinet}
 use Rattle.cabinet.specs.View.{view}
+use Rattle.cabinet_records.specs.declared.CardRecord.{CardRecord}
 use Rattle.cabinet_restart.specs.Restart.{Restarted}
-use Rattle.demands_lists.specs.Lists.{Asked, callOf, Typed, Lent, lent, Answered, List16, start, next}
+use Rattle.demands_lists.specs.Lists.{Asked, plain, lose, fix, callOf, Typed, Lent, lent, Answered, List16, start, next}
 
 -- ---- Demand 1, for any cabinet, a forged one too, and any arguments: "gets an answer or a refusal from document 01. A refusal changes neither the cabinet nor any lent list or buffer."
 -- what is said where this is the table: an answer, where no row fails; else the refusal of the first row that does
@@ -71,3 +73,13 @@ Throughout {n} (next {cs} {s} l asked z reply t after w) =
 -- for every list of calls, with losses anywhere and restarts in any phase
 abbrev pub Demands23 : Type 0
 Demands23 = (n : ℕ) (cs : Calls) (s : Cabinet) (l : List16 n cs s) → Throughout l
+
+-- ---- Document 02, wish 1
+-- the cabinet of a list answers safe k, the next call is an accepted loss (of all its cards, or of any), and the next an accepted fix
+abbrev pub SafeAgreesWithFix16 : Type 0
+SafeAgreesWithFix16 =
+    (n : ℕ) (cs : Calls) (s : Cabinet) → List16 n cs s
+    → (k : ℕ) (a : Answer) (t : Cabinet) (lent₁ : Lent) → Answered s (plain (safeCall k)) (accepted a) t lent₁
+    → (cards : ℕ) → Typed (lose cards) → (b : Answer) (u : Cabinet) (lent₂ : Lent) → Answered t (lose cards) (accepted b) u lent₂
+    → (records : List CardRecord) (list : List ℕ) (rows : List CardRow) (numbers : List ℕ) (v : Cabinet) (lent₃ : Lent) → Answered u (fix records list) (accepted (fixed rows numbers)) v lent₃
+    → Agrees k a numbers

@@ -17,12 +17,17 @@ use Rattle.sheet_vectors.specs.Vectors.{twoVectors}
 use Rattle.sheet_readout.specs.Joint.{sessionsApart, jointVerdict, pagesRead}
 use Rattle.theory_protocol.specs.Calls.{freshModel}
 use Rattle.theory_codec.specs.Sheets.{joinedSheets, restartReply, restartedFrom}
-use Rattle.theory_codec.specs.Worked.{followed, fixReply, saidReply, recoveries, workedCalls, workedBytes}
+use Rattle.theory_codec.specs.Worked.{followed, safeReplies, fixReply, saidReply, recoveries, workedCalls, workedBytes}
 
 -- each fix of the samples answers what document 01 says
 pub recovered : map fixReply recoveries ≡ map saidReply recoveries
 unfolding limits16
 recovered = refl
+
+-- and each safe what document 02's wish 1 says
+pub safe-answered : map safeReplies recoveries ≡ map (λ r. r .safety) recoveries
+unfolding limits16
+safe-answered = refl
 
 -- the sheets that the calls lead to are the worked read-out, byte for byte
 pub worked-written : joinedSheets formats limits16 (followed (freshModel (λ c. ltb c 2)) workedCalls) ≡ workedBytes

@@ -1,16 +1,18 @@
 -- Document 01's samples B to H and its worked read-out, as lists of calls from a fresh cabinet.
-use Prim.Native.Nat.{ℕ}
+use Prim.Native.Nat.{ℕ, suc}
 use mathlib.Core.Bool.{true}
 use mathlib.Core.List.{List, [], _∷_, _++_, map}
 use lib.Dec.{ltb}
+use lib.ListN.{length}
 use Rattle.base_limits.specs.Document.{limits16}
 use Rattle.base_laws.specs.Below.{tabulate}
+use Rattle.base_refusal.specs.declared.Refusal.the-variants.{NotAwaited}
 use Rattle.sheet_digits.specs.Digits.{digit}
 use Rattle.theory_history.specs.Samples.{among}
 use Rattle.theory_protocol.specs.Model.{Model}
-use Rattle.theory_protocol.specs.Plan.{CardRow, fixed, Reply, accepted}
+use Rattle.theory_protocol.specs.Plan.{CardRow, safe, unsafe, fixed, Reply, accepted, refused}
 use Rattle.theory_protocol.specs.Calls.{freshModel}
-use Rattle.theory_protocol.specs.Run.{Call, plain, openCall, voteCall, takeCall, storeCall, loseCall, fixCall, planOf, afterCall}
+use Rattle.theory_protocol.specs.Run.{Call, plain, openCall, voteCall, takeCall, storeCall, safeCall, loseCall, fixCall, planOf, afterCall}
 use Rattle.theory_codec.specs.Sheets.{codec}
 use Rattle.theory_protocol.specs.Choices.{chosen}
 
@@ -35,10 +37,12 @@ wholly k reads writes = decidedBy k reads writes ++ map (λ c. plain (takeCall k
 abbrev pub threeChanges : List Call
 threeChanges = wholly 1 [] (0 ∷ []) ++ wholly 2 (0 ∷ []) (1 ∷ []) ++ wholly 3 [] (0 ∷ [])
 
--- a recovery: the number of cards, the calls before the loss, the cards lost, and what the fix answers: by card the stored number and the line, and the changes lost
+-- a recovery: the number of cards, the calls before the loss, what safe then answers of changes 1, 2, .., the cards lost, and what the fix answers: by card the stored number and
+-- the line, and the changes lost
 pub record Recovery : Type 0 where
   pub cards : ℕ
   pub calls : List Call
+  pub safety : List Reply
   pub lostCards : List ℕ
   pub rows : List CardRow
   pub lost : List ℕ
@@ -46,24 +50,29 @@ pub record Recovery : Type 0 where
 abbrev row : (card stored line : ℕ) → CardRow
 row c s l = record { card = c; stored = s; line = l }
 
+-- the replies to safe
+abbrev pub safeReplies : Recovery → List Reply
+safeReplies r = tabulate (length (r .safety)) (λ i. lastReply (followed (freshModel (λ c. ltb c (r .cards))) (r .calls)) (plain (safeCall (suc i))) [])
+
 -- the reply to the fix
 abbrev pub fixReply : Recovery → Reply
 fixReply r = lastReply (followed (freshModel (λ c. ltb c (r .cards))) (r .calls)) (loseCall (among (r .lostCards))) (fixCall 16 768 ∷ [])
 
 abbrev pub recoveries : List Recovery
 recoveries =
-    -- B: A, stored 2, 0
-    record { cards = 2; calls = threeChanges ++ plain (storeCall 0 2) ∷ []; lostCards = 1 ∷ []; rows = row 0 2 1 ∷ row 1 0 0 ∷ []; lost = 2 ∷ 3 ∷ [] }
+    -- B: A, stored 2, 0. Document 02, wish 1: "the lamp was lit for change 3, and the roll-back took it"
+    record { cards = 2; calls = threeChanges ++ plain (storeCall 0 2) ∷ []; safety = accepted safe ∷ accepted unsafe ∷ accepted unsafe ∷ []; lostCards = 1 ∷ []; rows = row 0 2 1 ∷ row 1 0 0 ∷ []; lost = 2 ∷ 3 ∷ [] }
     -- C: A, stored 1, 1
-    ∷ record { cards = 2; calls = threeChanges ++ plain (storeCall 0 1) ∷ plain (storeCall 1 1) ∷ []; lostCards = 0 ∷ []; rows = row 0 1 1 ∷ row 1 1 1 ∷ []; lost = 3 ∷ [] }
+    ∷ record { cards = 2; calls = threeChanges ++ plain (storeCall 0 1) ∷ plain (storeCall 1 1) ∷ []; safety = accepted safe ∷ accepted safe ∷ accepted unsafe ∷ []; lostCards = 0 ∷ []; rows = row 0 1 1 ∷ row 1 1 1 ∷ []; lost = 3 ∷ [] }
     -- D: A, stored 0, 1
-    ∷ record { cards = 2; calls = threeChanges ++ plain (storeCall 1 1) ∷ []; lostCards = 0 ∷ []; rows = row 0 0 0 ∷ row 1 1 0 ∷ []; lost = 1 ∷ 2 ∷ 3 ∷ [] }
+    ∷ record { cards = 2; calls = threeChanges ++ plain (storeCall 1 1) ∷ []; safety = accepted unsafe ∷ accepted unsafe ∷ accepted unsafe ∷ []; lostCards = 0 ∷ []; rows = row 0 0 0 ∷ row 1 1 0 ∷ []; lost = 1 ∷ 2 ∷ 3 ∷ [] }
     -- E: one change writes 0 and 1; only 0 took and stored
-    ∷ record { cards = 2; calls = decidedBy 1 [] (0 ∷ 1 ∷ []) ++ plain (takeCall 1 0) ∷ plain (storeCall 0 1) ∷ []; lostCards = 1 ∷ []; rows = row 0 1 0 ∷ row 1 0 0 ∷ []; lost = 1 ∷ [] }
+    ∷ record { cards = 2; calls = decidedBy 1 [] (0 ∷ 1 ∷ []) ++ plain (takeCall 1 0) ∷ plain (storeCall 0 1) ∷ []; safety = accepted unsafe ∷ []; lostCards = 1 ∷ []; rows = row 0 1 0 ∷ row 1 0 0 ∷ []; lost = 1 ∷ [] }
     -- F: three cards; 1 reads 1, writes 0; 2 reads 1, writes 2; stored 0, 0, 1
     ∷ record {
       cards = 3;
       calls = wholly 1 (1 ∷ []) (0 ∷ []) ++ wholly 2 (1 ∷ []) (2 ∷ []) ++ plain (storeCall 2 1) ∷ [];
+      safety = accepted unsafe ∷ accepted safe ∷ [];
       lostCards = 0 ∷ [];
       rows = row 0 0 0 ∷ row 1 0 0 ∷ row 2 1 1 ∷ [];
       lost = 1 ∷ [];
@@ -72,12 +81,13 @@ recoveries =
     ∷ record {
       cards = 2;
       calls = wholly 1 [] (0 ∷ []) ++ wholly 2 (0 ∷ 1 ∷ []) [] ++ wholly 3 [] (1 ∷ []) ++ plain (storeCall 1 1) ∷ [];
+      safety = accepted unsafe ∷ refused NotAwaited ∷ accepted unsafe ∷ [];
       lostCards = 0 ∷ [];
       rows = row 0 0 0 ∷ row 1 1 0 ∷ [];
       lost = 1 ∷ 3 ∷ [];
     }
     -- H: nothing decided, all lost
-    ∷ record { cards = 16; calls = []; lostCards = tabulate 16 (λ c. c); rows = tabulate 16 (λ c. row c 0 0); lost = [] }
+    ∷ record { cards = 16; calls = []; safety = []; lostCards = tabulate 16 (λ c. c); rows = tabulate 16 (λ c. row c 0 0); lost = [] }
     ∷ []
 
 -- what a recovery says that its fix answers

@@ -1,21 +1,20 @@
 -- What accepted calls of a list answer and do: takes, fixes, rolls, losses and safe questions; and with it demands 2 and 3. Assumes nothing.
-use Prim.Native.Nat.{ℕ, zero, suc, _≤_, _<_}
+use Prim.Native.Nat.{ℕ, zero, suc, _<_}
 use mathlib.Core.Path.{_≡_, refl, sym, _∙_, ap, ap₂, subst}
 use mathlib.Core.Bool.{Bool, true, false, not, _&&_, _||_, cond}
-use mathlib.Core.Logic.{by-cases, ⊎-elim}
+use mathlib.Core.Logic.{by-cases, inl, ⊎-elim}
 use mathlib.Core.List.{_++_, List, [], _∷_}
 use native.Mathlib.Nat.{le-refl, le-trans}
-use native.Mathlib.Decide.{decLe, decLt, ℕ-discrete}
+use native.Mathlib.Decide.{decLe, decLt}
 use native.Mathlib.Omega.{arith}
 use lib.Dec.{eqb, leb}
-use borrow.Author.Tests.{lt-ltb, eq-eqb, eqb-true}
+use borrow.Author.Tests.{eq-eqb, eqb-true}
 use Rattle.base_laws.specs.Below.{selected, one-if, anyBelow, occurs}
 use Rattle.base_laws.proofs.Logic.{test, clash, fails, and-left, and-right, and-intro, not-true, not-intro, cond-case, same-test}
-use Rattle.base_laws.proofs.Below.{Found, any-elim, any-intro, all-same, first-below}
-use Rattle.theory_history.specs.Change.{CardSet, Change, History, Numbers, touches, made}
+use Rattle.base_laws.proofs.Below.{Found, any-elim, any-intro, all-same}
+use Rattle.theory_history.specs.Change.{CardSet, Change, History, Numbers, touches, made, On}
 use Rattle.theory_history.specs.Vector.{Vector, stateVector, IsVector}
 use Rattle.theory_history.specs.Line.{wrote, lost}
-use Rattle.theory_history.proofs.Precedence.{writes-touches}
 use Rattle.theory_history.proofs.Entries.{state-vector-is}
 use Rattle.theory_history.proofs.Lines.{line-cut, cut-below}
 use Rattle.theory_history.proofs.Theorems.{line-whole}
@@ -24,20 +23,20 @@ use Rattle.base_refusal.specs.declared.Refusal.the-variants.{LimitReached}
 use Rattle.base_refusal.specs.declared.Reply.the-variants.{Done, Refused}
 use Rattle.theory_protocol.specs.Valid.{valid}
 use Rattle.theory_protocol.specs.Codec.{Codec}
-use Rattle.theory_protocol.specs.Model.{Limits, Phase, noCards, up, down, rolling, isUp, isDown, isRolling, OpenChange, Model, isCard, isOpen, decided, toWrite, awaitsWrite, slotOf, isKnown, withCard}
+use Rattle.theory_protocol.specs.Model.{Limits, Phase, noCards, up, down, rolling, isUp, isDown, isRolling, OpenChange, Model, isCard, isOpen, decided, slotOf, isKnown, withCard}
 use Rattle.theory_protocol.specs.Edit.{Edit, place, grow, raise, fall, halt, lower, renew, editedAll}
 use Rattle.theory_protocol.specs.Plan.{CardRow, Answer, safe, unsafe, fixed, accepted, Check, Plan, checked, afterPlan, Passed}
-use Rattle.theory_protocol.specs.Calls.{recoveryLine, cardRows, someFrameAbove, hasFrame, writesLeft, isSafe, isLost, tookShare, takeChecks, safeChecks, loseChecks, fixChecks, rollChecks, allRolled}
-use Rattle.theory_protocol.specs.Journal.{Journal, Fixing, fixing, greatestLine, noteRestartOf}
+use Rattle.theory_protocol.specs.Calls.{recoveryLine, cardRows, someFrameAbove, hasFrame, allLost, isSafe, isLost, tookShare, takeChecks, safeChecks, loseChecks, fixChecks, rollChecks, allRolled}
+use Rattle.theory_protocol.specs.Journal.{Journal, Fixing, fixing, noteLose, greatestLine, noteRestartOf}
 use Rattle.theory_protocol.specs.Run.{Call, plain, openCall, voteCall, takeCall, withdrawCall, storeCall, trimCall, safeCall, loseCall, fixCall, rollCall, sheetCall, restartCall, Choice, Proper, planOf, afterCall, Calls, Run, start, next, journal, lastKept}
 use Rattle.theory_protocol.specs.Demands.{H, decisions, GreatestChoice, FixRight, RollRight, RestartRight, TakeRight, SafeRight, CallRight, RestartsTo, CabinetRight, Throughout, Demands}
 use Rattle.theory_protocol.proofs.Taking.{put-same, reached-next}
 use Rattle.theory_protocol.proofs.Intact.{lineAt, line-same}
 use Rattle.theory_protocol.proofs.Places.{Stood}
-use Rattle.theory_protocol.proofs.Running.{About, StandsFor, Running}
+use Rattle.theory_protocol.proofs.Running.{About, Running}
 use Rattle.theory_protocol.proofs.Rolling.{AboutLine}
-use Rattle.theory_protocol.proofs.Stores.{line-right}
-use Rattle.theory_protocol.proofs.Lost.{Above, Numbered-as, frames-above, above-frames, lost-right, right-lost}
+use Rattle.theory_protocol.proofs.Stores.{line-right, lose-up-keeps}
+use Rattle.theory_protocol.proofs.Lost.{Above, lost-above, above-lost, Numbered-as, frames-above, lost-right, right-lost}
 use Rattle.theory_protocol.proofs.Steps.{checked-case, not-not, card-below, known-slot, up-only}
 use Rattle.theory_protocol.proofs.Invariant.{RollingBack, Invariant, invariant-valid}
 use Rattle.theory_protocol.proofs.Claims.{not-both}
@@ -235,88 +234,66 @@ module _ (L : Limits) (n : CardSet) (m : Model) (j : Journal) (v : Invariant L n
           read-stays = λ e. ap (λ (b : Bool). shared b .numbers .reached c) (sym written-as ∙ e);
         }
 
-  -- ---- safe
-  module _ (r : Running L m j) (is-up : isUp (m .phase) ≡ true) (k : ℕ) where
-    b : About L m (j .start) (decisions j) (r .took) (r .at) (H j)
-    b = r .about (H j) (λ i h. refl)
+-- ---- safe: not lost, if every card were lost now
+module _ (L : Limits) (n : CardSet) (m : Model) (j : Journal) (v : Invariant L n m j) (r : Running L m j) (is-up : isUp (m .phase) ≡ true) (k : ℕ) where
+  after-runs : Running L (allLost L m) (noteLose j)
+  after-runs = lose-up-keeps L m j r (m .present) is-up
 
-    -- a number stands for one change
-    one-change : (i i' : ℕ) → i < decisions j → i' < decisions j → H j i .number ≡ k → H j i' .number ≡ k → i ≡ i'
-    one-change i i' h h' e e' =
-        by-cases (decLt i i') (λ z. absurd (b .numbered .distinct i i' z h' (e ∙ sym e')))
-        (λ z. by-cases (decLt i' i) (λ y. absurd (b .numbered .distinct i' i y h (e' ∙ sym e))) (λ y. omega (arith, z, y)))
+  after-loss : Invariant L n (allLost L m) (noteLose j)
+  after-loss = record { present-is = v .present-is; absent-start = v .absent-start; state = inl after-runs }
 
-    stored-reached : (c : ℕ) → c < L .width → m .numbers .stored c ≤ m .numbers .reached c
-    stored-reached c l = le-trans (r .ranges .stored-held c l) (r .ranges .held-reached c l)
+  b : About L m (j .start) (decisions j) (r .took) (r .at) (H j)
+  b = r .about (H j) (λ i h. refl)
 
-    module _ (i : ℕ) (h : i < decisions j) (e : H j i .number ≡ k) where
-      -- a card that it has yet to write: its slot is there
-      left-there : (c : ℕ) → c < L .width → H j i .writes c ≡ true → r .took i c ≡ false → writesLeft L m k ≡ true
-      left-there c l wr nt =
-          let s : StandsFor L (m .slot) (r .at) i = b .open-untaken is-up i c h l (writes-touches (H j i) c wr) nt in
-          let st : Stood (L .width) (H j) (j .start) (decisions j) (r .took) (m .slot (s .p)) (r .at (s .p)) = b .standing .stood (s .p) (s .is-slot) (s .is-open) (s .is-decided) in
-          let same : H j i ≡ m .slot (s .p) .change = ap (H j) (sym (s .is-at)) ∙ st .change-is in
-          let num : m .slot (s .p) .change .number ≡ k = ap (λ (t : Change). t .number) (sym same) ∙ e in
-          let kn : isKnown L m k ≡ true = lt-ltb (slotOf L m k) (L .slots) (first-below (L .slots) (λ p. isOpen (m .slot p) && eqb (m .slot p .change .number) k)
-          (any-intro (L .slots) (λ p. isOpen (m .slot p) && eqb (m .slot p .change .number) k) (s .p) (s .is-slot) (and-intro (s .is-open) (eq-eqb (m .slot (s .p) .change .number) k num)))) in
-          let kp : (slotOf L m k < L .slots) × (isOpen (m .slot (slotOf L m k)) ≡ true) × (m .slot (slotOf L m k) .change .number ≡ k) = known-slot L m k kn in
-          let q : s .p ≡ slotOf L m k = by-cases (ℕ-discrete (s .p) (slotOf L m k)) (λ (y : s .p ≡ slotOf L m k). y) (λ y. absurd (r .slots-open .apart (s .p) (slotOf L m k) (s .is-slot) (kp .0) y (s .is-open) (kp .1) (num ∙ sym (kp .2)))) in
-          let tw : toWrite (m .slot (s .p)) c ≡ true = and-intro (rw same at wr) (not-intro (sym (st .taken-is c l) ∙ ap (λ (x : ℕ). r .took x c) (s .is-at) ∙ nt)) in
-          and-intro kn (ap (λ (p : ℕ). awaitsWrite L (m .slot p)) (sym q) ∙ any-intro (L .width) (toWrite (m .slot (s .p))) c l tw)
+  -- a number stands for one change
+  one-change : (i i' : ℕ) → i < decisions j → i' < decisions j → H j i .number ≡ k → H j i' .number ≡ k → i ≡ i'
+  one-change i i' h h' e e' =
+      by-cases (decLt i i') (λ z. absurd (b .numbered .distinct i i' z h' (e ∙ sym e')))
+      (λ z. by-cases (decLt i' i) (λ y. absurd (b .numbered .distinct i' i y h (e' ∙ sym e))) (λ y. omega (arith, z, y)))
 
-      safe-stored : isSafe L m k ≡ true → (c : ℕ) → c < L .width → H j i .writes c ≡ true → made (H j) (j .start) i c ≤ j .stored c
-      safe-stored z c l wr = by-cases (decLe (made (H j) (j .start) i c) (j .stored c)) (λ y. y) (λ y. absurd (not-stored y))
-        where
-          none-above : someFrameAbove L m k (m .numbers .stored) ≡ false
-          none-above = not-true (someFrameAbove L m k (m .numbers .stored)) (and-left (not (someFrameAbove L m k (m .numbers .stored))) (not (writesLeft L m k)) z)
+  abbrev lostThen : ℕ → Bool
+  lostThen i = lost (L .width) (H j) (j .start) (greatestLine L j) i
 
-          none-left : writesLeft L m k ≡ false
-          none-left = not-true (writesLeft L m k) (and-right (not (someFrameAbove L m k (m .numbers .stored))) (not (writesLeft L m k)) z)
+  abbrev lostAs : ℕ → Bool
+  lostAs i = lostThen i && eqb (H j i .number) k
 
-          not-stored : ¬ (made (H j) (j .start) i c ≤ j .stored c) → ⊥
-          not-stored y =
-              let above : Above (L .width) (H j) (j .start) (m .numbers .stored) i = record { c = c; is-card = l; wrote-it = wr; is-above = omega (arith, y, r .stored-is c l) } in
-              by-cases (decLe (made (H j) (j .start) i c) (m .numbers .reached c))
-              (λ t. clash (ap (λ (x : ℕ). someFrameAbove L m x (m .numbers .stored)) (sym e) ∙ above-frames L m j r (H j) b (m .numbers .stored) (r .ranges .base-stored) i h above t) none-above)
-              (λ t. clash (left-there c l wr (fails (r .took i c) (λ u. t (b .levels .up-to i c h l wr u)))) none-left)
+  lost-then : isLost L (allLost L m) k ≡ anyBelow (decisions j) lostAs
+  lost-then = lost-is L n (allLost L m) (noteLose j) after-loss after-runs refl k
 
-      stored-safe : ((c : ℕ) → c < L .width → H j i .writes c ≡ true → made (H j) (j .start) i c ≤ j .stored c) → isSafe L m k ≡ true
-      stored-safe all = and-intro (not-intro (fails (someFrameAbove L m k (m .numbers .stored)) no-frame)) (not-intro (fails (writesLeft L m k) no-slot))
-        where
-          no-frame : someFrameAbove L m k (m .numbers .stored) ≡ true → ⊥
-          no-frame z =
-              let q : (y : Numbered-as (H j) (decisions j) k) × Above (L .width) (H j) (j .start) (m .numbers .stored) (y .i) = frames-above L m j r (H j) b (m .numbers .stored) (r .ranges .base-stored) k z in
-              let s : q .0 .i ≡ i = one-change (q .0 .i) i (q .0 .in-history) h (q .0 .is-number) e in
-              let u : Above (L .width) (H j) (j .start) (m .numbers .stored) i = rw s at (q .1) in
-              omega (arith, all (u .c) (u .is-card) (u .wrote-it), u .is-above, r .stored-is (u .c) (u .is-card))
+  module _ (i : ℕ) (h : i < decisions j) (e : H j i .number ≡ k) where
+    safe-on : isSafe L m k ≡ true → (c : ℕ) → c < L .width → H j i .writes c ≡ true → On (H j) (j .start) (greatestLine L j) i c
+    safe-on z c l wr =
+        by-cases (decLe (made (H j) (j .start) i c) (greatestLine L j c)) (λ y. y)
+        (λ y. clash (any-intro (decisions j) lostAs i h (and-intro
+        (above-lost (L .width) (H j) (j .start) (greatestLine L j) i (record { c = c; is-card = l; wrote-it = wr; is-above = omega (arith, y) })) (eq-eqb (H j i .number) k e)))
+        (sym lost-then ∙ not-true (isLost L (allLost L m) k) z))
 
-          no-slot : writesLeft L m k ≡ true → ⊥
-          no-slot z =
-              let kn : isKnown L m k ≡ true = and-left (isKnown L m k) (awaitsWrite L (m .slot (slotOf L m k))) z in
-              let kp : (slotOf L m k < L .slots) × (isOpen (m .slot (slotOf L m k)) ≡ true) × (m .slot (slotOf L m k) .change .number ≡ k) = known-slot L m k kn in
-              let f : Found (L .width) (toWrite (m .slot (slotOf L m k))) = any-elim (L .width) (toWrite (m .slot (slotOf L m k))) (and-right (isKnown L m k) (awaitsWrite L (m .slot (slotOf L m k))) z) in
-              test (decided L (m .slot (slotOf L m k)))
-              (λ d. let st : Stood (L .width) (H j) (j .start) (decisions j) (r .took) (m .slot (slotOf L m k)) (r .at (slotOf L m k)) = b .standing .stood (slotOf L m k) (kp .0) (kp .1) d in
-              let s : r .at (slotOf L m k) ≡ i = one-change (r .at (slotOf L m k)) i (st .in-history) h (ap (λ (t : Change). t .number) (st .change-is) ∙ kp .2) e in
-              let wr : H j i .writes (f .0) ≡ true = ap (λ (x : ℕ). H j x .writes (f .0)) (sym s) ∙ ap (λ (t : Change). t .writes (f .0)) (st .change-is) ∙ and-left (m .slot (slotOf L m k) .change .writes (f .0)) (not (m .slot (slotOf L m k) .taken (f .0))) (f .2) in
-              let nt : r .took i (f .0) ≡ false = ap (λ (x : ℕ). r .took x (f .0)) (sym s) ∙ st .taken-is (f .0) (f .1) ∙ not-true (m .slot (slotOf L m k) .taken (f .0)) (and-right (m .slot (slotOf L m k) .change .writes (f .0)) (not (m .slot (slotOf L m k) .taken (f .0))) (f .2)) in
-              let hi : made (H j) (j .start) i (f .0) ≤ m .numbers .reached (f .0) = omega (arith, all (f .0) (f .1) wr, r .stored-is (f .0) (f .1), stored-reached (f .0) (f .1)) in
-              clash (b .levels .taken i (f .0) h (f .1) wr hi) nt)
-              (λ d. b .standing .waits (slotOf L m k) (kp .0) (kp .1) d .unlike i h (e ∙ sym (kp .2)))
-
-    safe-right : hasFrame L m k ≡ true → SafeRight L j k (cond (isSafe L m k) safe unsafe)
-    safe-right z =
-        let q : (y : Numbered-as (H j) (decisions j) k) × Above (L .width) (H j) (j .start) (m .numbers .base) (y .i) =
-        frames-above L m j r (H j) b (m .numbers .base) (λ c l. le-refl (m .numbers .base c)) k (and-right (not (eqb k 0)) (someFrameAbove L m k (m .numbers .base)) z) in
-        record {
-          i = q .0 .i;
-          decided = q .0 .in-history;
-          number = q .0 .is-number;
-          right = (λ e. safe-stored (q .0 .i) (q .0 .in-history) (q .0 .is-number) (is-safe e), λ all. rw (stored-safe (q .0 .i) (q .0 .in-history) (q .0 .is-number) all));
-        }
+    on-safe : ((c : ℕ) → c < L .width → H j i .writes c ≡ true → On (H j) (j .start) (greatestLine L j) i c) → isSafe L m k ≡ true
+    on-safe all = not-intro (lost-then ∙ fails (anyBelow (decisions j) lostAs) none)
       where
-        is-safe : cond (isSafe L m k) safe unsafe ≡ safe → isSafe L m k ≡ true
-        is-safe e = test (isSafe L m k) (λ y. y) (λ y. let d : unsafe ≡ safe = sym (ap (λ (x : Bool). cond x safe unsafe) y) ∙ e in let u : _≡_ {A = ℕ} 0 1 = cc in absurd (omega arith))
+        none : anyBelow (decisions j) lostAs ≡ true → ⊥
+        none y =
+            let f : Found (decisions j) lostAs = any-elim (decisions j) lostAs y in
+            let s : f .0 ≡ i = one-change (f .0) i (f .1) h (eqb-true (H j (f .0) .number) k (and-right (lostThen (f .0)) (eqb (H j (f .0) .number) k) (f .2))) e in
+            let u : Above (L .width) (H j) (j .start) (greatestLine L j) (f .0) = lost-above (L .width) (H j) (j .start) (greatestLine L j) (f .0) (and-left (lostThen (f .0)) (eqb (H j (f .0) .number) k) (f .2)) in
+            let w : Above (L .width) (H j) (j .start) (greatestLine L j) i = rw s at u in
+            omega (arith, all (w .c) (w .is-card) (w .wrote-it), w .is-above)
+
+  safe-right : hasFrame L m k ≡ true → SafeRight L j k (cond (isSafe L m k) safe unsafe)
+  safe-right z =
+      let q : (y : Numbered-as (H j) (decisions j) k) × Above (L .width) (H j) (j .start) (m .numbers .base) (y .i) =
+      frames-above L m j r (H j) b (m .numbers .base) (λ c l. le-refl (m .numbers .base c)) k (and-right (not (eqb k 0)) (someFrameAbove L m k (m .numbers .base)) z) in
+      record {
+        i = q .0 .i;
+        decided = q .0 .in-history;
+        number = q .0 .is-number;
+        line = greatestLine L j;
+        choice = greatest-choice L m j (recallable L n m j v);
+        right = (λ e. safe-on (q .0 .i) (q .0 .in-history) (q .0 .is-number) (is-safe e), λ all. rw (on-safe (q .0 .i) (q .0 .in-history) (q .0 .is-number) all));
+      }
+    where
+      is-safe : cond (isSafe L m k) safe unsafe ≡ safe → isSafe L m k ≡ true
+      is-safe e = test (isSafe L m k) (λ y. y) (λ y. let d : unsafe ≡ safe = sym (ap (λ (x : Bool). cond x safe unsafe) y) ∙ e in let u : _≡_ {A = ℕ} 0 1 = cc in absurd (omega arith))
 
 -- ---- each accepted call of a list
 call-right : (C : Codec) (L : Limits) (n : CardSet) → Carded L n → CodecLaw C L n → {cs : Calls} {m : Model} (r : Run C L n cs m) (call : Call) (x : Choice) → Proper L m call x

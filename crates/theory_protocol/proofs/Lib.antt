@@ -19,3 +19,4 @@ pub mod Kept
 pub mod Answers
 pub mod Choices
 pub mod Room
+pub mod Agreement

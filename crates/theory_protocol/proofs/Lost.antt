@@ -1,4 +1,4 @@
--- The changes that a fix lists as lost are the lost changes of the history; a change is answered safe exactly where its states are stored. Assumes nothing.
+-- The changes that a fix lists as lost are the lost changes of the history. Assumes nothing.
 use Prim.Native.Nat.{ℕ, suc, _+_, _-_, _≤_, _<_}
 use mathlib.Core.Path.{_≡_, sym, _∙_, ap}
 use mathlib.Core.Bool.{Bool, true, false, not, _&&_, _||_}

@@ -9,9 +9,9 @@ use Rattle.base_refusal.specs.declared.Refusal.the-variants.{NoSuchCard, BothSe
 use Rattle.theory_history.specs.Change.{CardSet, Numbers, touches}
 use Rattle.theory_history.specs.Vector.{noEntries, vectorOf}
 use Rattle.theory_history.specs.Line.{lineFrom}
-use Rattle.theory_protocol.specs.Model.{unvoted, Limits, up, isUp, isDown, isRolling, OpenChange, Model, noCards, freeSlot, isCard, strays, isEmpty, within, withCard, isOpen, decided, closed, awaitsWrite, slotOf, freeAt, isKnown, tracked, withYes, withTaken, withVector}
+use Rattle.theory_protocol.specs.Model.{unvoted, Limits, Phase, up, isUp, isDown, isRolling, OpenChange, Model, noCards, freeSlot, isCard, strays, isEmpty, within, withCard, isOpen, decided, closed, slotOf, freeAt, isKnown, tracked, withYes, withTaken, withVector}
 use Rattle.theory_protocol.specs.Valid.{valid}
-use Rattle.theory_protocol.specs.Edit.{Edit, place, latest, grow, raise, keep, rebase, fall, halt, fix, lower, renew}
+use Rattle.theory_protocol.specs.Edit.{Edit, place, latest, grow, raise, keep, rebase, fall, halt, fix, lower, renew, editedAll}
 use Rattle.theory_protocol.specs.Plan.{CardRow, done, opened, safe, unsafe, fixed, Check, _⇒_, Plan, checked}
 
 -- ---- a fresh cabinet
@@ -167,7 +167,7 @@ trimChecks L m = not (valid L m) ⇒ BadCabinet ∷ not (isUp (m .phase)) ⇒ Wr
 abbrev pub trimPlan : Limits → Model → Plan
 trimPlan L m = checked (trimChecks L m) done (rebase (lines L m) ∷ [])
 
--- ---- 7. safe
+-- ---- frames of a change
 -- card c has a frame of change k above the number x
 abbrev pub frameAbove : Model → ℕ → ℕ → ℕ → Bool
 frameAbove m k c x = anyBelow (m .numbers .reached c - x) (λ s. eqb (m .memory .change c (suc (x + s))) k)
@@ -176,17 +176,35 @@ frameAbove m k c x = anyBelow (m .numbers .reached c - x) (λ s. eqb (m .memory 
 abbrev pub someFrameAbove : Limits → Model → ℕ → Numbers → Bool
 someFrameAbove L m k x = anyBelow (L .width) (λ c. m .present c && frameAbove m k c (x c))
 
+-- ---- 8. lose
+abbrev pub loseChecks : Limits → Model → CardSet → List Check
+loseChecks L m cards = not (valid L m) ⇒ BadCabinet ∷ strays L m cards ⇒ NoSuchCard ∷ []
+
+-- "Their held falls to stored. From up, open changes end and the phase is down."
+abbrev pub lossEdits : Phase → CardSet → List Edit
+lossEdits phase cards = fall cards ∷ cond (isUp phase) (halt ∷ []) []
+
+abbrev pub losePlan : Limits → Model → CardSet → Plan
+losePlan L m cards = checked (loseChecks L m cards) done (lossEdits (m .phase) cards)
+
+-- ---- lost changes
+-- the change k is lost: "decided in this session, wrote a card, not in the line". It has a frame above the line, or it ended with a written share untaken.
+abbrev pub isLost : Limits → Model → ℕ → Bool
+isLost L m k =
+    not (eqb k 0) && (someFrameAbove L m k (recoveryLine L m) || anyBelow (L .slots) (λ p. eqb (m .ended p) k))
+
+-- ---- 7. safe, as document 02's wish 1 has it
+-- "if every card were lost at this moment with the present stored numbers": a loss of all its cards from phase up
+abbrev pub allLost : Limits → Model → Model
+allLost L m = editedAll L (lossEdits up (m .present)) m
+
+-- "a change is safe when it would be in the line" then
+abbrev pub isSafe : Limits → Model → ℕ → Bool
+isSafe L m k = not (isLost L (allLost L m) k)
+
 -- "Known are changes with a frame above base."
 abbrev pub hasFrame : Limits → Model → ℕ → Bool
 hasFrame L m k = not (eqb k 0) && someFrameAbove L m k (m .numbers .base)
-
--- an open change of that number has yet to write a card
-abbrev pub writesLeft : Limits → Model → ℕ → Bool
-writesLeft L m k = isKnown L m k && awaitsWrite L (m .slot (slotOf L m k))
-
--- "a change is safe when every card it wrote has stored its state"
-abbrev pub isSafe : Limits → Model → ℕ → Bool
-isSafe L m k = not (someFrameAbove L m k (m .numbers .stored)) && not (writesLeft L m k)
 
 abbrev pub safeChecks : Limits → Model → ℕ → List Check
 safeChecks L m k = not (valid L m) ⇒ BadCabinet ∷ not (isUp (m .phase)) ⇒ WrongPhase ∷ not (hasFrame L m k) ⇒ NotAwaited ∷ []
@@ -194,19 +212,7 @@ safeChecks L m k = not (valid L m) ⇒ BadCabinet ∷ not (isUp (m .phase)) ⇒ 
 abbrev pub safePlan : Limits → Model → ℕ → Plan
 safePlan L m k = checked (safeChecks L m k) (cond (isSafe L m k) safe unsafe) []
 
--- ---- 8. lose
-abbrev pub loseChecks : Limits → Model → CardSet → List Check
-loseChecks L m cards = not (valid L m) ⇒ BadCabinet ∷ strays L m cards ⇒ NoSuchCard ∷ []
-
-abbrev pub losePlan : Limits → Model → CardSet → Plan
-losePlan L m cards = checked (loseChecks L m cards) done (fall cards ∷ cond (isUp (m .phase)) (halt ∷ []) [])
-
 -- ---- 9. fix
--- the change k is lost: "decided in this session, wrote a card, not in the line". It has a frame above the line, or it ended with a written share untaken.
-abbrev pub isLost : Limits → Model → ℕ → Bool
-isLost L m k =
-    not (eqb k 0) && (someFrameAbove L m k (recoveryLine L m) || anyBelow (L .slots) (λ p. eqb (m .ended p) k))
-
 -- the card records, in card order
 abbrev pub cardRows : Limits → Model → List CardRow
 cardRows L m =

@@ -55,7 +55,7 @@ pub record VectorsRight (L : Limits) (m : Model) (j : Journal) : Type 0 where
   pub none-yet : isUp (m .phase) ≡ true → (c i : ℕ) → c < L .width → i < L .width → m .numbers .reached c ≡ j .start c → m .memory .last c i ≡ 0
 
 -- ---- Demand 3
--- "the line answered is a choice", and the greatest one
+-- "the line answered is a choice", and the greatest one: what is said of a line in fix, restart and safe
 pub record GreatestChoice (L : Limits) (j : Journal) (line : Numbers) : Type 0 where
   pub is-cut : Cut (L .width) (H j) (j .start) (decisions j) (j .stored) line
   -- "and every other choice is on no card above it"
@@ -103,12 +103,14 @@ pub record TakeRight (j : Journal) (k c : ℕ) (m m' : Model) : Type 0 where
   pub held-made : H j i .writes c ≡ true → m' .numbers .held c ≡ made (H j) (j .start) i c
   pub read-stays : H j i .writes c ≡ false → m' .numbers .reached c ≡ m .numbers .reached c
 
--- Call 7: the change of number k is in the history, and it is answered safe exactly where the journal has all its states stored
+-- Call 7: the change of number k is in the history, and it is answered safe exactly where it is on every card it wrote, in the greatest choice of the stored numbers
 pub record SafeRight (L : Limits) (j : Journal) (k : ℕ) (answer : Answer) : Type 0 where
   pub i : ℕ
   pub decided : i < decisions j
   pub number : H j i .number ≡ k
-  pub right : (answer ≡ safe) ↔ ((c : ℕ) → c < L .width → H j i .writes c ≡ true → made (H j) (j .start) i c ≤ j .stored c)
+  pub line : Numbers
+  pub choice : GreatestChoice L j line
+  pub right : (answer ≡ safe) ↔ ((c : ℕ) → c < L .width → H j i .writes c ≡ true → On (H j) (j .start) line i c)
 
 -- what holds of an accepted call, made at the cabinet m after the calls cs, that leaves the cabinet m'
 abbrev pub CallRight : Limits → (n : CardSet) → Calls → Call → Answer → (m m' : Model) → Type 0

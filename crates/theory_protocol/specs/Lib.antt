@@ -9,3 +9,4 @@ pub mod Run
 pub mod Demands
 pub mod Choices
 pub mod Room
+pub mod Agreement

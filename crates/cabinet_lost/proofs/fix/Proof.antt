@@ -10,7 +10,8 @@ use Rattle.cabinet_recovery.specs.declared.FixReply.{FixReply}
 use Rattle.cabinet_recovery.specs.declared.FixReply.the-variants.{NotFixed}
 use Rattle.cabinet_recovery.specs.Fix.{FixWorked}
 use Rattle.cabinet_layout.proofs.Held.{zero-listed}
-use Rattle.cabinet_lost.proofs.Told.{foundLine, first-told, line-rises, early-told, short-told, fixed-told}
+use Rattle.cabinet_listing.proofs.Shown.{foundLine}
+use Rattle.cabinet_lost.proofs.Told.{first-told, line-rises, early-told, short-told, fixed-told}
 use borrow.Author.Needs.{needs}
 use Rattle.cabinet_lost.proofs.fix.Statement.{statement}
 use Rattle.cabinet_lost.proofs.fix.Tie as tie

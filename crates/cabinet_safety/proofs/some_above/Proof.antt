@@ -1,17 +1,16 @@
-use borrow.Author.Tests.{ltb-true}
-use Rattle.cabinet_layout.specs.Shape.{at, ringChange}
-use Rattle.cabinet_layout.proofs.Limits.{width16}
+use Rattle.cabinet_layout.specs.Shape.{at}
+use Rattle.cabinet_listing.specs.Lost.{framedBy}
 use Rattle.base_laws.proofs.Fill.{AnySoFar, any-none, any-more, any-done}
-use Rattle.base_laws.specs.Below.{anyBelow}
-use Prim.Native.Nat.{suc, _+_, _-_}
+use Prim.Native.Nat.{_-_}
+use mathlib.Core.Path.{refl}
 use mathlib.Core.Bool.{_&&_}
-use lib.Dec.{ltb, eqb}
+use lib.Dec.{ltb}
 use borrow.Author.Needs.{needs}
 use Rattle.cabinet_safety.proofs.some_above.Statement.{statement}
 use Rattle.cabinet_safety.proofs.some_above.Tie as tie
 
 abbrev Inv-loop : tie.InvT-loop
-Inv-loop changes cards k numbers reached found₀ c₀ found c = AnySoFar 16 (λ i. ltb i cards && anyBelow (at reached i - at numbers i) (λ s. eqb (ringChange changes i (suc (at numbers i + s))) k)) found c
+Inv-loop changes cards k numbers reached found₀ c₀ found c = AnySoFar 16 (λ i. ltb i cards && framedBy changes i (at numbers i) (at reached i) k) found c
 
 abbrev μ-loop : tie.MeasureT-loop
 μ-loop changes cards k numbers reached found₀ c₀ found c = 16 - c
@@ -32,7 +31,7 @@ array-read-there-above-2 : tie.Need-array-read-there-above-2 Inv-loop μ-loop
 array-read-there-above-2 c = search needs
 
 there-above-requires : tie.Need-there-above-requires Inv-loop μ-loop
-there-above-requires c κs = (c .loop-test .taken, λ t. c .before .before .pre (c .before .loop .c) (c .loop-test .taken) (ltb-true (c .before .loop .c) (c .before .before .args .cards) t))
+there-above-requires c κs = c .loop-test .taken
 
 add-c : tie.Need-add-c Inv-loop μ-loop
 add-c c = search needs
@@ -44,7 +43,7 @@ loop-again : tie.Need-loop-again Inv-loop μ-loop
 loop-again c = any-more (c .before .before .loop .inv) (c .before .loop-test .taken) (c .there-above .ensures)
 
 returns : tie.Need-returns Inv-loop μ-loop
-returns c = any-done (c .before .loop .inv) (c .loop-test .left) width16
+returns c = any-done (c .before .loop .inv) (c .loop-test .left) refl
 
 pub some-above-spec : {M : Type 1} → statement M
 some-above-spec =

@@ -2,7 +2,7 @@ use Rattle.cabinet_safety.proofs.there_above.Statement.{statement}
 use Rattle.cabinet_safety.proofs.there_above.Tie as tie
 
 frame-above-requires : tie.Need-frame-above-requires
-frame-above-requires c κs = (c .before .pre .0, c .before .pre .1 (c .if1 .taken))
+frame-above-requires c κs = c .before .pre
 
 returns : tie.Need-returns
 returns c = rw (c .before .if1 .taken) (c .frame-above .ensures)

@@ -1,28 +1,15 @@
 -- `cabinet_trimming::safe` answers what its plan says. Assumes nothing.
-use Prim.Native.Nat.{ℕ}
-use mathlib.Core.Path.{_≡_, sym, _∙_, ap}
-use mathlib.Core.Bool.{Bool, true, not, cond}
+use mathlib.Core.Path.{_≡_, _∙_, ap}
+use mathlib.Core.Bool.{Bool, not, cond}
 use mathlib.Core.List.{List, []}
-use borrow.Author.Tests.{lt-ltb}
 use Rattle.theory_protocol.specs.Valid.{valid}
 use Rattle.theory_protocol.specs.Plan.{Answer, Reply, Check, checked, safe, unsafe}
 use Rattle.theory_protocol.specs.Calls.{safeChecks, isSafe}
-use Rattle.cabinet_layout.specs.declared.Core.{Core}
 use Rattle.cabinet_layout.specs.Answers.{after28}
 use Rattle.cabinet_layout.specs.Shape.{limits16, modelOf}
-use Rattle.cabinet_safety.specs.Known.{InOrder}
-use Rattle.cabinet_plans.proofs.Known.{valid-card, valid-reached}
 use borrow.Author.Needs.{needs}
 use Rattle.cabinet_trimming.proofs.safe.Statement.{statement}
 use Rattle.cabinet_trimming.proofs.safe.Tie as tie
-
--- what the verdict is told of the numbers of a core that passes 28
-in-order : (entries changes : List ℕ) (s : Core) → valid limits16 (modelOf entries changes s) ≡ true → InOrder (s .base) (s .stored) (s .reached) (s .head .cards)
-in-order entries changes s e =
-    record {
-      low = λ c h l. valid-card (modelOf entries changes s) e c h (lt-ltb c (s .head .cards) l) .numbers .base-stored;
-      high = λ c h l. valid-reached (modelOf entries changes s) e c h (lt-ltb c (s .head .cards) l);
-    }
 
 -- what is answered, by what the check for 28 found
 answer-by : (cs : List Check) (a : Answer) (x y : Bool) (reply : Reply) → x ≡ y → reply ≡ checked (after28 (not x) cs) a [] .reply → reply ≡ checked (after28 (not y) cs) a [] .reply
@@ -32,13 +19,13 @@ cabinet-valid-requires : tie.Need-cabinet-valid-requires
 cabinet-valid-requires c κs = search needs
 
 safe-verdict-requires : tie.Need-safe-verdict-requires
-safe-verdict-requires c κs = λ t. let a : _ = c .before .before .before .before .before .before .args in in-order (a .entries .now) (a .changes .now) (a .core) (sym (c .before .before .before .before .before .cabinet-valid .ensures) ∙ t)
+safe-verdict-requires c κs = search needs
 
 returns : tie.Need-returns
 returns c =
-    let a : _ = c .before .before .before .before .before .before .before .args in
+    let a : _ = c .before .before .args in
     let m : _ = modelOf (a .entries .now) (a .changes .now) (a .core) in
-    answer-by (safeChecks limits16 m (a .change)) (cond (isSafe limits16 m (a .change)) safe unsafe) _ (valid limits16 m) _ (c .before .before .before .before .before .before .cabinet-valid .ensures) (c .safe-verdict .ensures)
+    answer-by (safeChecks limits16 m (a .change)) (cond (isSafe limits16 m (a .change)) safe unsafe) _ (valid limits16 m) _ (c .before .cabinet-valid .ensures) (c .safe-verdict .ensures)
 
 pub safe-spec : {M : Type 1} → statement M
 safe-spec = tie.close (tie.spec cabinet-valid-requires safe-verdict-requires returns)
