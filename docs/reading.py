@@ -12,7 +12,12 @@ import sys
 
 sys.setrecursionlimit(10000)
 ROOT = os.path.join(os.path.dirname(os.path.abspath(__file__)), "..")
-CLAIMS = [("demands_whole", "Demand1", "Demand1"), ("demands_whole", "Texts", "RunsLists"), ("demands_lists", "Claims", "SafeAgreesWithFix16")]
+CLAIMS = [
+    ("demands_whole", "Demand1", "Demand1"),
+    ("demands_whole", "Texts", "RunsLists"),
+    ("theory_protocol", "Agreement", "SafeAgreesWithFix"),
+    ("demands_lists", "Claims", "SafeAgreesWithFix16"),
+]
 HEAD = re.compile(r"^(?:(?:abbrev|unfoldable) )?(?:pub )?(?:(record|data) )?([^\s:(]+)(?= [:(])")
 TOKEN = re.compile(r"[^\s(){};,.\[\]]+")
 

@@ -112,9 +112,9 @@ fn would_stay<'a>(
     let slots = core.slots;
     let head = core.head;
     let line = cabinet_recovery::lines(entries, head, base, stored, reached);
-    let above = some_above(changes, line, reached, head.cards, k);
+    let framed = some_above(changes, line, reached, head.cards, k);
     let ends = would_end(slots, k);
-    !((k != 0) & (above | ends))
+    !((k != 0) & (framed | ends))
 }
 
 fn graded(good: bool) -> SafeReply

@@ -18,7 +18,7 @@ use Rattle.cabinet.specs.declared.Cabinet.{Cabinet}
 use Rattle.cabinet.specs.View.{view}
 use Rattle.cabinet_records.specs.declared.CardRecord.{CardRecord}
 use Rattle.cabinet_restart.specs.Restart.{Restarted}
-use Rattle.demands_lists.specs.Lists.{Asked, plain, lose, fix, callOf, Typed, Lent, lent, Answered, List16, start, next}
+use Rattle.demands_lists.specs.Lists.{Asked, plain, lose, fix, callOf, Typed, Lent, lent, Sized, Answered, List16, start, next}
 
 -- ---- Demand 1, for any cabinet, a forged one too, and any arguments: "gets an answer or a refusal from document 01. A refusal changes neither the cabinet nor any lent list or buffer."
 -- what is said where this is the table: an answer, where no row fails; else the refusal of the first row that does
@@ -75,11 +75,18 @@ abbrev pub Demands23 : Type 0
 Demands23 = (n : ℕ) (cs : Calls) (s : Cabinet) (l : List16 n cs s) → Throughout l
 
 -- ---- Document 02, wish 1
--- the cabinet of a list answers safe k, the next call is an accepted loss (of all its cards, or of any), and the next an accepted fix
-abbrev pub SafeAgreesWithFix16 : Type 0
-SafeAgreesWithFix16 =
-    (n : ℕ) (cs : Calls) (s : Cabinet) → List16 n cs s
-    → (k : ℕ) (a : Answer) (t : Cabinet) (lent₁ : Lent) → Answered s (plain (safeCall k)) (accepted a) t lent₁
-    → (cards : ℕ) → Typed (lose cards) → (b : Answer) (u : Cabinet) (lent₂ : Lent) → Answered t (lose cards) (accepted b) u lent₂
+-- the cabinet s answers safe k, the next call is an accepted loss (of all its cards, or of any), and the next an accepted fix
+abbrev pub AgreesFrom : Cabinet → Type 0
+AgreesFrom s =
+    (k : ℕ) (a : Answer) (t : Cabinet) (lent₁ : Lent) → Answered s (plain (safeCall k)) (accepted a) t lent₁
+    → (cards : ℕ) (b : Answer) (u : Cabinet) (lent₂ : Lent) → Answered t (lose cards) (accepted b) u lent₂
     → (records : List CardRecord) (list : List ℕ) (rows : List CardRow) (numbers : List ℕ) (v : Cabinet) (lent₃ : Lent) → Answered u (fix records list) (accepted (fixed rows numbers)) v lent₃
     → Agrees k a numbers
+
+-- of any cabinet of its type, a forged one too
+abbrev pub SafeAgreesWithFix16 : Type 0
+SafeAgreesWithFix16 = (s : Cabinet) → Sized s → AgreesFrom s
+
+-- of every cabinet that a list leads to
+abbrev pub AgreesInLists16 : Type 0
+AgreesInLists16 = (n : ℕ) (cs : Calls) (s : Cabinet) → List16 n cs s → AgreesFrom s

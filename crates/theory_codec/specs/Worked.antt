@@ -1,4 +1,4 @@
--- Document 01's samples B to H and its worked read-out, as lists of calls from a fresh cabinet.
+-- Document 01's samples B to H, with what safe answers of their changes, and its worked read-out, as lists of calls from a fresh cabinet.
 use Prim.Native.Nat.{ℕ, suc}
 use mathlib.Core.Bool.{true}
 use mathlib.Core.List.{List, [], _∷_, _++_, map}

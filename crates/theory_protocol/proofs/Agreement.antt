@@ -29,7 +29,7 @@ module _ (L : Limits) (m : Model) where
       (λ ps. ap (λ (z : Bool). isLost L (editedAll L (fall cards ∷ cond z (halt ∷ []) []) m) k) u) b e
 
   -- what safe answers, and in which phase
-  pub answer-is : (k : ℕ) (a : Answer) → safePlan L m k .reply ≡ accepted a → (cond (isSafe L m k) safe unsafe ≡ a) × (isUp (m .phase) ≡ true)
+  answer-is : (k : ℕ) (a : Answer) → safePlan L m k .reply ≡ accepted a → (cond (isSafe L m k) safe unsafe ≡ a) × (isUp (m .phase) ≡ true)
   answer-is k = answered (λ (x : Answer) (p : Plan). (cond (isSafe L m k) safe unsafe ≡ x) × (isUp (m .phase) ≡ true)) (safeChecks L m k) _ [] (λ ps. (refl, not-not (isUp (m .phase)) (ps .1 .0)))
 
   numbers-are : (x y : ℕ) (lost : List ℕ) (rows : List CardRow) (numbers : List ℕ) → fixPlan L m x y lost .reply ≡ accepted (fixed rows numbers) → lost ≡ numbers
@@ -37,10 +37,10 @@ module _ (L : Limits) (m : Model) where
       checked-case (λ (p : Plan). p .reply ≡ accepted (fixed rows numbers) → lost ≡ numbers) (fixChecks L m x y lost) (fixed (cardRows L m) lost) _ (λ r z. let u : _≡_ {A = ℕ} 0 1 = cc in absurd (omega arith)) (λ ps z. cc) e
 
 pub safe-agrees-with-fix : SafeAgreesWithFix
-safe-agrees-with-fix L m k a ea cards b eb lost once x y rows numbers ef =
+safe-agrees-with-fix L m k a ea cards b eb p q x once rows numbers ef =
     let s : (cond (isSafe L m k) safe unsafe ≡ a) × (isUp (m .phase) ≡ true) = answer-is L m k a ea in
     agrees-by (isLost L (allLost L m) k) k a numbers (s .0)
-    (ap (occurs k) (sym (numbers-are L (afterPlan L (losePlan L m cards) m) x y lost rows numbers ef)) ∙ once k ∙ ap one-if (lost-as-all L m cards b eb (s .1) k))
+    (ap (occurs k) (sym (numbers-are L (afterPlan L (losePlan L m cards) m) p q (x .lost) rows numbers ef)) ∙ once k ∙ ap one-if (lost-as-all L m cards b eb (s .1) k))
 
 -- ---- lists
 -- the last call of a list
@@ -72,6 +72,6 @@ agrees-in-lists C L n cs k a cards b x y rows numbers m r =
     let l : LastCall C L n (further cs (plain (safeCall k)) (accepted a)) (loseCall cards) (accepted b) (f .before) = last-call C L n (f .run) _ _ _ refl in
     let s : LastCall C L n cs (plain (safeCall k)) (accepted a) (l .before) = last-call C L n (l .run) _ _ _ refl in
     let same : l .before ≡ s .before = s .after ∙ asked-same L (s .before) k in
-    safe-agrees-with-fix L (l .before) k a (ap (λ (z : Model). safePlan L z k .reply) same ∙ s .replied) cards b (l .replied) (f .choice .lost)
-    (subst (λ (z : Model). (i : ℕ) → occurs i (f .choice .lost) ≡ one-if (isLost L z i)) (l .after) (f .proper)) x y rows numbers
+    safe-agrees-with-fix L (l .before) k a (ap (λ (z : Model). safePlan L z k .reply) same ∙ s .replied) cards b (l .replied) x y (f .choice)
+    (subst (λ (z : Model). Proper L z (fixCall x y) (f .choice)) (l .after) (f .proper)) rows numbers
     (ap (λ (z : Model). fixPlan L z x y (f .choice .lost) .reply) (sym (l .after)) ∙ f .replied)

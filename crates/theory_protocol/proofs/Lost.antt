@@ -87,7 +87,7 @@ module _ (L : Limits) (m : Model) (j : Journal) (r : Running L m j) (H : History
             )
 
     -- a change above the bound on a card that has taken it has a frame there
-    pub above-frames : (i : ℕ) → i < length (j .history) → (b : Above (L .width) H (j .start) bound i) → made H (j .start) i (b .c) ≤ m .numbers .reached (b .c) → someFrameAbove L m (H i .number) bound ≡ true
+    above-frames : (i : ℕ) → i < length (j .history) → (b : Above (L .width) H (j .start) bound i) → made H (j .start) i (b .c) ≤ m .numbers .reached (b .c) → someFrameAbove L m (H i .number) bound ≡ true
     above-frames i h b hi =
         any-intro (L .width) (λ c. m .present c && frameAbove m (H i .number) c (bound c)) (b .c) (b .is-card)
         (and-intro (a .there i (b .c) h (b .is-card) (writes-touches (H i) (b .c) (b .wrote-it)))
