@@ -9,6 +9,7 @@ use crate::grounds::due;
 use crate::journal::{Journal, TRIED_IN_FULL};
 use crate::limits::*;
 use crate::random::Random;
+use crate::refusal::Refusal;
 use crate::replay::Place;
 use crate::restart::restart;
 use crate::sheet::{read_sheet, read_sheets, write_sheet};
@@ -77,6 +78,7 @@ impl Follower {
         self.demand_refusal_due(&call, &answer, before.as_ref())?;
         if let Answer::Refused(refusal) = answer {
             counts.add(&format!("refused {:02}", refusal.number()));
+            count_barred(&call, refusal, before.as_ref(), counts);
             return demand(before == self.place.cabinet, "a refusal changed the cabinet");
         }
         if answer == Answer::NoCabinet {
@@ -371,6 +373,23 @@ impl Follower {
                 ),
                 Past::Read(_) => Err("phase up or down without a history".to_string()),
             },
+        }
+    }
+}
+
+/// What the card named with 21 was the lowest of.
+fn count_barred(call: &Call, refusal: Refusal, before: Option<&Cabinet>, counts: &mut Counts) {
+    if let (Call::Open { reads, writes }, Refusal::Barred(card), Some(before)) = (call, refusal, before) {
+        let (reads, writes) = (*reads as CardSet, *writes as CardSet);
+        let lower = |set: CardSet| members(set).next().is_some_and(|lowest| lowest < card);
+        if members(before.barred(reads, writes)).nth(1).is_some() {
+            counts.add("refused 21 with two barred cards");
+        }
+        if lower(reads | writes) {
+            counts.add("refused 21 with a lower touched card free");
+        }
+        if before.open.iter().any(|open| open.bars(card, has(writes, card)) && lower(open.touched())) {
+            counts.add("refused 21 with a lower card in the barring change");
         }
     }
 }

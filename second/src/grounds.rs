@@ -100,8 +100,13 @@ fn has_frame(cabinet: &Cabinet, change: u32) -> bool {
     })
 }
 
-/// Whether what the refusal says holds of the call and the cabinet.
-pub fn holds(refusal: Refusal, call: &Call, cabinet: &Cabinet) -> bool {
+/// The lowest card that an opening touches and finds barred: 21 is looked for apart, as it names one.
+fn lowest_barred(call: &Call, cabinet: &Cabinet) -> Option<usize> {
+    (0..cabinet.cards.len()).find(|card| is_barred(call, cabinet, *card))
+}
+
+/// Whether what another refusal says holds of the call and the cabinet.
+fn holds(refusal: Refusal, call: &Call, cabinet: &Cabinet) -> bool {
     let cards = cabinet.cards.len();
     match refusal {
         Refusal::CardCount => matches!(call, Call::Fresh { cards } if *cards == 0 || *cards > 16),
@@ -119,9 +124,6 @@ pub fn holds(refusal: Refusal, call: &Call, cabinet: &Cabinet) -> bool {
             _ => false,
         },
         Refusal::WrongPhase => !phases(call).contains(&cabinet.phase),
-        Refusal::Barred(card) => {
-            is_barred(call, cabinet, card) && (0..card).all(|card| !is_barred(call, cabinet, card))
-        }
         Refusal::EightOpen => cabinet.open.len() == MOST_OPEN,
         Refusal::HandFull => some_written(call, cabinet, |base, reached| reached == base + MOST_IN_HAND),
         Refusal::NumbersUsedUp => some_written(call, cabinet, |_, reached| reached == HIGHEST_STATE),
@@ -175,8 +177,7 @@ fn concerns(refusal: Refusal, call: &Call) -> bool {
 pub fn due(call: &Call, cabinet: &Cabinet) -> Option<Refusal> {
     for refusal in IN_ORDER {
         if refusal == Refusal::EightOpen {
-            let barred = (0..cabinet.cards.len()).find(|card| is_barred(call, cabinet, *card));
-            if let Some(card) = barred {
+            if let Some(card) = lowest_barred(call, cabinet) {
                 return Some(Refusal::Barred(card));
             }
         }

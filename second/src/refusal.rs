@@ -28,7 +28,7 @@ pub enum Refusal {
     TooLong,
     /// 20: the call is not of this phase.
     WrongPhase,
-    /// 21: a touched card is barred by an open change; the card.
+    /// 21: a touched card is barred by an open change; the lowest such card.
     Barred(usize),
     /// 22: eight changes open.
     EightOpen,

@@ -17,7 +17,14 @@ fn random_lists() {
     for number in ["01", "02", "03", "04", "20", "21", "22", "23", "25", "26", "27", "29", "30"] {
         assert!(counts.numbers.contains_key(&format!("refused {number}")), "refusal {number} never came");
     }
-    for name in ["answered safe", "answered unsafe", "unsafe though stored"] {
+    for name in [
+        "refused 21 with two barred cards",
+        "refused 21 with a lower touched card free",
+        "refused 21 with a lower card in the barring change",
+        "answered safe",
+        "answered unsafe",
+        "unsafe though stored",
+    ] {
         assert!(counts.numbers.contains_key(name), "{name} never came");
     }
 }

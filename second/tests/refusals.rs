@@ -81,6 +81,19 @@ fn bars() {
     refused(&format!("{half}open 2 1"), "21 1");
 }
 
+/// Wish 2: of the touched cards that are barred the lowest, and no other.
+#[test]
+fn lowest_barred() {
+    refused("fresh 4\nopen 0 2\nopen 0 8\nopen 0 10", "21 1");
+    refused("fresh 4\nopen 0 8\nopen 0 2\nopen 0 10", "21 1");
+    refused("fresh 4\nopen 0 5\nopen 0 12", "21 2");
+    refused("fresh 4\nopen 0 4\nopen 1 14", "21 2");
+    refused("fresh 4\nopen 0 5\nvote 1 0 1\nvote 1 2 1\ntake 1 0\nopen 0 5", "21 2");
+    refused("fresh 4\nopen 1 4\nopen 5 0", "21 2");
+    refused("fresh 4\nopen 0 10\nopen 2 8", "21 1");
+    refused("fresh 16\nopen 0 32768\nopen 65535 0", "21 15");
+}
+
 #[test]
 fn eight_open() {
     let eight = "fresh 2\n".to_string() + &"open 1 0\n".repeat(8);

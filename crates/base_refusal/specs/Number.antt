@@ -52,7 +52,7 @@ rowOf SessionsApart = row (Alone 11) refl
 rowOf TooLong = row (Alone 12) refl
 -- the call is not of this phase
 rowOf WrongPhase = row (Alone 20) refl
--- a touched card is barred by an open change; one such card is named
+-- a touched card is barred by an open change; the lowest such card is named
 rowOf (Barred card) = row (Card 21 card) refl
 -- eight changes open
 rowOf NoSlot = row (Alone 22) refl

@@ -18,7 +18,7 @@ pub enum Refusal {
     TooLong,
     // refused for where the cabinet stands
     WrongPhase,
-    // the card that is barred
+    // the lowest card that is barred
     Barred(u32),
     NoSlot,
     InHandFull,

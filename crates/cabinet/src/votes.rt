@@ -1,17 +1,18 @@
 // Calls 1 to 4 as methods: open, vote, take, withdraw.
-ghost use Rattle.theory_protocol.specs.Calls.{takePlan, votePlan, withdrawPlan};
+ghost use Rattle.base_bits.specs.Member.{member};
+ghost use Rattle.theory_protocol.specs.Calls.{openPlan, takePlan, votePlan, withdrawPlan};
 ghost use Rattle.cabinet_layout.specs.Shape.{limits16};
 ghost use Rattle.cabinet_layout.specs.Answers.{replyOf, openReplyOf};
 ghost use Rattle.cabinet.specs.View.{view};
-ghost use Rattle.cabinet.specs.Apply.{Carried, OpenCarried};
+ghost use Rattle.cabinet.specs.Apply.{Carried};
 use crate::Answer;
 use crate::Cabinet;
 use crate::OpenAnswer;
 
 impl Cabinet {
-    // 1. open. Of the cards that are barred the lowest is named.
+    // 1. open
     pub fn open(mut self, reads: u16, writes: u16) -> OpenAnswer
-        ensures { λ r. ⌜ OpenCarried self reads writes (openReplyOf (r .reply)) (r .cabinet) ⌝ }
+        ensures { λ r. ⌜ Carried self (openPlan limits16 (view self) (member reads) (member writes)) (openReplyOf (r .reply)) (r .cabinet) ⌝ }
     {
         let core = self.core;
         let valid = cabinet_valid::cabinet_valid(&self.entries, &self.changes, core);

@@ -15,7 +15,7 @@ use Rattle.theory_history.specs.Change.{CardSet}
 use Rattle.theory_protocol.specs.Model.{Model, isUp, freeAt, strays, isEmpty}
 use Rattle.theory_protocol.specs.Plan.{Check}
 use Rattle.theory_protocol.specs.Edit as edit
-use Rattle.theory_protocol.specs.Calls.{openChecks, barred, someWritten, openedChange}
+use Rattle.theory_protocol.specs.Calls.{openChecks, barred, lowestBarred, someWritten, openedChange}
 use Rattle.cabinet_layout.specs.declared.Core.{Core}
 use Rattle.cabinet_layout.specs.declared.Head.{Head}
 use Rattle.cabinet_layout.specs.declared.Slot.{Slot}
@@ -30,16 +30,16 @@ pub record Opens (m : Model) : Type 0 where
   pub slot : freeAt limits16 m < 8
   pub count : m .latest < 4294967295
 
-pub opens : (whole : Bool) (m : Model) (reads writes : CardSet) (n : ℕ) → firstFailing (after28 (not whole) (openChecks limits16 m reads writes n)) ≡ Done → Opens m
-opens whole m reads writes n e =
-    let cs : List Check = openChecks limits16 m reads writes n in
+pub opens : (whole : Bool) (m : Model) (reads writes : CardSet) → firstFailing (after28 (not whole) (openChecks limits16 m reads writes)) ≡ Done → Opens m
+opens whole m reads writes e =
+    let cs : List Check = openChecks limits16 m reads writes in
     let full : Bool = someWritten limits16 writes (λ c. leb (m .numbers .base c + limits16 .inHand) (m .numbers .reached c)) in
     let top : Bool = someWritten limits16 writes (λ c. leb (limits16 .greatestState) (m .numbers .reached c)) in
     let last : Bool = leb (limits16 .greatestNumber) (m .latest) in
     let two : firstFailing (rest (rest cs)) ≡ Done = two-pass (not whole) BadCabinet (strays limits16 m reads || strays limits16 m writes) NoSuchCard (rest (rest cs)) e in
     let four : firstFailing (rest (rest (rest (rest cs)))) ≡ Done = two-pass (isEmpty limits16 reads && isEmpty limits16 writes) BothSetsEmpty (not (isUp (m .phase))) WrongPhase (rest (rest (rest (rest cs)))) two in
-    let free : not (ltb (freeAt limits16 m) (limits16 .slots)) ≡ false = second-passes (anyBelow (limits16 .width) (barred limits16 m reads writes)) (Barred n) (not (ltb (freeAt limits16 m) (limits16 .slots))) NoSlot (rest (rest (rest (rest (rest (rest cs)))))) four in
-    let six : firstFailing (rest (rest (rest (rest (rest (rest cs)))))) ≡ Done = two-pass (anyBelow (limits16 .width) (barred limits16 m reads writes)) (Barred n) (not (ltb (freeAt limits16 m) (limits16 .slots))) NoSlot (rest (rest (rest (rest (rest (rest cs)))))) four in
+    let free : not (ltb (freeAt limits16 m) (limits16 .slots)) ≡ false = second-passes (anyBelow (limits16 .width) (barred limits16 m reads writes)) (Barred (lowestBarred limits16 m reads writes)) (not (ltb (freeAt limits16 m) (limits16 .slots))) NoSlot (rest (rest (rest (rest (rest (rest cs)))))) four in
+    let six : firstFailing (rest (rest (rest (rest (rest (rest cs)))))) ≡ Done = two-pass (anyBelow (limits16 .width) (barred limits16 m reads writes)) (Barred (lowestBarred limits16 m reads writes)) (not (ltb (freeAt limits16 m) (limits16 .slots))) NoSlot (rest (rest (rest (rest (rest (rest cs)))))) four in
     let tops : top || last ≡ false = second-passes full InHandFull (top || last) LimitReached [] six in
     let l : freeAt limits16 m < limits16 .slots = ltb-true (freeAt limits16 m) (limits16 .slots) (not-false (ltb (freeAt limits16 m) (limits16 .slots)) free) in
     let k : m .latest < limits16 .greatestNumber = leb-false (limits16 .greatestNumber) (m .latest) (test last (λ t. clash (or-right top t) tops) (λ f. f)) in

@@ -1,6 +1,8 @@
 // Call 1 over the core of a cabinet: open. It is told what the check for 28 found.
+ghost use Rattle.base_bits.specs.Member.{member};
 ghost use Rattle.cabinet_layout.specs.Answers.{openReplyOf};
-ghost use Rattle.cabinet_plans.specs.Plans.{OpenCarriedOn};
+ghost use Rattle.cabinet_layout.specs.Applied.{CoreCarried};
+ghost use Rattle.cabinet_plans.specs.Plans.{openOn};
 use base_refusal::Reply;
 use cabinet_layout::Core;
 use cabinet_layout::OpenReply;
@@ -11,9 +13,9 @@ pub struct OpenedCore {
     pub reply: OpenReply,
 }
 
-// 1. open. Of the cards that are barred the lowest is named.
+// 1. open
 pub fn open(valid: bool, mut core: Core, reads: u16, writes: u16) -> OpenedCore
-    ensures { λ r. ⌜ OpenCarriedOn valid core reads writes (openReplyOf (r .reply)) (r .core) ⌝ }
+    ensures { λ r. ⌜ CoreCarried core (openOn valid core (member reads) (member writes)) (openReplyOf (r .reply)) (r .core) ⌝ }
 {
     let slots = core.slots;
     let base = core.base;

@@ -1,9 +1,10 @@
 // 1. open: its verdict, and the change that it puts into a slot.
 ghost use mathlib.Core.Path.{_≡_};
+ghost use mathlib.Core.Bool.{not};
 ghost use Rattle.base_bits.specs.Member.{member};
-ghost use Rattle.theory_protocol.specs.Calls.{openedChange};
-ghost use Rattle.cabinet_layout.specs.Shape.{slotsModel, slotFor};
-ghost use Rattle.cabinet_opening.specs.Opening.{OpenVerdict};
+ghost use Rattle.theory_protocol.specs.Calls.{openChecks, openedChange};
+ghost use Rattle.cabinet_layout.specs.Answers.{firstFailing, after28};
+ghost use Rattle.cabinet_layout.specs.Shape.{limits16, slotsModel, slotFor};
 use base_limits::Limits;
 use base_refusal::Refusal;
 use base_refusal::Reply;
@@ -24,7 +25,7 @@ pub fn open_verdict(
     reads: u16,
     writes: u16,
 ) -> Reply
-    ensures { λ r. ⌜ OpenVerdict valid (slotsModel head all base reached) reads writes r ⌝ }
+    ensures { λ r. ⌜ r ≡ firstFailing (after28 (not valid) (openChecks limits16 (slotsModel head all base reached) (member reads) (member writes))) ⌝ }
 {
     let inside_r = base_set_bounds::within(reads, head.cards);
     let inside_w = base_set_bounds::within(writes, head.cards);

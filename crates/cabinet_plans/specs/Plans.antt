@@ -8,14 +8,12 @@ use lib.ListN.{set}
 use lib.Seq.{sets}
 use Rattle.base_limits.specs.Ring.{ringPlace}
 use Rattle.base_limits.specs.Document.{mostCards, mostFrames}
-use Rattle.base_laws.specs.Below.{anyBelow, firstBelow}
-use Rattle.base_bits.specs.Member.{member}
 use Rattle.theory_history.specs.Change.{CardSet}
 use Rattle.theory_protocol.specs.Model.{Model, freeSlot, withCard, isUp, slotOf, freeAt}
 use Rattle.theory_protocol.specs.Valid.{valid}
 use Rattle.theory_protocol.specs.Edit.{Edit, place, latest, keep, fall, halt, lower, renew}
 use Rattle.theory_protocol.specs.Plan.{Answer, done, opened, Check, Plan, Reply, checked}
-use Rattle.theory_protocol.specs.Calls.{takeChecks, shareEdit, tookShare, storeChecks, loseChecks, rollChecks, allRolled, voteChecks, voted, withdrawChecks, openChecks, openedChange, barred}
+use Rattle.theory_protocol.specs.Calls.{takeChecks, shareEdit, tookShare, storeChecks, loseChecks, rollChecks, allRolled, voteChecks, voted, withdrawChecks, openChecks, openedChange}
 use Rattle.cabinet_layout.specs.Answers.{after28}
 use Rattle.cabinet_layout.specs.declared.Core.{Core}
 use Rattle.cabinet_layout.specs.Shape.{limits16, at, listOf, modelOf}
@@ -69,14 +67,7 @@ pub record TakeCarriedOn (whole : Bool) (s : Core) (change card : ℕ) (vector :
 abbrev pub withdrawOn : Bool → Core → (change : ℕ) → Plan
 withdrawOn whole s k = judged whole (withdrawChecks limits16 (alone s) k) done (place (slotOf limits16 (alone s) k) freeSlot ∷ [])
 
-abbrev pub openOn : Bool → Core → (reads writes : CardSet) (named : ℕ) → Plan
-openOn whole s reads writes named =
-    judged whole (openChecks limits16 (alone s) reads writes named) (opened (suc (alone s .latest)))
+abbrev pub openOn : Bool → Core → (reads writes : CardSet) → Plan
+openOn whole s reads writes =
+    judged whole (openChecks limits16 (alone s) reads writes) (opened (suc (alone s .latest)))
     (place (freeAt limits16 (alone s)) (openedChange (suc (alone s .latest)) reads writes) ∷ latest (suc (alone s .latest)) ∷ [])
-
--- open: for the lowest card that is touched and barred, where 21 is answered, the plan at that card
-pub record OpenCarriedOn (whole : Bool) (s : Core) (reads writes : ℕ) (reply : Reply) (next : Core) : Type 0 where
-  pub named : ℕ
-  pub isBarred : anyBelow (limits16 .width) (barred limits16 (alone s) (member reads) (member writes)) ≡ true → barred limits16 (alone s) (member reads) (member writes) named ≡ true
-  pub lowest : named ≡ firstBelow (limits16 .width) (barred limits16 (alone s) (member reads) (member writes))
-  pub carried : CoreCarried s (openOn whole s (member reads) (member writes) named) reply next

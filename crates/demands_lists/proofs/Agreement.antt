@@ -46,8 +46,8 @@ safe-agrees-with-fix-16 s z k a t lent₁ x cards b u lent₂ y records list row
     ap view (y .0 .cabinet) ∙ ap (λ (e : Cabinet). view (applyAll (losePlan limits16 (view e) (member cards) .edits) e)) same ∙ lose-shows s z (member cards) in
     safe-agrees-with-fix limits16 (view s) k a (sym (x .0 .answer)) (member cards) b
     (ap (λ (e : Cabinet). losePlan limits16 (view e) (member cards) .reply) (sym same) ∙ sym (y .0 .answer))
-    (length records) (length list) (record { named = 0; lost = c .told .lost })
-    (subst (λ (m : Model). Proper limits16 m (fixCall (length records) (length list)) (record { named = 0; lost = c .told .lost })) shown (c .told .once)) rows numbers
+    (length records) (length list) (record { lost = c .told .lost })
+    (subst (λ (m : Model). Proper limits16 m (fixCall (length records) (length list)) (record { lost = c .told .lost })) shown (c .told .once)) rows numbers
     (ap (λ (m : Model). fixPlan limits16 m (length records) (length list) (c .told .lost) .reply) (sym shown) ∙ sym (w .answer ∙ c .told .answer))
 
 pub agrees-in-lists-16 : AgreesInLists16

@@ -92,9 +92,9 @@ module _ (s : Cabinet) (z : Sized s) (w : Narrow (view s)) where
   abbrev PlanFits : Plan → Type 0
   PlanFits p = EditsFit s (p .edits)
 
-  pub open-fits : (reads writes named : ℕ) → reads < 65536 → writes < 65536 → PlanFits (openPlan limits16 m (member reads) (member writes) named)
-  open-fits reads writes named hr hw =
-      checked-case PlanFits (openChecks limits16 m (member reads) (member writes) named) _ _ (λ r. tt)
+  pub open-fits : (reads writes : ℕ) → reads < 65536 → writes < 65536 → PlanFits (openPlan limits16 m (member reads) (member writes))
+  open-fits reads writes hr hw =
+      checked-case PlanFits (openChecks limits16 m (member reads) (member writes)) _ _ (λ r. tt)
       (λ ps.
       let free : freeAt limits16 m < limits16 .slots = ltb-true (freeAt limits16 m) (limits16 .slots) (not-not (ltb (freeAt limits16 m) (limits16 .slots)) (ps .1 .1 .1 .1 .1 .0)) in
       ((omega (arith, free, slots8), record { reads = λ k h. member-above 16 reads k hr h; writes = λ k h. member-above 16 writes k hw h; yes = λ k h. refl; taken = λ k h. refl; vector = λ k h. refl }), (tt, tt)))

@@ -1,28 +1,16 @@
--- Demand 1 of the 16-card cabinet, a forged one too: each answer is that of the call's table, and what is refused changes nothing. Assumes nothing.
-use Prim.Native.Nat.{ℕ, _≤_, _<_}
+-- Demand 1 of the 16-card cabinet, a forged one too: each answer is that of the call's table, and what is refused changes nothing; and the card that 21 names. Assumes nothing.
 use mathlib.Core.Path.{_≡_, refl, sym, _∙_, ap}
 use mathlib.Core.List.{List, []}
 use lib.ListN.{length}
-use mathlib.Core.Bool.{true, not, _&&_, _||_}
-use mathlib.Core.Logic.{_⊎_, inl, inr, by-cases}
-use native.Mathlib.Decide.{decLt}
-use native.Mathlib.Omega.{arith}
-use Rattle.base_laws.proofs.Logic.{clash, and-left, and-right, or-elim}
-use Rattle.base_laws.proofs.Below.{Found, any-elim}
-use Rattle.base_bits.proofs.Members.{member-above}
-use Rattle.theory_history.specs.Change.{touches}
-use Rattle.theory_protocol.specs.Model.{OpenChange, Model, isOpen}
-use Rattle.cabinet_layout.proofs.Limits.{width16}
 use Rattle.base_refusal.specs.declared.Refusal.{Refusal}
 use Rattle.base_bits.specs.Member.{member}
 use Rattle.theory_codec.specs.Sheets.{codec}
 use Rattle.theory_protocol.specs.Edit.{Edit}
 use Rattle.theory_protocol.specs.Plan.{Answer, Reply, accepted, refused, Check, Plan, checked}
-use Rattle.theory_protocol.specs.Calls.{bars, barred}
 use Rattle.theory_protocol.specs.Run.{Call, Choice, checksOf, planOf}
 use Rattle.theory_protocol.specs.Run as run
 use Rattle.theory_protocol.proofs.Steps.{checked-case}
-use Rattle.theory_protocol.proofs.Claims.{ByTable, by-table, not-both, demand-1}
+use Rattle.theory_protocol.proofs.Claims.{ByTable, by-table, not-both, demand-1, names-lowest}
 use Rattle.cabinet_layout.specs.Shape.{limits16}
 use Rattle.cabinet_recovery.specs.Fix.{listAfter}
 use Rattle.cabinet_sheet.specs.Card.{bufferAfter}
@@ -35,13 +23,13 @@ use Rattle.theory_codec.specs.Sheets.{restartReply}
 use Rattle.sheet_readout.specs.Joint.{readoutOf}
 use Rattle.cabinet_restart.specs.Restart.{cabinetFor}
 use Rattle.cabinet_joined.specs.Joined.{ownSheets, goingOn}
-use Rattle.demands_lists.specs.Lists.{Asked, opening, plain, lose, fix, sheet, restart, Typed, Lent, nothingLent, Answered}
-use Rattle.demands_lists.specs.Claims.{Said, answers, refuses, Outcome, Gets, CallsAnswer}
+use Rattle.demands_lists.specs.Lists.{Asked, opening, plain, lose, fix, sheet, restart, Lent, nothingLent, Answered}
+use Rattle.demands_lists.specs.Claims.{Said, answers, refuses, Outcome, Gets, CallsAnswer, NamesLowest16}
 use Rattle.demands_lists.proofs.Some.{some}
 
 -- where nothing is left to the program
 abbrev pub no-choice : Choice
-no-choice = record { named = 0; lost = [] }
+no-choice = record { lost = [] }
 
 -- a plan that refuses changes nothing
 refused-keeps : (s : Cabinet) (cs : List Check) (a : Answer) (es : List Edit) (r : Refusal) → refused r ≡ checked cs a es .reply → applyAll (checked cs a es .edits) s ≡ s
@@ -50,22 +38,6 @@ refused-keeps s cs a es r =
 
 both-lists : (x y : Lent) → x .records ≡ y .records → x .numbers ≡ y .numbers → x ≡ y
 both-lists x y p q = λ i. record { records = p i; numbers = q i }
-
--- a card that an opening touches and finds barred is one of the 16
-pub barred-below : (m : Model) (reads writes c : ℕ) → reads < 65536 → writes < 65536 → barred limits16 m (member reads) (member writes) c ≡ true → c < limits16 .width
-barred-below m reads writes c hr hw e =
-    by-cases (decLt c 16) (λ l. omega (arith, l, width16))
-    (λ l. let f : Found (limits16 .slots) (λ p. bars (m .slot p) (member reads) (member writes) c) = any-elim (limits16 .slots) (λ p. bars (m .slot p) (member reads) (member writes) c) e in
-    absurd (nobody (m .slot (f .0)) (omega (arith, l)) (f .2)))
-  where
-    nobody : (o : OpenChange) → 16 ≤ c → bars o (member reads) (member writes) c ≡ true → ⊥
-    nobody o h q =
-        let a : member writes c || (member reads c && o .change .writes c) ≡ true = and-right (isOpen o && touches (o .change) c && not (o .taken c)) (member writes c || (member reads c && o .change .writes c)) q in
-        none-of (or-elim (member writes c) (member reads c && o .change .writes c) a)
-      where
-        none-of : (member writes c ≡ true) ⊎ (member reads c && o .change .writes c ≡ true) → ⊥
-        none-of (inl y) = clash y (member-above 16 writes c hw h)
-        none-of (inr y) = clash (and-left (member reads c) (o .change .writes c) y) (member-above 16 reads c hr h)
 
 -- by the plan of a call
 said-of : (s : Cabinet) (call : Call) (x : Choice) (reply : Reply) → reply ≡ planOf codec limits16 (view s) call x .reply → Said (checksOf codec limits16 (view s) call x) reply
@@ -87,19 +59,14 @@ by-plan s call x t before after reply d stays =
       stays r q,
     ))
 
-pub every : (s : Cabinet) (asked : Asked) → Typed asked → (reply : Reply) (t : Cabinet) (after : Lent) → Answered s asked reply t after → Gets s asked reply t after
-every s (opening reads writes) y reply t after d =
-    let x : Choice = record { named = d .0 .named; lost = [] } in
-    record {
-      choice = x;
-      proper = λ e. (barred-below (view s) reads writes (d .0 .named) (y .0) (y .1) (d .0 .isBarred e), d .0 .isBarred e);
-      outcome = by-plan s (run.openCall (member reads) (member writes)) x t nothingLent after reply (d .0 .carried) (λ r q. d .1);
-    }
-every s (plain q) y reply t after d = record { choice = no-choice; proper = tt; outcome = by-plan s (run.plain q) no-choice t nothingLent after reply (d .0) (λ r e. d .1) }
-every s (lose cards) y reply t after d = record { choice = no-choice; proper = tt; outcome = by-plan s (run.loseCall (member cards)) no-choice t nothingLent after reply (d .0) (λ r e. d .1) }
-every s (fix records list) y reply t after d =
+pub every : (s : Cabinet) (asked : Asked) (reply : Reply) (t : Cabinet) (after : Lent) → Answered s asked reply t after → Gets s asked reply t after
+every s (opening reads writes) reply t after d =
+    record { choice = no-choice; proper = tt; outcome = by-plan s (run.openCall (member reads) (member writes)) no-choice t nothingLent after reply (d .0) (λ r e. d .1) }
+every s (plain q) reply t after d = record { choice = no-choice; proper = tt; outcome = by-plan s (run.plain q) no-choice t nothingLent after reply (d .0) (λ r e. d .1) }
+every s (lose cards) reply t after d = record { choice = no-choice; proper = tt; outcome = by-plan s (run.loseCall (member cards)) no-choice t nothingLent after reply (d .0) (λ r e. d .1) }
+every s (fix records list) reply t after d =
     let c : FixCarried s (length records) list (after .numbers) (d .told) t = d .both .carried in
-    let x : Choice = record { named = 0; lost = c .told .lost } in
+    let x : Choice = record { lost = c .told .lost } in
     let before : Lent = record { records = records; numbers = list } in
     record {
       choice = x;
@@ -107,7 +74,7 @@ every s (fix records list) y reply t after d =
       outcome = by-plan s (run.fixCall (length records) (length list)) x t before after reply (record { answer = d .answer ∙ c .told .answer; cabinet = c .cabinet })
           (λ r q. both-lists after before (d .both .filled ∙ ap (λ (u : Reply). recordsAfter u records) (sym q)) (c .told .list ∙ ap (λ (u : Reply). listAfter u list) (sym q)));
     }
-every s (sheet c buffer) y reply t after d =
+every s (sheet c buffer) reply t after d =
     let before : Lent = record { records = []; numbers = buffer } in
     record {
       choice = no-choice;
@@ -115,7 +82,7 @@ every s (sheet c buffer) y reply t after d =
       outcome = by-plan s (run.sheetCall c (length buffer)) no-choice t before after reply (record { answer = d .answer ∙ d .carried .told .answer; cabinet = d .carried .cabinet })
           (λ r q. both-lists after before (d .noRecords) (d .carried .told .buffer ∙ ap (λ (u : Reply). bufferAfter u buffer) (sym q)));
     }
-every s restart y reply t after d =
+every s restart reply t after d =
     record {
       choice = no-choice;
       proper = tt;
@@ -125,3 +92,7 @@ every s restart y reply t after d =
 
 pub calls-answer : CallsAnswer
 calls-answer = record { some = some; each = every }
+
+-- the card that 21 names
+pub names-lowest-16 : NamesLowest16
+names-lowest-16 s reads writes c t after d = names-lowest limits16 (view s) (member reads) (member writes) c (sym (d .0 .answer))

@@ -1,7 +1,6 @@
 -- Every call gets an answer, whatever the cabinet and the arguments. Assumes nothing.
 use Prim.Native.Nat.{ℕ, _+_, _≤_, zero-le}
 use mathlib.Core.Path.{_≡_, refl, sym, _∙_, ap, ap₂}
-use mathlib.Core.Bool.{true}
 use mathlib.Core.List.{List, [], _∷_}
 use native.Mathlib.Omega.{arith}
 use lib.Dec.{ltb}
@@ -9,17 +8,15 @@ use lib.ListN.{length, take, drop}
 use lib.Seq.{sets, sets-eq, length-sets, take-at}
 use borrow.Author.Tests.{lt-ltb, ltb-false}
 use Rattle.base_refusal.specs.declared.Refusal.{Refusal}
-use Rattle.base_laws.specs.Below.{anyBelow, firstBelow, occurs, one-if}
-use Rattle.base_laws.proofs.Below.{first-some}
+use Rattle.base_laws.specs.Below.{occurs, one-if}
 use Rattle.base_laws.proofs.Logic.{clash, fails, or-right}
-use Rattle.base_bits.specs.Member.{member}
 use Rattle.sheet_lines.specs.Format.{formats}
 use Rattle.sheet_pages.specs.Pages.{pageBytes}
 use Rattle.theory_codec.specs.Sheets.{sheetOf, codec}
 use Rattle.theory_protocol.specs.Edit.{Edit}
 use Rattle.theory_protocol.specs.Edit as edit
 use Rattle.theory_protocol.specs.Plan.{CardRow, fixed, written, accepted, refused, Plan, Passed}
-use Rattle.theory_protocol.specs.Calls.{barred, lines, isLost, cardRows, openPlan, fixChecks, fixPlan}
+use Rattle.theory_protocol.specs.Calls.{lines, isLost, cardRows, fixChecks, fixPlan}
 use Rattle.theory_protocol.specs.Codec.{sheetChecks, sheetPlan}
 use Rattle.theory_protocol.specs.Run as run
 use Rattle.theory_protocol.specs.Choices.{chosen}
@@ -209,24 +206,11 @@ module _ (s : Cabinet) (c : ℕ) (buffer : List ℕ) where
   pub sheet-by : ReachedBy s (sheet c buffer) written-plan
   sheet-by = checked-case (λ (p : Plan). written-plan ≡ p → ReachedBy s (sheet c buffer) written-plan) (sheetChecks codec limits16 (view s) c (length buffer)) (written bytes) [] sheet-refused sheet-done refl
 
--- ---- open
-abbrev lowest-barred : Cabinet → (reads writes : ℕ) → ℕ
-lowest-barred s reads writes = firstBelow (limits16 .width) (barred limits16 (view s) (member reads) (member writes))
-
-pub lowest-is-barred : (s : Cabinet) (reads writes : ℕ) → anyBelow (limits16 .width) (barred limits16 (view s) (member reads) (member writes)) ≡ true
-    → barred limits16 (view s) (member reads) (member writes) (firstBelow (limits16 .width) (barred limits16 (view s) (member reads) (member writes))) ≡ true
-lowest-is-barred s reads writes = first-some (limits16 .width) (barred limits16 (view s) (member reads) (member writes))
-
+-- ---- every call
 pub some : (s : Cabinet) (asked : Asked) → Reached s asked
-some s (opening reads writes) =
-    record {
-      reply = openPlan limits16 (view s) (member reads) (member writes) (lowest-barred s reads writes) .reply;
-      next = applyAll (openPlan limits16 (view s) (member reads) (member writes) (lowest-barred s reads writes) .edits) s;
-      after = nothingLent;
-      answered = (record { named = lowest-barred s reads writes; isBarred = lowest-is-barred s reads writes; lowest = refl; carried = record { answer = refl; cabinet = refl } }, refl);
-    }
+some s (opening reads writes) = record { reply = _; next = _; after = nothingLent; answered = (record { answer = refl; cabinet = refl }, refl) }
 some s (plain q) = record { reply = _; next = _; after = nothingLent; answered = (record { answer = refl; cabinet = refl }, refl) }
 some s (lose cards) = record { reply = _; next = _; after = nothingLent; answered = (record { answer = refl; cabinet = refl }, refl) }
-some s (fix records list) = fix-by s records list (chosen limits16 (view s) (run.fixCall 0 0) .lost) (choosable limits16 (view s) (run.fixCall 0 0)) .reached
+some s (fix records list) = fix-by s records list (chosen limits16 (view s) .lost) (choosable limits16 (view s) (run.fixCall 0 0)) .reached
 some s (sheet c buffer) = sheet-by s c buffer .reached
 some s restart = record { reply = _; next = _; after = nothingLent; answered = (record { answer = refl; cabinet = refl }, refl) }

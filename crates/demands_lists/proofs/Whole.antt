@@ -17,7 +17,7 @@ use Rattle.theory_history.specs.Change.{Numbers}
 use Rattle.theory_codec.specs.Sheets.{codec}
 use Rattle.theory_protocol.specs.Model.{Model}
 use Rattle.theory_protocol.specs.Plan.{Answer, done, Reply, accepted, refused, replyOf, _⇒_, Plan, checked, afterPlan}
-use Rattle.theory_protocol.specs.Calls.{freshRefused, freshModel, openPlan, fixPlan}
+use Rattle.theory_protocol.specs.Calls.{freshRefused, freshModel, fixPlan}
 use Rattle.theory_protocol.proofs.Steps.{checked-case, not-not}
 use Rattle.theory_protocol.proofs.Claims.{not-both}
 use Rattle.base_refusal.specs.declared.Refusal.the-variants.{CardCount, BadCabinet}
@@ -52,7 +52,7 @@ use Rattle.demands_lists.proofs.Lengths.{by-card, by-slot, set-small}
 use Rattle.demands_lists.proofs.Laws.{EditsFit, Shows, edits-show}
 use Rattle.demands_lists.proofs.Plans.{open-fits, plain-fits, lose-fits, fix-fits}
 use Rattle.demands_lists.proofs.Fresh.{fresh-shows}
-use Rattle.demands_lists.proofs.Refusing.{no-choice, barred-below}
+use Rattle.demands_lists.proofs.Refusing.{no-choice}
 
 limits-fit : SheetLimits limits16
 limits-fit = record { width = width16; inHand = inHand48; greatestState = greatest60000; greatestNumber = greatestNumber32 }
@@ -131,19 +131,13 @@ restarted-shows true (Refused r) bytes s t z w v e = subst (Shows (view s)) (sym
 restarted-shows false v bytes s t z w q e = subst (Shows (view s)) (sym e) (shown s z w)
 
 pub step : (s : Cabinet) → Sized s → Narrow (view s) → (asked : Asked) → Typed asked → (reply : Reply) (t : Cabinet) (after : Lent) → Answered s asked reply t after → Step s (callOf asked) reply t
-step s z w (opening reads writes) y reply t after d =
-    record {
-      choice = record { named = d .0 .named; lost = [] };
-      proper = λ e. (barred-below (view s) reads writes (d .0 .named) (y .0) (y .1) (d .0 .isBarred e), d .0 .isBarred e);
-      replied = d .0 .carried .answer;
-      after = planned s z w (openPlan limits16 (view s) (member reads) (member writes) (d .0 .named)) t (open-fits s z w reads writes (d .0 .named) (y .0) (y .1)) (d .0 .carried .cabinet);
-    }
+step s z w (opening reads writes) y reply t after d = carried-step s z w (run.openCall (member reads) (member writes)) reply t tt refl (open-fits s z w reads writes (y .0) (y .1)) (d .0)
 step s z w (plain q) y reply t after d = carried-step s z w (run.plain q) reply t tt refl (plain-fits s z w q) (d .0)
 step s z w (lose cards) y reply t after d = carried-step s z w (run.loseCall (member cards)) reply t tt refl (lose-fits s z w (member cards)) (d .0)
 step s z w (fix records list) y reply t after d =
     let c : FixCarried s (length records) list (after .numbers) (d .told) t = d .both .carried in
     record {
-      choice = record { named = 0; lost = c .told .lost };
+      choice = record { lost = c .told .lost };
       proper = c .told .once;
       replied = d .answer ∙ c .told .answer;
       after = planned s z w (fixPlan limits16 (view s) (length records) (length list) (c .told .lost)) t (fix-fits s z w (length records) (length list) (c .told .lost)) (c .cabinet);

@@ -4,21 +4,23 @@ use mathlib.Core.Path.{_≡_}
 use mathlib.Core.List.{List}
 use lib.Dec.{ltb}
 use Rattle.base_refusal.specs.declared.Refusal.{Refusal}
+use Rattle.base_refusal.specs.declared.Refusal.the-variants.{Barred}
 use Rattle.base_refusal.specs.Number.{Listed, numberOf}
+use Rattle.base_bits.specs.Member.{member}
 use Rattle.sheet_lines.specs.Format.{formats}
 use Rattle.theory_history.specs.Change.{CardSet, Numbers}
 use Rattle.theory_codec.specs.Sheets.{joinedSheets, codec}
 use Rattle.theory_protocol.specs.Plan.{CardRow, Answer, done, fixed, Reply, accepted, refused, Check, Passed, Due}
 use Rattle.theory_protocol.specs.Journal.{fixing}
 use Rattle.theory_protocol.specs.Run.{safeCall, Choice, Proper, checksOf, Calls, none, further, journal}
-use Rattle.theory_protocol.specs.Demands.{CallRight, CabinetRight}
+use Rattle.theory_protocol.specs.Demands.{NamedRight, CallRight, CabinetRight}
 use Rattle.theory_protocol.specs.Agreement.{Agrees}
 use Rattle.cabinet_layout.specs.Shape.{limits16}
 use Rattle.cabinet.specs.declared.Cabinet.{Cabinet}
 use Rattle.cabinet.specs.View.{view}
 use Rattle.cabinet_records.specs.declared.CardRecord.{CardRecord}
 use Rattle.cabinet_restart.specs.Restart.{Restarted}
-use Rattle.demands_lists.specs.Lists.{Asked, plain, lose, fix, callOf, Typed, Lent, lent, Sized, Answered, List16, start, next}
+use Rattle.demands_lists.specs.Lists.{Asked, opening, plain, lose, fix, callOf, Lent, lent, Sized, Answered, List16, start, next}
 
 -- ---- Demand 1, for any cabinet, a forged one too, and any arguments: "gets an answer or a refusal from document 01. A refusal changes neither the cabinet nor any lent list or buffer."
 -- what is said where this is the table: an answer, where no row fails; else the refusal of the first row that does
@@ -48,7 +50,12 @@ pub record CallsAnswer : Type 0 where
   -- there is one
   pub some : (s : Cabinet) (asked : Asked) → Reached s asked
   -- and every one is as said
-  pub each : (s : Cabinet) (asked : Asked) → Typed asked → (reply : Reply) (t : Cabinet) (after : Lent) → Answered s asked reply t after → Gets s asked reply t after
+  pub each : (s : Cabinet) (asked : Asked) (reply : Reply) (t : Cabinet) (after : Lent) → Answered s asked reply t after → Gets s asked reply t after
+
+-- ---- beside it document 02's wish 2: "Name the lowest such card."
+-- for any cabinet, a forged one too, and any sets: where open answers 21 with c, c is the lowest
+abbrev pub NamesLowest16 : Type 0
+NamesLowest16 = (s : Cabinet) (reads writes c : ℕ) (t : Cabinet) (after : Lent) → Answered s (opening reads writes) (refused (Barred c)) t after → NamedRight limits16 (view s) (member reads) (member writes) c
 
 -- ---- Demands 2 and 3
 -- "the sheets of all cards, joined, restart to the line answered": what the restart of the code hands back

@@ -6,7 +6,7 @@ use lib.ListN.{length}
 use Rattle.base_limits.specs.Document.{mostCards, mostFrames, mostEntries}
 use Rattle.base_bits.specs.Member.{member}
 use Rattle.theory_protocol.specs.Plan.{Reply, accepted, done}
-use Rattle.theory_protocol.specs.Calls.{losePlan}
+use Rattle.theory_protocol.specs.Calls.{openPlan, losePlan}
 use Rattle.theory_protocol.specs.Run as run
 use Rattle.theory_protocol.specs.Run.{Plain, Call, plainPlan, Calls, none, further}
 use Rattle.cabinet_layout.specs.Shape.{limits16}
@@ -15,7 +15,7 @@ use Rattle.cabinet_recovery.specs.Fix.{fixReplyOf}
 use Rattle.cabinet_layout.specs.declared.Core.{Core}
 use Rattle.cabinet.specs.declared.Cabinet.{Cabinet}
 use Rattle.cabinet.specs.View.{view}
-use Rattle.cabinet.specs.Apply.{Carried, OpenCarried}
+use Rattle.cabinet.specs.Apply.{Carried}
 use Rattle.cabinet.specs.Lent.{FixLent}
 use Rattle.cabinet_records.specs.declared.CardRecord.{CardRecord}
 use Rattle.cabinet.specs.Writing.{SheetCarried}
@@ -102,7 +102,7 @@ pub record SheetAnswered (s : Cabinet) (card : ℕ) (before : List ℕ) (reply :
 
 -- what a call answers, the cabinet that it hands back, and what stands in the lists lent after it: the contract of each method
 abbrev pub Answered : Cabinet → Asked → Reply → Cabinet → Lent → Type 0
-Answered s (opening reads writes) reply next after = OpenCarried s reads writes reply next × (after ≡ nothingLent)
+Answered s (opening reads writes) reply next after = Carried s (openPlan limits16 (view s) (member reads) (member writes)) reply next × (after ≡ nothingLent)
 Answered s (plain q) reply next after = Carried s (plainPlan limits16 (view s) q) reply next × (after ≡ nothingLent)
 Answered s (lose cards) reply next after = Carried s (losePlan limits16 (view s) (member cards)) reply next × (after ≡ nothingLent)
 Answered s (fix records list) reply next after = FixAnswered s records list reply next after

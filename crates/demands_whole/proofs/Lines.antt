@@ -15,9 +15,8 @@ use Rattle.base_refusal.specs.declared.Refusal.{Refusal}
 use Rattle.base_refusal.specs.Number.{rowOf}
 use Rattle.base_refusal.specs.declared.Refusal.the-variants.{CardCount, NoSuchCard}
 use Rattle.base_bits.specs.Member.{member}
-use Rattle.base_laws.specs.Below.{firstBelow}
 use Rattle.theory_protocol.specs.Plan.{done, Plan, accepted, refused, _⇒_}
-use Rattle.theory_protocol.specs.Calls.{barred, freshRefused, openPlan, votePlan, takePlan, withdrawPlan, storePlan, trimPlan, safePlan, losePlan, fixPlan, rollPlan}
+use Rattle.theory_protocol.specs.Calls.{freshRefused, openPlan, votePlan, takePlan, withdrawPlan, storePlan, trimPlan, safePlan, losePlan, fixPlan, rollPlan}
 use Rattle.theory_protocol.specs.Codec.{sheetPlan}
 use Rattle.theory_protocol.specs.Choices.{chosen}
 use Rattle.theory_protocol.specs.Run as run
@@ -52,7 +51,6 @@ use Rattle.list_results.specs.Going.{nothingYet}
 use Rattle.list_texts.specs.Executed.{Executed}
 use Rattle.list_texts.specs.Steps.{Ran, noLine, oneMore}
 use Rattle.demands_lists.specs.Claims.{Said, answers, refuses}
-use Rattle.demands_lists.proofs.Some.{lowest-is-barred}
 use Rattle.demands_lists.proofs.Refusing.{every}
 use Rattle.demands_whole.specs.Texts.{unreadable}
 use Rattle.demands_whole.specs.Demand1.{LineGets, freshened, called, none-yet, no-call, StepAnswers, RunAnswers}
@@ -72,18 +70,7 @@ tells : (c : Cabinet) (q : Request) → Tells c q
 tells c (Open reads writes) =
     by-cases (decLt 65535 reads) (λ b. (c, refusedText NoSuchCard, readsBeyond b (record { cabinet = refl; answer = refl })))
     (λ b. by-cases (decLt 65535 writes) (λ d. (c, refusedText NoSuchCard, writesBeyond d (record { cabinet = refl; answer = refl })))
-    (λ d. (
-      applyAll (plan .edits) c,
-      replyText (plan .reply),
-      openWithin (omega (arith, b)) (omega (arith, d)) (plan .reply)
-          (record { named = named; isBarred = lowest-is-barred c reads writes; lowest = refl; carried = record { answer = refl; cabinet = refl } }) refl,
-    )))
-  where
-    named : ℕ
-    named = firstBelow (limits16 .width) (barred limits16 (view c) (member reads) (member writes))
-
-    plan : Plan
-    plan = openPlan limits16 (view c) (member reads) (member writes) (firstBelow (limits16 .width) (barred limits16 (view c) (member reads) (member writes)))
+    (λ d. let e = by-plan c (openPlan limits16 (view c) (member reads) (member writes)) in (e .0, e .1, openWithin (omega (arith, b)) (omega (arith, d)) (e .2))))
 tells c (Vote change card agrees) = by-plan c (votePlan limits16 (view c) change card agrees)
 tells c (Take change card) = by-plan c (takePlan limits16 (view c) change card)
 tells c (Withdraw change) = by-plan c (withdrawPlan limits16 (view c) change)
@@ -94,7 +81,7 @@ tells c (Lose cards) =
     by-cases (decLt 65535 cards) (λ b. (c, refusedText NoSuchCard, setBeyond b (record { cabinet = refl; answer = refl })))
     (λ b. let d = by-plan c (losePlan limits16 (view c) (member cards)) in (d .0, d .1, lostWithin (omega (arith, b)) (d .2)))
 tells c (Fix records numbers) =
-    let lost : List ℕ = chosen limits16 (view c) (run.fixCall 0 0) .lost in
+    let lost : List ℕ = chosen limits16 (view c) .lost in
     let d = by-plan c (fixPlan limits16 (view c) (min records 16) (min numbers 776) lost) in
     (d .0, d .1, record { lost = lost; once = choosable limits16 (view c) (run.fixCall 0 0); planned = d .2 })
 tells c (Roll card) = by-plan c (rollPlan limits16 (view c) card)
@@ -133,7 +120,7 @@ each (Asks q) r next text st = by-begun (r .begun) refl st
     by-begun true e o = of-meant (meant (r .cabinet) (next .cabinet) text q (o .told))
       where
         of-meant : Meant (r .cabinet) q (next .cabinet) text → LineGets (Asks q) r next text
-        of-meant (meaning.called a k typed reply after d z) = called a k reply after (every (r .cabinet) a typed reply (next .cabinet) after d) z
+        of-meant (meaning.called a k typed reply after d z) = called a k reply after (every (r .cabinet) a reply (next .cabinet) after d) z
         of-meant (meaning.stayed k z) = no-call k (same-replay r next z (o .begun ∙ sym e))
     by-begun false e o = none-yet e (o .same) (o .answer)
 each Unreadable r next text st = no-call unreadable (st .same)

@@ -48,7 +48,7 @@ module _ (c : Cabinet) (new : Cabinet) (u : List ℕ) where
       opened : OpenResult c reads writes new u → Meant c (Open reads writes) new u
       opened (readsBeyond b k) = stayed (beyond-reads reads writes b) (k .cabinet)
       opened (writesBeyond b k) = stayed (beyond-writes reads writes b) (k .cabinet)
-      opened (openWithin a b q d e) = called (opening reads writes) (opens reads writes a b) (omega arith, omega arith) q nothingLent (d, refl) e
+      opened (openWithin a b d) = planned (Open reads writes) (opening reads writes) (opens reads writes a b) (omega arith, omega arith) _ d (record { answer = refl; cabinet = d .cabinet }, refl)
   meant (Vote change card agrees) o = planned (Vote change card agrees) (plain (voteCall change card agrees)) (votes change card agrees) tt _ o (record { answer = refl; cabinet = o .cabinet }, refl)
   meant (Take change card) o = planned (Take change card) (plain (takeCall change card)) (takes change card) tt _ o (record { answer = refl; cabinet = o .cabinet }, refl)
   meant (Withdraw change) o = planned (Withdraw change) (plain (withdrawCall change)) (withdraws change) tt _ o (record { answer = refl; cabinet = o .cabinet }, refl)

@@ -1,5 +1,5 @@
 -- Laws of the calls of a list. Assumes nothing.
-use Prim.Native.Nat.{ℕ, _≤_}
+use Prim.Native.Nat.{ℕ}
 use mathlib.Core.Path.{_≡_, refl, _∙_, ap}
 use mathlib.Core.Bool.{true}
 use mathlib.Core.List.{List}
@@ -16,14 +16,14 @@ use Rattle.cabinet_recovery.specs.declared.FixReply.{FixReply}
 use Rattle.cabinet_recovery.specs.Fix.{fixReplyOf}
 use Rattle.cabinet.specs.declared.Cabinet.{Cabinet}
 use Rattle.cabinet.specs.View.{view}
-use Rattle.cabinet.specs.Apply.{applyAll, Carried, OpenCarried}
+use Rattle.cabinet.specs.Apply.{applyAll, Carried}
 use Rattle.cabinet.specs.Fixing.{FixCarried}
 use Rattle.cabinet.specs.Writing.{SheetCarried}
 use Rattle.cabinet_joined.specs.Joined.{FromOwnSheets}
 use Rattle.base_text.specs.Put.{Whole}
 use Rattle.list_answers.specs.Texts.{replyText}
 use Rattle.list_results.specs.declared.Replay.{Replay}
-use Rattle.list_results.specs.Result.{Written, Continuing, Planned, OpenResult, openWithin, FixSaid, RestartResult}
+use Rattle.list_results.specs.Result.{Written, Continuing, Planned, FixSaid, RestartResult}
 
 module _ {b : List ℕ} {w r : Progress} {e : List ℕ} where
   -- a call that has a plan
@@ -33,9 +33,6 @@ module _ {b : List ℕ} {w r : Progress} {e : List ℕ} where
   -- the same text, told otherwise
   pub told-as : {S T : List ℕ → Type 0} → ((t : List ℕ) → S t → T t) → Written S b w r e → Written T b w r e
   told-as f u = record { text = u .text; told = f (u .text) (u .told); put = u .put }
-
-  pub opened-by : {c : Cabinet} {reads writes : ℕ} {q : Reply} {next : Cabinet} → reads ≤ 65535 → writes ≤ 65535 → OpenCarried c reads writes q next → Whole b w (replyText q) r e → Written (OpenResult c reads writes next) b w r e
-  opened-by {q = q} h l k u = record { text = replyText q; told = openWithin h l q k refl; put = u }
 
   -- fix, which was lent so many places at the front of a list: after it they hold what it left there
   pub fixed-by : {c : Cabinet} {records : ℕ} {before after : List ℕ} {q : FixReply} {next : Cabinet} (places numbers : ℕ) (whole : List ℕ)

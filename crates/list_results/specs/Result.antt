@@ -9,14 +9,14 @@ use Rattle.base_bits.specs.Member.{member}
 use Rattle.base_refusal.specs.declared.Refusal.the-variants.{NoSuchCard}
 use Rattle.base_text.specs.declared.Progress.{Progress}
 use Rattle.theory_protocol.specs.Plan.{Plan, Reply}
-use Rattle.theory_protocol.specs.Calls.{storePlan, takePlan, votePlan, withdrawPlan, safePlan, trimPlan, rollPlan, losePlan, fixPlan, isLost}
+use Rattle.theory_protocol.specs.Calls.{openPlan, storePlan, takePlan, votePlan, withdrawPlan, safePlan, trimPlan, rollPlan, losePlan, fixPlan, isLost}
 use Rattle.theory_protocol.specs.Codec.{sheetPlan}
 use Rattle.theory_codec.specs.Sheets.{codec}
 use Rattle.cabinet_layout.specs.Shape.{limits16}
 use Rattle.cabinet.specs.declared.Cabinet.{Cabinet}
 use Rattle.cabinet.specs.View.{view}
 use Rattle.list_results.specs.declared.Replay.{Replay}
-use Rattle.cabinet.specs.Apply.{applyAll, OpenCarried}
+use Rattle.cabinet.specs.Apply.{applyAll}
 use Rattle.cabinet_joined.specs.Joined.{FromOwnSheets}
 use Rattle.list_commands.specs.declared.Request.{Request}
 use Rattle.list_commands.specs.declared.Request.the-variants.{Open, Vote, Take, Withdraw, Store, Trim, Safe, Lose, Fix, Roll, Sheet, Restart, Show, Frames}
@@ -51,7 +51,7 @@ pub record Planned (c : Cabinet) (p : Plan) (next : Cabinet) (text : List ℕ) :
 pub data OpenResult (c : Cabinet) (reads writes : ℕ) (next : Cabinet) (text : List ℕ) : Type 0 where
   readsBeyond : 65535 < reads → Kept c (refusedText NoSuchCard) next text → OpenResult c reads writes next text
   writesBeyond : 65535 < writes → Kept c (refusedText NoSuchCard) next text → OpenResult c reads writes next text
-  openWithin : reads ≤ 65535 → writes ≤ 65535 → (q : Reply) → OpenCarried c reads writes q next → text ≡ replyText q → OpenResult c reads writes next text
+  openWithin : reads ≤ 65535 → writes ≤ 65535 → Planned c (openPlan limits16 (view c) (member reads) (member writes)) next text → OpenResult c reads writes next text
 
 pub data LoseResult (c : Cabinet) (cards : ℕ) (next : Cabinet) (text : List ℕ) : Type 0 where
   setBeyond : 65535 < cards → Kept c (refusedText NoSuchCard) next text → LoseResult c cards next text

@@ -10,14 +10,13 @@ use borrow.Author.Tests.{eqb-true, eq-eqb}
 use Rattle.base_laws.specs.Below.{occurs, one-if}
 use Rattle.base_laws.proofs.Logic.{test}
 use Rattle.base_decimal.specs.Digits.{decimal}
-use Rattle.base_bits.specs.Member.{member}
 use Rattle.theory_protocol.specs.Edit.{Edit, fix}
-use Rattle.theory_protocol.specs.Plan.{CardRow, Answer, fixed, Check, _⇒_, Plan, Reply, checked}
-use Rattle.theory_protocol.specs.Calls.{openPlan, lines, cardRows, fixChecks, fixPlan}
+use Rattle.theory_protocol.specs.Plan.{CardRow, Answer, fixed, Check, _⇒_, Plan, checked}
+use Rattle.theory_protocol.specs.Calls.{lines, cardRows, fixChecks, fixPlan}
 use Rattle.cabinet_layout.specs.Shape.{limits16}
 use Rattle.cabinet.specs.declared.Cabinet.{Cabinet}
 use Rattle.cabinet.specs.View.{view}
-use Rattle.cabinet.specs.Apply.{applyAll, OpenCarried}
+use Rattle.cabinet.specs.Apply.{applyAll}
 use Rattle.base_lines.specs.Lines.{spaced, textLine}
 use Rattle.list_answers.specs.Texts.{fixedWord, lostWord, rowsText, answerText, replyText}
 use Rattle.list_commands.specs.declared.Request.{Request}
@@ -100,26 +99,16 @@ kept-alike p q = record { same = p .cabinet ∙ sym (q .cabinet); long = ap leng
 planned-alike : {c : Cabinet} {p : Plan} {n m : Cabinet} {t u : List ℕ} → Planned c p n t → Planned c p m u → Alike n m t u
 planned-alike p q = record { same = p .cabinet ∙ sym (q .cabinet); long = ap length (p .answer ∙ sym (q .answer)) }
 
--- open names the lowest card
-opened-alike : {c : Cabinet} {reads writes : ℕ} {p q : Reply} {n m : Cabinet} {t u : List ℕ} → OpenCarried c reads writes p n → OpenCarried c reads writes q m → t ≡ replyText p → u ≡ replyText q → Alike n m t u
-opened-alike {c} {reads} {writes} {p} {q} {n} {m} {t} {u} x y e f =
-    let plan : x .named ≡ y .named = x .lowest ∙ sym (y .lowest) in
-    let pl : ℕ → Plan = λ k. openPlan limits16 (view c) (member reads) (member writes) k in
-    record {
-      same = x .carried .cabinet ∙ ap (λ (k : ℕ). applyAll (pl k .edits) c) plan ∙ sym (y .carried .cabinet);
-      long = ap length (e ∙ ap replyText (x .carried .answer ∙ ap (λ (k : ℕ). pl k .reply) plan ∙ sym (y .carried .answer)) ∙ sym f);
-    }
-
 open-alike : {c : Cabinet} {reads writes : ℕ} {n m : Cabinet} {t u : List ℕ} → OpenResult c reads writes n t → OpenResult c reads writes m u → Alike n m t u
 open-alike (readsBeyond h p) (readsBeyond l q) = kept-alike p q
 open-alike (readsBeyond h p) (writesBeyond l q) = kept-alike p q
-open-alike (readsBeyond h p) (openWithin a b q k e) = absurd (omega arith)
+open-alike (readsBeyond h p) (openWithin a b k) = absurd (omega arith)
 open-alike (writesBeyond h p) (readsBeyond l q) = kept-alike p q
 open-alike (writesBeyond h p) (writesBeyond l q) = kept-alike p q
-open-alike (writesBeyond h p) (openWithin a b q k e) = absurd (omega arith)
-open-alike (openWithin a b q k e) (readsBeyond l p) = absurd (omega arith)
-open-alike (openWithin a b q k e) (writesBeyond l p) = absurd (omega arith)
-open-alike (openWithin a b p k e) (openWithin d f q l g) = opened-alike k l e g
+open-alike (writesBeyond h p) (openWithin a b k) = absurd (omega arith)
+open-alike (openWithin a b k) (readsBeyond l p) = absurd (omega arith)
+open-alike (openWithin a b k) (writesBeyond l p) = absurd (omega arith)
+open-alike (openWithin a b k) (openWithin d f l) = planned-alike k l
 
 lose-alike : {c : Cabinet} {cards : ℕ} {n m : Cabinet} {t u : List ℕ} → LoseResult c cards n t → LoseResult c cards m u → Alike n m t u
 lose-alike (setBeyond h p) (setBeyond l q) = kept-alike p q

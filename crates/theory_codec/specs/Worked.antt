@@ -19,12 +19,12 @@ use Rattle.theory_protocol.specs.Choices.{chosen}
 -- the cabinet after calls
 abbrev pub followed : Model → List Call → Model
 followed m [] = m
-followed m (c ∷ cs) = followed (afterCall codec limits16 m c (chosen limits16 m c)) cs
+followed m (c ∷ cs) = followed (afterCall codec limits16 m c (chosen limits16 m)) cs
 
 -- what the last of some calls answers
 abbrev pub lastReply : Model → Call → List Call → Reply
-lastReply m c [] = planOf codec limits16 m c (chosen limits16 m c) .reply
-lastReply m c (d ∷ cs) = lastReply (afterCall codec limits16 m c (chosen limits16 m c)) d cs
+lastReply m c [] = planOf codec limits16 m c (chosen limits16 m) .reply
+lastReply m c (d ∷ cs) = lastReply (afterCall codec limits16 m c (chosen limits16 m)) d cs
 
 -- change k: opened, voted yes by every card that it touches, and taken by every one
 abbrev pub decidedBy : ℕ → (reads writes : List ℕ) → List Call

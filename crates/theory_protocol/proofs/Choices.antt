@@ -10,9 +10,9 @@ use lib.Dec.{eqb}
 use borrow.Author.Tests.{eq-eqb, eqb-true}
 use Rattle.base_laws.specs.Below.{one-if, anyBelow, countBelow, greatest}
 use Rattle.base_laws.proofs.Logic.{fails, and-right, or-elim}
-use Rattle.base_laws.proofs.Below.{Found, any-elim, first-below, first-at, greatest-above, count-rest, count-once, occurs-selected}
+use Rattle.base_laws.proofs.Below.{Found, any-elim, greatest-above, count-rest, count-once, occurs-selected}
 use Rattle.theory_protocol.specs.Model.{Limits, Model}
-use Rattle.theory_protocol.specs.Calls.{barred, frameAbove, someFrameAbove, recoveryLine, isLost}
+use Rattle.theory_protocol.specs.Calls.{frameAbove, someFrameAbove, recoveryLine, isLost}
 use Rattle.theory_protocol.specs.Run.{plain, openCall, loseCall, fixCall, sheetCall, restartCall}
 use Rattle.theory_protocol.specs.Choices.{greatestLost, Choosable}
 
@@ -62,7 +62,7 @@ module _ (L : Limits) (m : Model) where
           omega (arith, a, b, d)
 
 pub choosable : Choosable
-choosable L m (openCall reads writes) = λ e. (first-below (L .width) (barred L m reads writes) e, first-at (L .width) (barred L m reads writes) (first-below (L .width) (barred L m reads writes) e))
+choosable L m (openCall reads writes) = tt
 choosable L m (plain q) = tt
 choosable L m (loseCall cards) = tt
 choosable L m (fixCall a b) = λ k. occurs-selected (suc (greatestLost L m)) (isLost L m) (λ i. i) k ∙ once-below (suc (greatestLost L m)) (isLost L m) k (lost-below L m k)

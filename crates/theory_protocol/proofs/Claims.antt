@@ -1,19 +1,27 @@
--- Demand 1, for any limits, any cabinet and any arguments. Assumes nothing.
-use Prim.Native.Nat.{ℕ}
-use mathlib.Core.Path.{_≡_, refl, sym, _∙_, ap}
-use mathlib.Core.Bool.{true, false}
-use mathlib.Core.Logic.{inl, inr}
+-- Demand 1 and the card that 21 names, for any limits, any cabinet and any arguments. Assumes nothing.
+use Prim.Native.Nat.{ℕ, _<_}
+use mathlib.Core.Path.{_≡_, refl, sym, _∙_, ap, subst}
+use mathlib.Core.Bool.{Bool, true, false, not, _&&_, _||_}
+use mathlib.Core.Logic.{_⊎_, inl, inr, ⊎-elim}
 use mathlib.Core.List.{List, [], _∷_}
 use native.Mathlib.Omega.{arith}
+use lib.Dec.{eqb}
+use borrow.Author.Tests.{eq-eqb, lt-ltb}
+use Rattle.base_laws.specs.Below.{anyBelow}
+use Rattle.base_laws.proofs.Logic.{clash, and-left, and-right, and-intro, or-left, or-right, or-elim}
+use Rattle.base_laws.proofs.Below.{Found, any-elim, first-before, first-below, first-some}
 use Rattle.base_refusal.specs.declared.Refusal.{Refusal}
-use Rattle.base_refusal.specs.Number.{rowOf}
+use Rattle.base_refusal.specs.declared.Refusal.the-variants.{NoSuchCard, BothSetsEmpty, WrongPhase, Barred, NoSlot, InHandFull, LimitReached, BadCabinet}
+use Rattle.base_refusal.specs.Number.{rowOf, numberOf}
+use Rattle.theory_history.specs.Change.{CardSet, touches}
 use Rattle.theory_protocol.specs.Codec.{Codec}
-use Rattle.theory_protocol.specs.Model.{Limits, Model}
+use Rattle.theory_protocol.specs.Model.{Limits, OpenChange, Model, strays, isOpen}
 use Rattle.theory_protocol.specs.Edit.{Edit}
 use Rattle.theory_protocol.specs.Plan.{Answer, Reply, accepted, refused, Check, _⇒_, Plan, checked, Passed, Due, afterPlan}
+use Rattle.theory_protocol.specs.Calls.{bars, barred, lowestBarred, openChecks}
 use Rattle.theory_protocol.specs.Run.{Plain, Call, plain, openCall, voteCall, takeCall, withdrawCall, storeCall, trimCall, safeCall, loseCall, fixCall, rollCall, sheetCall, restartCall, Choice, plainChecks, plainPlan, checksOf, planOf, afterCall, afterRestart}
-use Rattle.theory_protocol.specs.Demands.{Demand1}
-use Rattle.theory_protocol.proofs.Steps.{checked-case}
+use Rattle.theory_protocol.specs.Demands.{Demand1, NamedRight, NamesLowest}
+use Rattle.theory_protocol.proofs.Steps.{checked-case, touched-there}
 
 -- ---- demand 1
 pub not-both : {A : Type 0} (a : Answer) (r : Refusal) → accepted a ≡ refused r → A
@@ -77,3 +85,60 @@ demand-1 C L m call x =
     unchanged (fixCall a b) = keeps (fixCall a b)
     unchanged (sheetCall c places) = keeps (sheetCall c places)
     unchanged restartCall = λ r e. ap (λ (y : Reply). afterRestart y (C .restarted L (C .joined L m)) m) e
+
+-- ---- the card that 21 names
+-- a row whose refusal has another number than the one due has passed
+past : {A B C : Type 0} (q r : Refusal) → eqb (numberOf q) (numberOf r) ≡ false → (A × (q ≡ r)) ⊎ (B × C) → B × C
+past q r n (inl z) = clash (eq-eqb (numberOf q) (numberOf r) (ap numberOf (z .1))) n
+past q r n (inr z) = z
+
+-- in the table of open the fifth row alone has 21
+fifth : (a b c d e f g h : Bool) (named x : ℕ)
+    → Due (a ⇒ BadCabinet ∷ b ⇒ NoSuchCard ∷ c ⇒ BothSetsEmpty ∷ d ⇒ WrongPhase ∷ e ⇒ Barred named ∷ f ⇒ NoSlot ∷ g ⇒ InHandFull ∷ h ⇒ LimitReached ∷ []) (Barred x)
+    → (b ≡ false) × (e ≡ true) × (named ≡ x)
+fifth a b c d e f g h named x z =
+    let second : (b ≡ false) × Due (c ⇒ BothSetsEmpty ∷ d ⇒ WrongPhase ∷ e ⇒ Barred named ∷ f ⇒ NoSlot ∷ g ⇒ InHandFull ∷ h ⇒ LimitReached ∷ []) (Barred x) = past NoSuchCard (Barred x) refl (past BadCabinet (Barred x) refl z .1) in
+    let row : (e ≡ true) × (named ≡ x) = of-row (past WrongPhase (Barred x) refl (past BothSetsEmpty (Barred x) refl (second .1) .1) .1) in
+    (second .0, row .0, row .1)
+  where
+    of-row : Due (e ⇒ Barred named ∷ f ⇒ NoSlot ∷ g ⇒ InHandFull ∷ h ⇒ LimitReached ∷ []) (Barred x) → (e ≡ true) × (named ≡ x)
+    of-row (inl y) = let q : Barred named ≡ Barred x = y .1 in let same : named ≡ x = cc in (y .0, same)
+    of-row (inr y) = absurd (past LimitReached (Barred x) refl (past InHandFull (Barred x) refl (past NoSlot (Barred x) refl (y .1) .1) .1) .1)
+
+module _ (L : Limits) (m : Model) (reads writes : CardSet) where
+  -- what an opening finds barred it touches
+  barred-touched : (c : ℕ) → barred L m reads writes c ≡ true → reads c || writes c ≡ true
+  barred-touched c e = let f : Found (L .slots) (λ p. bars (m .slot p) reads writes c) = any-elim (L .slots) (λ p. bars (m .slot p) reads writes c) e in by-slot (m .slot (f .0)) (f .2)
+    where
+      by-slot : (o : OpenChange) → bars o reads writes c ≡ true → reads c || writes c ≡ true
+      by-slot o z =
+          ⊎-elim (λ (y : writes c ≡ true). or-right (reads c) y) (λ (y : reads c && o .change .writes c ≡ true). or-left (writes c) (and-left (reads c) (o .change .writes c) y))
+          (or-elim (writes c) (reads c && o .change .writes c) (and-right (isOpen o && touches (o .change) c && not (o .taken c)) (writes c || (reads c && o .change .writes c)) z))
+
+  abbrev lowest : ℕ
+  lowest = lowestBarred L m reads writes
+
+  module _ (some : anyBelow (L .width) (barred L m reads writes) ≡ true) where
+    -- barred, and no lower card is
+    lowest-found : (barred L m reads writes lowest ≡ true) × ((d : ℕ) → d < lowest → barred L m reads writes d ≡ false)
+    lowest-found = (first-some (L .width) (barred L m reads writes) some, first-before (L .width) (barred L m reads writes))
+
+    lowest-below : lowest < L .width
+    lowest-below = first-below (L .width) (barred L m reads writes) some
+
+    lowest-touched : reads lowest || writes lowest ≡ true
+    lowest-touched = barred-touched lowest (lowest-found .0)
+
+    named-right : strays L m reads || strays L m writes ≡ false → NamedRight L m reads writes lowest
+    named-right e =
+        record {
+          is-card = and-intro (lt-ltb lowest (L .width) lowest-below) (touched-there L m reads writes e lowest lowest-below lowest-touched);
+          touched = lowest-touched;
+          is-barred = lowest-found .0;
+          lowest = lowest-found .1;
+        }
+
+pub names-lowest : NamesLowest
+names-lowest L m reads writes c e =
+    let z : (strays L m reads || strays L m writes ≡ false) × (anyBelow (L .width) (barred L m reads writes) ≡ true) × (lowestBarred L m reads writes ≡ c) = fifth _ _ _ _ _ _ _ _ _ c (refusal-due (openChecks L m reads writes) _ _ (Barred c) e) in
+    subst (NamedRight L m reads writes) (z .2) (named-right L m reads writes (z .1) (z .0))

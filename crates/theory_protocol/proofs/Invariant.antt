@@ -85,12 +85,12 @@ module _ (L : Limits) (n : CardSet) (m : Model) (j : Journal) (v : Invariant L n
   not-rolling-up : isUp (m .phase) ≡ true → isRolling (m .phase) ≡ false
   not-rolling-up e = fails (isRolling (m .phase)) (λ z. clash e (rolling-not-up (m .phase) z))
 
-  pub next-open : (reads writes : CardSet) (named : ℕ) → Next (noteOpen j (suc (m .latest)) reads writes) (openPlan L m reads writes named)
-  next-open reads writes named =
-      next (noteOpen j (suc (m .latest)) reads writes) (openPlan L m reads writes named)
-      (checked-case (SameCards L m) (openChecks L m reads writes named) _ _ (λ x c. refl) (λ ps c. refl)) (λ c. refl)
-      (λ r. open-step L m j r reads writes named)
-      (λ r. refused-back (noteOpen j (suc (m .latest)) reads writes) (openChecks L m reads writes named) _ _ r (λ ps. not-rolling-up (not-not (isUp (m .phase)) (ps .1 .1 .1 .0))))
+  pub next-open : (reads writes : CardSet) → Next (noteOpen j (suc (m .latest)) reads writes) (openPlan L m reads writes)
+  next-open reads writes =
+      next (noteOpen j (suc (m .latest)) reads writes) (openPlan L m reads writes)
+      (checked-case (SameCards L m) (openChecks L m reads writes) _ _ (λ x c. refl) (λ ps c. refl)) (λ c. refl)
+      (λ r. open-step L m j r reads writes)
+      (λ r. refused-back (noteOpen j (suc (m .latest)) reads writes) (openChecks L m reads writes) _ _ r (λ ps. not-rolling-up (not-not (isUp (m .phase)) (ps .1 .1 .1 .0))))
 
   vote-start : (k c : ℕ) (agrees : Bool) (i : ℕ) → noteVote L j k c agrees .start i ≡ j .start i
   vote-start k c true i = on (j .undecided k)

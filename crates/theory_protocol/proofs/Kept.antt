@@ -99,7 +99,7 @@ module _ (C : Codec) (L : Limits) (n : CardSet) (m : Model) (j : Journal) (v : I
   restart-kept (fixing line marked) e c = refl
 
   kept-step : (call : Call) (y : Choice) (c : ℕ) → c < L .width → n c ≡ true → keptBy j call (planOf C L m call y .reply) x c ≡ journalKept (note L n j call (planOf C L m call y .reply)) c
-  kept-step (openCall reads writes) y c lw h = quiet (openCall reads writes) (openChecks L m reads writes (y .named)) _ _ (λ c. refl) (λ c. refl) c lw h
+  kept-step (openCall reads writes) y c lw h = quiet (openCall reads writes) (openChecks L m reads writes) _ _ (λ c. refl) (λ c. refl) c lw h
   kept-step (plain (voteCall k d agrees)) y c lw h = quiet (plain (voteCall k d agrees)) (voteChecks L m k d) _ _ (λ c. refl) (vote-kept k d agrees) c lw h
   kept-step (plain (takeCall k d)) y c lw h = quiet (plain (takeCall k d)) (takeChecks L m k d) _ _ (λ c. refl) (λ c. refl) c lw h
   kept-step (plain (withdrawCall k)) y c lw h = quiet (plain (withdrawCall k)) (withdrawChecks L m k) _ _ (λ c. refl) (λ c. refl) c lw h

@@ -65,7 +65,7 @@ restart-step C L n law m j v =
 step : (C : Codec) (L : Limits) (n : CardSet) → CodecLaw C L n → (m : Model) (j : Journal) → Invariant L n m j → (call : Call) (x : Choice)
     → Invariant L n (afterCall C L m call x) (note L n j call (planOf C L m call x .reply))
 step C L n law m j v (openCall reads writes) x =
-    subst (Invariant L n _) (same-note L n j (noteOpen j (suc (m .latest)) reads writes) (openCall reads writes) (openChecks L m reads writes (x .named)) _ _ refl) (next-open L n m j v reads writes (x .named))
+    subst (Invariant L n _) (same-note L n j (noteOpen j (suc (m .latest)) reads writes) (openCall reads writes) (openChecks L m reads writes) _ _ refl) (next-open L n m j v reads writes)
 step C L n law m j v (plain (voteCall k c agrees)) x = subst (Invariant L n _) (same-note L n j (noteVote L j k c agrees) (plain (voteCall k c agrees)) (voteChecks L m k c) _ _ refl) (next-vote L n m j v k c agrees)
 step C L n law m j v (plain (takeCall k c)) x = subst (Invariant L n _) (same-note L n j j (plain (takeCall k c)) (takeChecks L m k c) _ _ refl) (next-take L n m j v k c)
 step C L n law m j v (plain (withdrawCall k)) x = subst (Invariant L n _) (same-note L n j (noteStruck j k) (plain (withdrawCall k)) (withdrawChecks L m k) _ _ refl) (next-withdraw L n m j v k)

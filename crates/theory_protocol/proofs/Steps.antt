@@ -52,6 +52,12 @@ in-cabinet : (L : Limits) (m : Model) (s : CardSet) → strays L m s ≡ false �
 in-cabinet L m s e c l z =
     test (m .present c) (λ y. y) (λ y. clash (and-intro z (not-intro y)) (none-at (L .width) (λ d. s d && not (m .present d)) e c l))
 
+-- a card that an opening touches is one of the cabinet, where neither set strays
+pub touched-there : (L : Limits) (m : Model) (reads writes : CardSet) → strays L m reads || strays L m writes ≡ false → (c : ℕ) → c < L .width → reads c || writes c ≡ true → m .present c ≡ true
+touched-there L m reads writes e c l z =
+    let stray : (strays L m reads ≡ false) × (strays L m writes ≡ false) = or-none (strays L m reads) (strays L m writes) e in
+    ⊎-elim (λ (y : reads c ≡ true). in-cabinet L m reads (stray .0) c l y) (λ (y : writes c ≡ true). in-cabinet L m writes (stray .1) c l y) (or-elim (reads c) (writes c) z)
+
 pub card-below : (L : Limits) (m : Model) (c : ℕ) → isCard L m c ≡ true → c < L .width
 card-below L m c e = ltb-true c (L .width) (and-left (ltb c (L .width)) (m .present c) e)
 
@@ -72,14 +78,13 @@ module _ (L : Limits) (m : Model) (j : Journal) (r : Running L m j) where
   abbrev Keeps : Journal → Plan → Type 0
   Keeps j' p = Running L (afterPlan L p m) (noted j j' (p .reply))
 
-  pub open-step : (reads writes : CardSet) (named : ℕ) → Keeps (noteOpen j (suc (m .latest)) reads writes) (openPlan L m reads writes named)
-  open-step reads writes named =
-      checked-case (Keeps (noteOpen j (suc (m .latest)) reads writes)) (openChecks L m reads writes named) _ _ (λ x. r)
+  pub open-step : (reads writes : CardSet) → Keeps (noteOpen j (suc (m .latest)) reads writes) (openPlan L m reads writes)
+  open-step reads writes =
+      checked-case (Keeps (noteOpen j (suc (m .latest)) reads writes)) (openChecks L m reads writes) _ _ (λ x. r)
       (λ ps.
-      let stray : (strays L m reads ≡ false) × (strays L m writes ≡ false) = or-none (strays L m reads) (strays L m writes) (ps .1 .0) in
       let free : freeAt L m < L .slots = ltb-true (freeAt L m) (L .slots) (not-not (ltb (freeAt L m) (L .slots)) (ps .1 .1 .1 .1 .1 .0)) in
       open-keeps L m j r reads writes (freeAt L m) (not-not (isUp (m .phase)) (ps .1 .1 .1 .0))
-      (λ c l z. ⊎-elim (λ (y : reads c ≡ true). in-cabinet L m reads (stray .0) c l y) (λ (y : writes c ≡ true). in-cabinet L m writes (stray .1) c l y) (or-elim (reads c) (writes c) z))
+      (touched-there L m reads writes (ps .1 .0))
       (some-card (ps .1 .1 .0))
       (λ p c lp lc. none-at (L .slots) (λ q. bars (m .slot q) reads writes c) (none-at (L .width) (barred L m reads writes) (ps .1 .1 .1 .1 .0) c lc) p lp)
       free (not-true (isOpen (m .slot (freeAt L m))) (first-at (L .slots) (λ p. not (isOpen (m .slot p))) free))

@@ -4,7 +4,7 @@ use mathlib.Core.Bool.{Bool, not, _&&_, _||_, cond}
 use mathlib.Core.List.{List, [], _∷_}
 use lib.Dec.{eqb, leb, ltb}
 use lib.ListN.{length}
-use Rattle.base_laws.specs.Below.{anyBelow, selected}
+use Rattle.base_laws.specs.Below.{anyBelow, firstBelow, selected}
 use Rattle.base_refusal.specs.declared.Refusal.the-variants.{NoSuchCard, BothSetsEmpty, TooShort, WrongPhase, Barred, NoSlot, InHandFull, LimitReached, NotAwaited, AlreadyDecided, StoreOutside, BadCabinet, NotDecided, AlreadyRolled}
 use Rattle.theory_history.specs.Change.{CardSet, Numbers, touches}
 use Rattle.theory_history.specs.Vector.{noEntries, vectorOf}
@@ -45,6 +45,10 @@ bars o reads writes c =
 abbrev pub barred : Limits → Model → CardSet → CardSet → CardSet
 barred L m reads writes c = anyBelow (L .slots) (λ p. bars (m .slot p) reads writes c)
 
+-- "Name the lowest such card.", as document 02's wish 2 has it
+abbrev pub lowestBarred : Limits → Model → CardSet → CardSet → ℕ
+lowestBarred L m reads writes = firstBelow (L .width) (barred L m reads writes)
+
 -- a written card of which the test holds
 abbrev pub someWritten : Limits → CardSet → (ℕ → Bool) → Bool
 someWritten L writes test = anyBelow (L .width) (λ c. writes c && test c)
@@ -53,22 +57,21 @@ someWritten L writes test = anyBelow (L .width) (λ c. writes c && test c)
 abbrev pub openedChange : ℕ → CardSet → CardSet → OpenChange
 openedChange k reads writes = unvoted (record { number = k; reads = reads; writes = writes })
 
-abbrev pub openChecks : Limits → Model → CardSet → CardSet → ℕ → List Check
-openChecks L m reads writes named =
+abbrev pub openChecks : Limits → Model → CardSet → CardSet → List Check
+openChecks L m reads writes =
     not (valid L m) ⇒ BadCabinet
     ∷ (strays L m reads || strays L m writes) ⇒ NoSuchCard
     ∷ (isEmpty L reads && isEmpty L writes) ⇒ BothSetsEmpty
     ∷ not (isUp (m .phase)) ⇒ WrongPhase
-    ∷ anyBelow (L .width) (barred L m reads writes) ⇒ Barred named
+    ∷ anyBelow (L .width) (barred L m reads writes) ⇒ Barred (lowestBarred L m reads writes)
     ∷ not (ltb (freeAt L m) (L .slots)) ⇒ NoSlot
     ∷ someWritten L writes (λ c. leb (m .numbers .base c + L .inHand) (m .numbers .reached c)) ⇒ InHandFull
     ∷ (someWritten L writes (λ c. leb (L .greatestState) (m .numbers .reached c)) || leb (L .greatestNumber) (m .latest)) ⇒ LimitReached
     ∷ []
 
--- the card named with 21 is left to the program: any touched card that is barred
-abbrev pub openPlan : Limits → Model → CardSet → CardSet → (named : ℕ) → Plan
-openPlan L m reads writes named =
-    checked (openChecks L m reads writes named) (opened (suc (m .latest)))
+abbrev pub openPlan : Limits → Model → CardSet → CardSet → Plan
+openPlan L m reads writes =
+    checked (openChecks L m reads writes) (opened (suc (m .latest)))
     (place (freeAt L m) (openedChange (suc (m .latest)) reads writes) ∷ latest (suc (m .latest)) ∷ [])
 
 -- ---- 2. vote

@@ -1,7 +1,7 @@
--- Demands 1 to 3 over whole lists of calls, and what belongs to them, whatever cards there are and however their sheets are written. Statements alone: the proofs are in proofs/Claims.antt (demand 1) and proofs/Answers.antt.
+-- Demands 1 to 3 over whole lists of calls, and what belongs to them, whatever cards there are and however their sheets are written. Statements alone: the proofs are in proofs/Claims.antt (demand 1 and the card that 21 names) and proofs/Answers.antt.
 use Prim.Native.Nat.{ℕ, _≤_, _<_}
 use mathlib.Core.Path.{_≡_}
-use mathlib.Core.Bool.{true, false, _&&_}
+use mathlib.Core.Bool.{true, false, _&&_, _||_}
 use mathlib.Core.Logic.{_↔_}
 use mathlib.Core.List.{List}
 use lib.Dec.{eqb}
@@ -9,15 +9,15 @@ use lib.ListN.{length}
 use Rattle.base_laws.specs.Below.{one-if, anyBelow, selected, occurs}
 use Rattle.base_refusal.specs.declared.Refusal.{Refusal}
 use Rattle.base_refusal.specs.Number.{Listed, numberOf}
-use Rattle.base_refusal.specs.declared.Refusal.the-variants.{LimitReached}
+use Rattle.base_refusal.specs.declared.Refusal.the-variants.{LimitReached, Barred}
 use Rattle.base_refusal.specs.declared.Reply.the-variants.{Done, Refused}
 use Rattle.theory_history.specs.Change.{CardSet, History, Numbers, made, Cut, On, historyOf}
 use Rattle.theory_history.specs.Vector.{entryOf, LastPreceding}
 use Rattle.theory_history.specs.Line.{lost}
-use Rattle.theory_protocol.specs.Model.{Limits, isUp, isRolling, Model}
+use Rattle.theory_protocol.specs.Model.{Limits, isUp, isRolling, Model, isCard}
 use Rattle.theory_protocol.specs.Valid.{valid}
 use Rattle.theory_protocol.specs.Plan.{Answer, safe, fixed, accepted, refused, Passed, Due}
-use Rattle.theory_protocol.specs.Calls.{freshModel}
+use Rattle.theory_protocol.specs.Calls.{freshModel, barred, openPlan}
 use Rattle.theory_protocol.specs.Codec.{Codec}
 use Rattle.theory_protocol.specs.Journal.{Journal, fixing, noteRestart}
 use Rattle.theory_protocol.specs.Run.{Call, plain, voteCall, takeCall, withdrawCall, openCall, storeCall, trimCall, safeCall, loseCall, fixCall, rollCall, sheetCall, restartCall, Choice, checksOf, planOf, afterCall, Calls, none, further, Run, start, next, journal, lastKept}
@@ -35,6 +35,18 @@ pub record Refuses (C : Codec) (L : Limits) (m : Model) (call : Call) (x : Choic
 
 abbrev pub Demand1 : Type 0
 Demand1 = (C : Codec) (L : Limits) (m : Model) (call : Call) (x : Choice) → Refuses C L m call x
+
+-- ---- beside it document 02's wish 2: "Name the lowest such card.", with 21, "a touched card is barred by an open change"
+-- what holds of the card c that is named
+pub record NamedRight (L : Limits) (m : Model) (reads writes : CardSet) (c : ℕ) : Type 0 where
+  pub is-card : isCard L m c ≡ true
+  pub touched : reads c || writes c ≡ true
+  pub is-barred : barred L m reads writes c ≡ true
+  pub lowest : (d : ℕ) → d < c → barred L m reads writes d ≡ false
+
+-- for any cabinet, a forged one too, and any sets: where the reply is 21 with c, that holds of c
+abbrev pub NamesLowest : Type 0
+NamesLowest = (L : Limits) (m : Model) (reads writes : CardSet) (c : ℕ) → openPlan L m reads writes .reply ≡ refused (Barred c) → NamedRight L m reads writes c
 
 -- ---- the history of the journal: "the changes decided since the last recovery"
 abbrev pub H : Journal → History

@@ -1,14 +1,14 @@
 -- Lists of calls from a fresh cabinet, refused ones included, with every answer and the cabinet after each call.
-use Prim.Native.Nat.{ℕ, _<_}
+use Prim.Native.Nat.{ℕ}
 use mathlib.Core.Path.{_≡_}
-use mathlib.Core.Bool.{Bool, true}
+use mathlib.Core.Bool.{Bool}
 use mathlib.Core.List.{List, []}
-use Rattle.base_laws.specs.Below.{one-if, anyBelow, occurs}
+use Rattle.base_laws.specs.Below.{one-if, occurs}
 use Rattle.theory_history.specs.Change.{CardSet, Numbers}
 use Rattle.theory_protocol.specs.Model.{Limits, Model}
 use Rattle.theory_protocol.specs.Edit.{put}
 use Rattle.theory_protocol.specs.Plan.{CardRow, Answer, done, opened, safe, unsafe, fixed, written, Reply, accepted, refused, Check, Plan, afterPlan}
-use Rattle.theory_protocol.specs.Calls.{freshModel, barred, isLost, openChecks, openPlan, voteChecks, votePlan, takeChecks, takePlan, withdrawChecks, withdrawPlan, storeChecks, storePlan, trimChecks, trimPlan, safeChecks, safePlan, loseChecks, losePlan, fixChecks, fixPlan, rollChecks, rollPlan}
+use Rattle.theory_protocol.specs.Calls.{freshModel, isLost, openChecks, openPlan, voteChecks, votePlan, takeChecks, takePlan, withdrawChecks, withdrawPlan, storeChecks, storePlan, trimChecks, trimPlan, safeChecks, safePlan, loseChecks, losePlan, fixChecks, fixPlan, rollChecks, rollPlan}
 use Rattle.theory_protocol.specs.Codec.{Codec, sheetChecks, sheetPlan, restartChecks, restartPlan}
 use Rattle.theory_protocol.specs.Journal.{Journal, Fixing, unfixed, fixing, emptyJournal, noteOpen, noteVote, noteStruck, noteStore, noteLose, noteFix, noteRoll, noteRestart}
 
@@ -32,15 +32,13 @@ pub data Call : Type 0 where
   -- restart from the sheets of all cards as this cabinet writes them, joined
   restartCall : Call
 
--- what document 01 leaves to the program: the card named with 21, and the order of the lost changes
+-- what document 01 leaves to the program: the order of the lost changes
 pub record Choice : Type 0 where
-  pub named : ℕ
   pub lost : List ℕ
 
--- "one such card is named"; "Each is listed once; their order is open"
+-- "Each is listed once; their order is open"
 abbrev pub Proper : Limits → Model → Call → Choice → Type 0
-Proper L m (openCall reads writes) x =
-    anyBelow (L .width) (barred L m reads writes) ≡ true → (x .named < L .width) × (barred L m reads writes (x .named) ≡ true)
+Proper L m (openCall reads writes) x = Unit {0}
 Proper L m (plain q) x = Unit {0}
 Proper L m (loseCall cards) x = Unit {0}
 Proper L m (fixCall a b) x = (k : ℕ) → occurs k (x .lost) ≡ one-if (isLost L m k)
@@ -63,7 +61,7 @@ plainChecks L m (safeCall k) = safeChecks L m k
 plainChecks L m (rollCall c) = rollChecks L m c
 
 abbrev pub checksOf : Codec → Limits → Model → Call → Choice → List Check
-checksOf C L m (openCall reads writes) x = openChecks L m reads writes (x .named)
+checksOf C L m (openCall reads writes) x = openChecks L m reads writes
 checksOf C L m (plain q) x = plainChecks L m q
 checksOf C L m (loseCall cards) x = loseChecks L m cards
 checksOf C L m (fixCall a b) x = fixChecks L m a b (x .lost)
@@ -81,7 +79,7 @@ plainPlan L m (safeCall k) = safePlan L m k
 plainPlan L m (rollCall c) = rollPlan L m c
 
 abbrev pub planOf : Codec → Limits → Model → Call → Choice → Plan
-planOf C L m (openCall reads writes) x = openPlan L m reads writes (x .named)
+planOf C L m (openCall reads writes) x = openPlan L m reads writes
 planOf C L m (plain q) x = plainPlan L m q
 planOf C L m (loseCall cards) x = losePlan L m cards
 planOf C L m (fixCall a b) x = fixPlan L m a b (x .lost)

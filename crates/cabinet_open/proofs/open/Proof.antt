@@ -24,11 +24,11 @@ use Rattle.cabinet_open.proofs.open.Statement.{statement}
 use Rattle.cabinet_open.proofs.open.Tie as tie
 
 -- the first of its checks that fails
-first : (c : tie.After-open-verdict) → c .open-verdict .result ≡ firstFailing (after28 (not (c .before .before .before .before .before .args .valid)) (openChecks limits16 (alone (c .before .before .before .before .before .args .t2)) (member (c .before .before .before .before .before .args .reads)) (member (c .before .before .before .before .before .args .writes)) (c .open-verdict .ensures .named)))
-first c = c .open-verdict .ensures .first
+first : (c : tie.After-open-verdict) → c .open-verdict .result ≡ firstFailing (after28 (not (c .before .before .before .before .before .args .valid)) (openChecks limits16 (alone (c .before .before .before .before .before .args .t2)) (member (c .before .before .before .before .before .args .reads)) (member (c .before .before .before .before .before .args .writes))))
+first c = c .open-verdict .ensures
 
 facts : (c : tie.After-open-verdict) → c .open-verdict .result ≡ Done → Opens (alone (c .before .before .before .before .before .args .t2))
-facts c d = opens (c .before .before .before .before .before .args .valid) (alone (c .before .before .before .before .before .args .t2)) (member (c .before .before .before .before .before .args .reads)) (member (c .before .before .before .before .before .args .writes)) (c .open-verdict .ensures .named) (sym (first c) ∙ d)
+facts c d = opens (c .before .before .before .before .before .args .valid) (alone (c .before .before .before .before .before .args .t2)) (member (c .before .before .before .before .before .args .reads)) (member (c .before .before .before .before .before .args .writes)) (sym (first c) ∙ d)
 
 in-slots : (c : tie.After-free-at) → c .free-at .result < 8
 in-slots c = let h : _ = facts (c .before .before .before .before) (c .before .enum-told .given .1) .slot in omega (arith, c .free-at .ensures)
@@ -64,10 +64,10 @@ enum-told-2 : tie.Need-enum-told-2
 enum-told-2 c = search needs
 
 returns : tie.Need-returns
-returns c = let a : _ = c .before .before .before .before .before .before .before .before .before .before .before .before .args in let s : _ = a .t2 in let R : CardSet = member (a .reads) in let W : CardSet = member (a .writes) in let vd : _ = c .before .before .before .before .before .before .before .open-verdict .ensures in let cs : List Check = after28 (not (a .valid)) (openChecks limits16 (alone s) R W (vd .named)) in record { named = vd .named; isBarred = vd .isBarred; lowest = vd .lowest; carried = core-as s _ cs (opened (suc (s .head .latest))) (place (freeAt limits16 (alone s)) (openedChange (suc (s .head .latest)) R W) ∷ latest (suc (s .head .latest)) ∷ []) _ (sym (first (c .before .before .before .before .before .before .before)) ∙ c .before .before .before .before .enum-told .given .1) (ap openReplyOf (c .before .before .before .before .before .before .open-answer .ensures ∙ ap (λ (r : Reply). openAnswer r (s .head .latest)) (c .before .before .before .before .enum-told .given .1)) ∙ ap (λ (n : ℕ). accepted (opened n)) (add-one (s .head .latest))) (open-next s (c .before .before .before .free-at .result) (freeAt limits16 (alone s)) (s .head .latest + 1) (suc (s .head .latest)) _ _ R W (c .before .before .before .free-at .ensures) (add-one (s .head .latest)) (c .before .opened .ensures) (c .counted .ensures)) }
+returns c = let a : _ = c .before .before .before .before .before .before .before .before .before .before .before .before .args in let s : _ = a .t2 in let R : CardSet = member (a .reads) in let W : CardSet = member (a .writes) in let cs : List Check = after28 (not (a .valid)) (openChecks limits16 (alone s) R W) in core-as s _ cs (opened (suc (s .head .latest))) (place (freeAt limits16 (alone s)) (openedChange (suc (s .head .latest)) R W) ∷ latest (suc (s .head .latest)) ∷ []) _ (sym (first (c .before .before .before .before .before .before .before)) ∙ c .before .before .before .before .enum-told .given .1) (ap openReplyOf (c .before .before .before .before .before .before .open-answer .ensures ∙ ap (λ (r : Reply). openAnswer r (s .head .latest)) (c .before .before .before .before .enum-told .given .1)) ∙ ap (λ (n : ℕ). accepted (opened n)) (add-one (s .head .latest))) (open-next s (c .before .before .before .free-at .result) (freeAt limits16 (alone s)) (s .head .latest + 1) (suc (s .head .latest)) _ _ R W (c .before .before .before .free-at .ensures) (add-one (s .head .latest)) (c .before .opened .ensures) (c .counted .ensures))
 
 returns-2 : tie.Need-returns-2
-returns-2 c = let a : _ = c .before .before .before .before .before .before .before .before .args in let s : _ = a .t2 in let R : CardSet = member (a .reads) in let W : CardSet = member (a .writes) in let vd : _ = c .before .before .before .open-verdict .ensures in let cs : List Check = after28 (not (a .valid)) (openChecks limits16 (alone s) R W (vd .named)) in record { named = vd .named; isBarred = vd .isBarred; lowest = vd .lowest; carried = core-not s _ cs (opened (suc (s .head .latest))) (place (freeAt limits16 (alone s)) (openedChange (suc (s .head .latest)) R W) ∷ latest (suc (s .head .latest)) ∷ []) _ _ (sym (first (c .before .before .before)) ∙ c .enum-told2 .given .1) (ap openReplyOf (c .before .before .open-answer .ensures ∙ ap (λ (r : Reply). openAnswer r (s .head .latest)) (c .enum-told2 .given .1))) refl }
+returns-2 c = let a : _ = c .before .before .before .before .before .before .before .before .args in let s : _ = a .t2 in let R : CardSet = member (a .reads) in let W : CardSet = member (a .writes) in let cs : List Check = after28 (not (a .valid)) (openChecks limits16 (alone s) R W) in core-not s _ cs (opened (suc (s .head .latest))) (place (freeAt limits16 (alone s)) (openedChange (suc (s .head .latest)) R W) ∷ latest (suc (s .head .latest)) ∷ []) _ _ (sym (first (c .before .before .before)) ∙ c .enum-told2 .given .1) (ap openReplyOf (c .before .before .open-answer .ensures ∙ ap (λ (r : Reply). openAnswer r (s .head .latest)) (c .enum-told2 .given .1))) refl
 
 pub open-spec : {M : Type 1} → statement M
 open-spec =

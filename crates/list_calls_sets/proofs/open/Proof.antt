@@ -1,6 +1,6 @@
 -- `list_calls_sets::open` calls open and writes its answer. Assumes nothing.
-use Rattle.list_results.specs.Result.{readsBeyond, writesBeyond}
-use Rattle.list_results.proofs.Laws.{opened-by, onward, onward-as}
+use Rattle.list_results.specs.Result.{readsBeyond, writesBeyond, openWithin}
+use Rattle.list_results.proofs.Laws.{by-plan, told-as, onward, onward-as}
 use borrow.Author.Needs.{needs}
 use Rattle.list_calls_sets.proofs.open.Statement.{statement}
 use Rattle.list_calls_sets.proofs.open.Tie as tie
@@ -39,7 +39,7 @@ same-length-3 : tie.Need-same-length-3
 same-length-3 c = search needs
 
 returns-3 : tie.Need-returns-3
-returns-3 c = onward _ (opened-by (search needs) (search needs) (c .before .before .before .before .before .«open» .ensures) (c .before .before .before .put-open .ensures))
+returns-3 c = onward _ (told-as (λ t k. openWithin (search needs) (search needs) k) (by-plan (c .before .before .before .before .before .«open» .ensures) (c .before .before .before .put-open .ensures)))
 
 pub open-spec : {M : Type 1} → statement M
 open-spec =

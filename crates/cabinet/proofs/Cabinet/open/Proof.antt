@@ -23,9 +23,8 @@ returns : tie.Need-returns
 returns c =
     let a : _ = c .before .before .before .before .before .before .before .args in
     let s : _ = a .t1 in
-    let o : _ = c .before .«open» .ensures in
     let k : _ = suc (s .core .head .latest) in
-    record { named = o .named; isBarred = o .isBarred; lowest = o .lowest; carried = swapped s (openChecks limits16 (alone (s .core)) (member (a .reads)) (member (a .writes)) (o .named)) (opened k) (place (freeAt limits16 (alone (s .core))) (openedChange k (member (a .reads)) (member (a .writes))) ∷ latest k ∷ []) _ _ _ (c .before .before .cabinet-valid .ensures) refl refl (o .carried) }
+    swapped s (openChecks limits16 (alone (s .core)) (member (a .reads)) (member (a .writes))) (opened k) (place (freeAt limits16 (alone (s .core))) (openedChange k (member (a .reads)) (member (a .writes))) ∷ latest k ∷ []) _ _ _ (c .before .before .cabinet-valid .ensures) refl refl (c .before .«open» .ensures)
 
 pub open-spec : {M : Type 1} → statement M
 open-spec = tie.close (tie.spec cabinet-valid-requires open-requires returns)
