@@ -18,7 +18,6 @@ CLAIMS = [
     ("theory_protocol", "Agreement", "SafeAgreesWithFix"),
     ("demands_lists", "Claims", "SafeAgreesWithFix16"),
     ("theory_protocol", "Demands", "NamesLowest"),
-    ("demands_lists", "Claims", "NamesLowest16"),
 ]
 HEAD = re.compile(r"^(?:(?:abbrev|unfoldable) )?(?:pub )?(?:(record|data) )?([^\s:(]+)(?= [:(])")
 TOKEN = re.compile(r"[^\s(){};,.\[\]]+")

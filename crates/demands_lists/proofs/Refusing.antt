@@ -24,7 +24,7 @@ use Rattle.sheet_readout.specs.Joint.{readoutOf}
 use Rattle.cabinet_restart.specs.Restart.{cabinetFor}
 use Rattle.cabinet_joined.specs.Joined.{ownSheets, goingOn}
 use Rattle.demands_lists.specs.Lists.{Asked, opening, plain, lose, fix, sheet, restart, Lent, nothingLent, Answered}
-use Rattle.demands_lists.specs.Claims.{Said, answers, refuses, Outcome, Gets, CallsAnswer, NamesLowest16}
+use Rattle.demands_lists.specs.Claims.{Said, answers, refuses, Outcome, Gets, CallsAnswer}
 use Rattle.demands_lists.proofs.Some.{some}
 
 -- where nothing is left to the program
@@ -61,9 +61,14 @@ by-plan s call x t before after reply d stays =
 
 pub every : (s : Cabinet) (asked : Asked) (reply : Reply) (t : Cabinet) (after : Lent) → Answered s asked reply t after → Gets s asked reply t after
 every s (opening reads writes) reply t after d =
-    record { choice = no-choice; proper = tt; outcome = by-plan s (run.openCall (member reads) (member writes)) no-choice t nothingLent after reply (d .0) (λ r e. d .1) }
-every s (plain q) reply t after d = record { choice = no-choice; proper = tt; outcome = by-plan s (run.plain q) no-choice t nothingLent after reply (d .0) (λ r e. d .1) }
-every s (lose cards) reply t after d = record { choice = no-choice; proper = tt; outcome = by-plan s (run.loseCall (member cards)) no-choice t nothingLent after reply (d .0) (λ r e. d .1) }
+    record {
+      choice = no-choice;
+      proper = tt;
+      outcome = by-plan s (run.openCall (member reads) (member writes)) no-choice t nothingLent after reply (d .0) (λ r e. d .1);
+      names = λ c e. names-lowest limits16 (view s) (member reads) (member writes) c (sym (d .0 .answer) ∙ e);
+    }
+every s (plain q) reply t after d = record { choice = no-choice; proper = tt; outcome = by-plan s (run.plain q) no-choice t nothingLent after reply (d .0) (λ r e. d .1); names = tt }
+every s (lose cards) reply t after d = record { choice = no-choice; proper = tt; outcome = by-plan s (run.loseCall (member cards)) no-choice t nothingLent after reply (d .0) (λ r e. d .1); names = tt }
 every s (fix records list) reply t after d =
     let c : FixCarried s (length records) list (after .numbers) (d .told) t = d .both .carried in
     let x : Choice = record { lost = c .told .lost } in
@@ -73,6 +78,7 @@ every s (fix records list) reply t after d =
       proper = c .told .once;
       outcome = by-plan s (run.fixCall (length records) (length list)) x t before after reply (record { answer = d .answer ∙ c .told .answer; cabinet = c .cabinet })
           (λ r q. both-lists after before (d .both .filled ∙ ap (λ (u : Reply). recordsAfter u records) (sym q)) (c .told .list ∙ ap (λ (u : Reply). listAfter u list) (sym q)));
+      names = tt;
     }
 every s (sheet c buffer) reply t after d =
     let before : Lent = record { records = []; numbers = buffer } in
@@ -81,6 +87,7 @@ every s (sheet c buffer) reply t after d =
       proper = tt;
       outcome = by-plan s (run.sheetCall c (length buffer)) no-choice t before after reply (record { answer = d .answer ∙ d .carried .told .answer; cabinet = d .carried .cabinet })
           (λ r q. both-lists after before (d .noRecords) (d .carried .told .buffer ∙ ap (λ (u : Reply). bufferAfter u buffer) (sym q)));
+      names = tt;
     }
 every s restart reply t after d =
     record {
@@ -88,11 +95,8 @@ every s restart reply t after d =
       proper = tt;
       outcome = outcome-of s run.restartCall no-choice t nothingLent after reply (d .0 .answer)
           (λ r z. (d .0 .cabinet ∙ ap (λ (u : Reply). goingOn u (cabinetFor (restartReply (ownSheets s)) (readoutOf (ownSheets s) .readout)) s) (sym (d .0 .answer) ∙ z), d .1));
+      names = tt;
     }
 
 pub calls-answer : CallsAnswer
 calls-answer = record { some = some; each = every }
-
--- the card that 21 names
-pub names-lowest-16 : NamesLowest16
-names-lowest-16 s reads writes c t after d = names-lowest limits16 (view s) (member reads) (member writes) c (sym (d .0 .answer))

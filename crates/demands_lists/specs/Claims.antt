@@ -20,7 +20,7 @@ use Rattle.cabinet.specs.declared.Cabinet.{Cabinet}
 use Rattle.cabinet.specs.View.{view}
 use Rattle.cabinet_records.specs.declared.CardRecord.{CardRecord}
 use Rattle.cabinet_restart.specs.Restart.{Restarted}
-use Rattle.demands_lists.specs.Lists.{Asked, opening, plain, lose, fix, callOf, Lent, lent, Sized, Answered, List16, start, next}
+use Rattle.demands_lists.specs.Lists.{Asked, opening, plain, lose, fix, sheet, restart, callOf, Lent, lent, Sized, Answered, List16, start, next}
 
 -- ---- Demand 1, for any cabinet, a forged one too, and any arguments: "gets an answer or a refusal from document 01. A refusal changes neither the cabinet nor any lent list or buffer."
 -- what is said where this is the table: an answer, where no row fails; else the refusal of the first row that does
@@ -33,11 +33,21 @@ pub record Outcome (table : List Check) (s t : Cabinet) (before after : Lent) (r
   pub said : Said table reply
   pub unchanged : (r : Refusal) → reply ≡ refused r → (t ≡ s) × (after ≡ before)
 
+-- beside it document 02's wish 2, "Name the lowest such card.": what holds of the card that an opening is refused with
+abbrev pub Names : Cabinet → Asked → Reply → Type 0
+Names s (opening reads writes) reply = (c : ℕ) → reply ≡ refused (Barred c) → NamedRight limits16 (view s) (member reads) (member writes) c
+Names s (plain q) reply = Unit {0}
+Names s (lose cards) reply = Unit {0}
+Names s (fix records list) reply = Unit {0}
+Names s (sheet c buffer) reply = Unit {0}
+Names s restart reply = Unit {0}
+
 -- the table is the call's, for some choice of what document 01 leaves to the program
 pub record Gets (s : Cabinet) (asked : Asked) (reply : Reply) (t : Cabinet) (after : Lent) : Type 0 where
   pub choice : Choice
   pub proper : Proper limits16 (view s) (callOf asked) choice
   pub outcome : Outcome (checksOf codec limits16 (view s) (callOf asked) choice) s t (lent asked) after reply
+  pub names : Names s asked reply
 
 -- some answer of a call
 pub record Reached (s : Cabinet) (asked : Asked) : Type 0 where
@@ -51,11 +61,6 @@ pub record CallsAnswer : Type 0 where
   pub some : (s : Cabinet) (asked : Asked) → Reached s asked
   -- and every one is as said
   pub each : (s : Cabinet) (asked : Asked) (reply : Reply) (t : Cabinet) (after : Lent) → Answered s asked reply t after → Gets s asked reply t after
-
--- ---- beside it document 02's wish 2: "Name the lowest such card."
--- for any cabinet, a forged one too, and any sets: where open answers 21 with c, c is the lowest
-abbrev pub NamesLowest16 : Type 0
-NamesLowest16 = (s : Cabinet) (reads writes c : ℕ) (t : Cabinet) (after : Lent) → Answered s (opening reads writes) (refused (Barred c)) t after → NamedRight limits16 (view s) (member reads) (member writes) c
 
 -- ---- Demands 2 and 3
 -- "the sheets of all cards, joined, restart to the line answered": what the restart of the code hands back

@@ -45,7 +45,7 @@ bars o reads writes c =
 abbrev pub barred : Limits → Model → CardSet → CardSet → CardSet
 barred L m reads writes c = anyBelow (L .slots) (λ p. bars (m .slot p) reads writes c)
 
--- "Name the lowest such card.", as document 02's wish 2 has it
+-- the card that 21 names, as document 02's wish 2 has it: "Name the lowest such card."
 abbrev pub lowestBarred : Limits → Model → CardSet → CardSet → ℕ
 lowestBarred L m reads writes = firstBelow (L .width) (barred L m reads writes)
 
