@@ -14,7 +14,7 @@ use crate::replay::Place;
 use crate::restart::restart;
 use crate::sheet::{read_sheet, read_sheets, write_sheet};
 use crate::takes::Takes;
-use std::collections::BTreeMap;
+use std::collections::{BTreeMap, BTreeSet};
 
 /// What the checks saw.
 #[derive(Default, Debug)]
@@ -79,6 +79,7 @@ impl Follower {
         if let Answer::Refused(refusal) = answer {
             counts.add(&format!("refused {:02}", refusal.number()));
             count_barred(&call, refusal, before.as_ref(), counts);
+            count_short(&call, refusal, before.as_ref(), counts);
             return demand(before == self.place.cabinet, "a refusal changed the cabinet");
         }
         if answer == Answer::NoCabinet {
@@ -141,6 +142,7 @@ impl Follower {
                     counts.add("fixes tried in full");
                 }
                 count_fix(records, lost, before, counts);
+                self.count_lost(&call, lost, before, counts);
                 counts.greatest("most changes in a history", self.journal.history.len());
             }
             (Call::Safe { change }, Answer::Safe(safe)) => self.demand_safe(change, *safe, counts)?,
@@ -291,6 +293,39 @@ impl Follower {
         }
     }
 
+    /// What the order of the lost changes could be mistaken for, and how many
+    /// places were lent.
+    fn count_lost(&self, call: &Call, lost: &[u32], before: Option<&Cabinet>, counts: &mut Counts) {
+        let decided: Vec<u32> = self
+            .journal
+            .history
+            .iter()
+            .map(|change| change.number)
+            .filter(|number| lost.contains(number))
+            .collect();
+        if decided != lost {
+            counts.add("fixes with lost changes decided in another order");
+        }
+        if let Some(before) = before {
+            let framed = framed(before, lost);
+            let first = framed.iter().position(|is_framed| *is_framed);
+            let last = framed.iter().rposition(|is_framed| *is_framed);
+            if let (Some(first), Some(last)) = (first, last) {
+                if framed[first..=last].contains(&false) {
+                    counts.add("fixes with a lost change without a frame between framed ones");
+                }
+            }
+        }
+        if !self.journal.builds_on(&self.journal.order(), lost).is_empty() {
+            counts.add("fixes with a lost change that builds on another");
+        }
+        if let Call::Fix { numbers, .. } = call {
+            if !lost.is_empty() && *numbers as usize == lost.len() {
+                counts.add("fixes with just as many places as lost changes");
+            }
+        }
+    }
+
     /// Cards lost right here: the fix that follows holds, and so do the rolls
     /// after it, with the engine's memory gone before each.
     fn demand_cut(&mut self, counts: &mut Counts) -> Result<(), String> {
@@ -377,6 +412,15 @@ impl Follower {
     }
 }
 
+/// Which of the changes have a frame in hand.
+fn framed(cabinet: &Cabinet, numbers: &[u32]) -> Vec<bool> {
+    let mut makers = BTreeSet::new();
+    for (card, state) in cabinet.cards.iter().enumerate() {
+        makers.extend(cabinet.frames(card, state.reached).iter().map(|frame| frame.change));
+    }
+    numbers.iter().map(|number| makers.contains(number)).collect()
+}
+
 /// What the card named with 21 was the lowest of.
 fn count_barred(call: &Call, refusal: Refusal, before: Option<&Cabinet>, counts: &mut Counts) {
     if let (Call::Open { reads, writes }, Refusal::Barred(card), Some(before)) = (call, refusal, before) {
@@ -390,6 +434,15 @@ fn count_barred(call: &Call, refusal: Refusal, before: Option<&Cabinet>, counts:
         }
         if before.open.iter().any(|open| open.bars(card, has(writes, card)) && lower(open.touched())) {
             counts.add("refused 21 with a lower card in the barring change");
+        }
+    }
+}
+
+/// A fix refused for one place that the list of lost changes lacks.
+fn count_short(call: &Call, refusal: Refusal, before: Option<&Cabinet>, counts: &mut Counts) {
+    if let (Call::Fix { records, numbers }, Refusal::TooShort, Some(before)) = (call, refusal, before) {
+        if *records as usize >= before.cards.len() && *numbers as usize + 1 == before.lost_now().len() {
+            counts.add("refused 04 for one number more");
         }
     }
 }

@@ -174,8 +174,8 @@ impl History {
         line
     }
 
-    /// The numbers of the changes that wrote a card and are not in the line,
-    /// rising.
+    /// The numbers of the changes that wrote a card and are not in the line:
+    /// "The list of lost changes comes in rising change number."
     pub fn lost(&self, stored: &[u32]) -> Vec<u32> {
         let mut lost: Vec<u32> = self
             .decided

@@ -199,7 +199,8 @@ impl Journal {
             return Err("the book's precedence is not Definition 1's".to_string());
         }
         self.demand_line(&order, &line)?;
-        self.demand_whole(&line, lost)
+        self.demand_whole(&line, lost)?;
+        self.demand_builds_on(&order, lost)
     }
 
     /// The line is a choice, and no other choice is above it on any card.
@@ -263,7 +264,8 @@ impl Journal {
         }
     }
 
-    /// A change is on every card it wrote or on none; lost are those on none.
+    /// A change is on every card it wrote or on none; lost are those on none,
+    /// listed in rising number.
     fn demand_whole(&self, line: &[u32], lost: &[u32]) -> Result<(), String> {
         let found = self.found();
         let mut expected = Vec::new();
@@ -281,6 +283,36 @@ impl Journal {
             return Err(format!("lost {lost:?}, the book says {expected:?}"));
         }
         Ok(())
+    }
+
+    /// The pairs of lost changes of which the first precedes the second, by
+    /// their places in the list.
+    pub fn builds_on(&self, order: &Order, lost: &[u32]) -> Vec<(usize, usize)> {
+        let places: Vec<Option<usize>> = self
+            .history
+            .iter()
+            .map(|change| lost.iter().position(|number| *number == change.number))
+            .collect();
+        let mut pairs = Vec::new();
+        for (a, first) in places.iter().enumerate() {
+            for (b, second) in places.iter().enumerate() {
+                if let (true, Some(first), Some(second)) = (order[a][b], first, second) {
+                    pairs.push((*first, *second));
+                }
+            }
+        }
+        pairs
+    }
+
+    /// Of two lost changes the one that precedes the other stands first.
+    fn demand_builds_on(&self, order: &Order, lost: &[u32]) -> Result<(), String> {
+        match self.builds_on(order, lost).iter().find(|(first, second)| first >= second) {
+            None => Ok(()),
+            Some((first, second)) => Err(format!(
+                "lost {lost:?}: {} stands before {}, which it builds on",
+                lost[*second], lost[*first]
+            )),
+        }
     }
 }
 

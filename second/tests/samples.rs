@@ -117,6 +117,21 @@ fn stored_but_hanging_on_an_unstored_state_is_unsafe() {
     ends(&(calls + "store 0 1\nsafe 2\n"), "unsafe\nok\nsafe\n");
 }
 
+/// Changes 1 and 2 on a card each, decided in the order 2, 1; all cards lost.
+const DECIDED_2_1: &str = "fresh 2\nopen 0 1\nopen 0 2\nvote 2 1 1\nvote 1 0 1\ntake 2 1\ntake 1 0\nlose 3\n";
+
+#[test]
+fn lost_changes_rise_whatever_the_order_of_decisions() {
+    ends(&(DECIDED_2_1.to_string() + "fix 2 8\n"), "fixed 2 2\n0 0 0\n1 0 0\nlost 1 2\n");
+    ends(&(DECIDED_2_1.to_string() + "fix 2 1\nfix 2 2\n"), "refused 4\nfixed 2 2\n0 0 0\n1 0 0\nlost 1 2\n");
+}
+
+#[test]
+fn an_ended_change_stands_between_framed_ones() {
+    let calls = "fresh 3\nopen 0 1\nopen 0 2\nopen 0 4\nvote 3 2 1\ntake 3 2\nvote 1 0 1\ntake 1 0\nvote 2 1 1\nlose 2\nfix 3 3\n";
+    ends(calls, "fixed 3 3\n0 0 0\n1 0 0\n2 0 0\nlost 1 2 3\n");
+}
+
 #[test]
 fn the_worked_read_out() {
     let input = "0000000100020000000281C5\n0001000000010000FFFF561A\n00020000000300010000A2C6\n000000010102000000008AC4\n";

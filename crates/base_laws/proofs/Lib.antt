@@ -1,4 +1,5 @@
 pub mod Logic
 pub mod Below
+pub mod Order
 pub mod Seq
 pub mod Fill

@@ -8,7 +8,7 @@ use lib.Seq.{sets}
 use Rattle.base_limits.specs.Ring.{ringPlace}
 use Rattle.theory_protocol.specs.Valid.{valid}
 use Rattle.theory_protocol.specs.Edit.{Edit, fix}
-use Rattle.theory_protocol.specs.Calls.{lines, cardRows, fixChecks}
+use Rattle.theory_protocol.specs.Calls.{lines, cardRows, lostNumbers, fixChecks}
 use Rattle.theory_protocol.specs.Plan.{Answer, fixed, Check, _⇒_, Plan, checked}
 use Rattle.theory_protocol.specs.Plan as plan
 use Rattle.cabinet_layout.specs.declared.Core.{Core}
@@ -90,8 +90,8 @@ roll-still s c false = (refl, refl)
 -- fix: its one edit makes no state
 pub fixed-carried : (s : Cabinet) (places : ℕ) (before after : List ℕ) (reply : FixReply) (core : Core) → CoreFixed (s .entries) (s .changes) (s .core) places before after reply core → FixCarried s places before after reply (withCore s core)
 fixed-carried s places before after reply core t =
-    let cs : List Check = fixChecks limits16 (view s) places (length before) (t .told .lost) in
-    let a : Answer = fixed (cardRows limits16 (view s)) (t .told .lost) in
+    let cs : List Check = fixChecks limits16 (view s) places (length before) in
+    let a : Answer = fixed (cardRows limits16 (view s)) (lostNumbers limits16 (view s)) in
     record { told = t .told; cabinet = kept s cs a (fix (lines limits16 (view s)) ∷ []) (checked cs a (fix (lines limits16 (view s)) ∷ []) .reply) core refl refl (record { answer = refl; core = t .core }) .cabinet }
 
 pub core-fixed : (s next : Cabinet) (es : List Edit) → next ≡ applyAll es s → next .core ≡ appliedAll es (s .core)

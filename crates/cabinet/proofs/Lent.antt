@@ -24,7 +24,7 @@ use Rattle.cabinet.proofs.Call.{core-fixed}
 pub lends : (s : Cabinet) (records : List CardRecord) (list listNow : List ℕ) (a : FixAnswer) → FixCarried s (length records) list listNow (a .reply) (a .cabinet)
     → (numbers : CardNumbers) (recordsNow : List CardRecord) → numbers ≡ numbersOf (a .reply) (a .cabinet .core) → recordsNow ≡ filled numbers records → FixLent s records recordsNow list listNow (a .reply) (a .cabinet)
 lends s records list listNow a t numbers recordsNow e f =
-    let es : List Edit = fixPlan limits16 (view s) (length records) (length list) (t .told .lost) .edits in
+    let es : List Edit = fixPlan limits16 (view s) (length records) (length list) .edits in
     record {
       carried = t;
       filled = f ∙ ap (λ (h : CardNumbers). filled h records) e

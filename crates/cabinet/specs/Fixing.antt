@@ -1,4 +1,4 @@
--- What fix hands back, by its plan: for some list with each lost change once, which the lent list then begins with. The stored numbers and lines answered are those of the cabinet handed back.
+-- What fix hands back, by its plan: the lent list then begins with the numbers of the changes lost. The stored numbers and lines answered are those of the cabinet handed back.
 use Prim.Native.Nat.{ℕ}
 use mathlib.Core.Path.{_≡_}
 use mathlib.Core.List.{List}
@@ -12,5 +12,5 @@ use Rattle.cabinet.specs.View.{view}
 use Rattle.cabinet.specs.Apply.{applyAll}
 
 pub record FixCarried (s : Cabinet) (places : ℕ) (before after : List ℕ) (reply : FixReply) (next : Cabinet) : Type 0 where
-  pub told : FixResult (view s) (fixPlan limits16 (view s) places (length before)) (s .core .head .cards) (next .core .stored) (next .core .line) before after reply
-  pub cabinet : next ≡ applyAll (fixPlan limits16 (view s) places (length before) (told .lost) .edits) s
+  pub told : FixResult (fixPlan limits16 (view s) places (length before)) (s .core .head .cards) (next .core .stored) (next .core .line) before after reply
+  pub cabinet : next ≡ applyAll (fixPlan limits16 (view s) places (length before) .edits) s

@@ -15,7 +15,7 @@ use Rattle.cabinet.specs.Fixing.{FixCarried}
 -- call 9 with both lists lent: the plan where there are as many places as each list has, and every place of each list after it
 pub record FixLent (s : Cabinet) (records recordsNow : List CardRecord) (list listNow : List ℕ) (reply : FixReply) (next : Cabinet) : Type 0 where
   pub carried : FixCarried s (length records) list listNow reply next
-  pub filled : recordsNow ≡ recordsAfter (fixPlan limits16 (view s) (length records) (length list) (carried .told .lost) .reply) records
+  pub filled : recordsNow ≡ recordsAfter (fixPlan limits16 (view s) (length records) (length list) .reply) records
 
 -- the same where the first n places of an array of card records are lent: the others keep what they held
 pub record FixPart (s : Cabinet) (n : ℕ) (records recordsNow : List CardRecord) (list listNow : List ℕ) (reply : FixReply) (next : Cabinet) : Type 0 where

@@ -17,7 +17,7 @@ use cabinet_replies::next;
 
 // The checks before the last: 28, 20, 24.
 pub fn fix_verdict(valid: bool, head: Head) -> Reply
-    ensures { λ r. ⌜ r ≡ firstFailing (butLast (after28 (not valid) (fixChecks limits16 (headModel head) 0 0 []))) ⌝ }
+    ensures { λ r. ⌜ r ≡ firstFailing (butLast (after28 (not valid) (fixChecks limits16 (headModel head) 0 0))) ⌝ }
 {
     let phase = head.phase;
     let down = is_down(phase);

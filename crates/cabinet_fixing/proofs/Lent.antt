@@ -18,7 +18,7 @@ use Rattle.theory_protocol.specs.Edit.{Edit, fix}
 use Rattle.theory_protocol.specs.Plan.{CardRow, Answer, fixed, Check, _⇒_, Plan, checked, accepted}
 use Rattle.theory_protocol.specs.Plan as plan
 use Rattle.theory_protocol.specs.Valid.{valid}
-use Rattle.theory_protocol.specs.Calls.{lines, cardRows, fixChecks, fixPlan}
+use Rattle.theory_protocol.specs.Calls.{lines, cardRows, lostNumbers, fixChecks, fixPlan}
 use Rattle.cabinet_layout.specs.declared.Core.{Core}
 use Rattle.cabinet_layout.specs.Shape.{limits16, at, presentOf, modelOf}
 use Rattle.cabinet_layout.specs.Answers.{firstFailing}
@@ -91,13 +91,13 @@ module _ (entries changes : List ℕ) (s : Core) (records : List CardRecord) (li
   n = s .head .cards
 
   abbrev checks : List Check
-  checks = fixChecks limits16 m (length records) (length list) (t .told .lost)
+  checks = fixChecks limits16 m (length records) (length list)
 
   abbrev answered : Answer
-  answered = fixed (cardRows limits16 m) (t .told .lost)
+  answered = fixed (cardRows limits16 m) (lostNumbers limits16 m)
 
   abbrev made : Plan
-  made = fixPlan limits16 m (length records) (length list) (t .told .lost)
+  made = fixPlan limits16 m (length records) (length list)
 
   -- what is answered, where the reply is r
   told-reply : (r : FixReply) → reply ≡ r → fixReplyOf n (next .stored) (next .line) listNow r ≡ made .reply
@@ -126,7 +126,7 @@ module _ (entries changes : List ℕ) (s : Core) (records : List CardRecord) (li
     short = ltb (length records) (length (cardRows limits16 m))
 
     abbrev missing : Bool
-    missing = ltb (length list) (length (t .told .lost))
+    missing = ltb (length list) (length (lostNumbers limits16 m))
 
     whole : Passes (not (valid limits16 m)) (wrong ⇒ WrongPhase ∷ late ⇒ LimitReached ∷ (short || missing) ⇒ TooShort ∷ [])
     whole = passes (not (valid limits16 m)) BadCabinet (wrong ⇒ WrongPhase ∷ late ⇒ LimitReached ∷ (short || missing) ⇒ TooShort ∷ []) off

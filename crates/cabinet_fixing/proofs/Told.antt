@@ -10,7 +10,7 @@ use Rattle.theory_protocol.specs.Edit.{Edit, fix}
 use Rattle.theory_protocol.specs.Model.{Model}
 use Rattle.theory_protocol.specs.Plan.{Answer, fixed, Check, _⇒_, checked, accepted, refused}
 use Rattle.theory_protocol.specs.Plan as plan
-use Rattle.theory_protocol.specs.Calls.{lines, cardRows, fixChecks, fixPlan}
+use Rattle.theory_protocol.specs.Calls.{lines, cardRows, lostNumbers, fixChecks, fixPlan}
 use Rattle.cabinet_layout.specs.declared.Phase.the-variants.{Rolling}
 use Rattle.cabinet_layout.specs.declared.Head.{Head}
 use Rattle.cabinet_layout.specs.declared.Core.{Core}
@@ -47,10 +47,10 @@ module _ (entries changes : List ℕ) (s : Core) (places : ℕ) (before line aft
   m = modelOf entries changes s
 
   abbrev checks : List Check
-  checks = fixChecks limits16 m places (length before) (t .told .lost)
+  checks = fixChecks limits16 m places (length before)
 
   abbrev answered : Answer
-  answered = fixed (cardRows limits16 m) (t .told .lost)
+  answered = fixed (cardRows limits16 m) (lostNumbers limits16 m)
 
   -- what is answered, where the reply is known
   replied : (x : FixReply) → r ≡ x → fixReplyOf (s .head .cards) (s .stored) line after x ≡ checked checks answered (fix (lines limits16 m) ∷ []) .reply
@@ -60,8 +60,6 @@ module _ (entries changes : List ℕ) (s : Core) (places : ℕ) (before line aft
   fix-refused q d =
       record {
         told = record {
-          lost = t .told .lost;
-          once = t .told .once;
           answer = ap (fixReplyOf (s .head .cards) (s .stored) (s .line) after) d ∙ replied (NotFixed q) d;
           inside = t .told .inside;
           list = t .told .list;

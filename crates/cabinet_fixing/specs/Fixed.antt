@@ -1,4 +1,4 @@
--- What fix hands back, by its plan: for some list with each lost change once, which the lent list then begins with. The stored numbers and lines answered are those of the core handed back.
+-- What fix hands back, by its plan: the lent list then begins with the numbers of the changes lost. The stored numbers and lines answered are those of the core handed back.
 use Prim.Native.Nat.{ℕ}
 use mathlib.Core.Path.{_≡_}
 use mathlib.Core.List.{List, map}
@@ -17,8 +17,8 @@ use Rattle.cabinet_records.specs.declared.CardRecord.{CardRecord}
 use Rattle.cabinet_records.specs.declared.CardNumbers.{CardNumbers}
 
 pub record CoreFixed (entries changes : List ℕ) (s : Core) (places : ℕ) (before after : List ℕ) (reply : FixReply) (next : Core) : Type 0 where
-  pub told : FixResult (modelOf entries changes s) (fixPlan limits16 (modelOf entries changes s) places (length before)) (s .head .cards) (next .stored) (next .line) before after reply
-  pub core : next ≡ appliedAll (fixPlan limits16 (modelOf entries changes s) places (length before) (told .lost) .edits) s
+  pub told : FixResult (fixPlan limits16 (modelOf entries changes s) places (length before)) (s .head .cards) (next .stored) (next .line) before after reply
+  pub core : next ≡ appliedAll (fixPlan limits16 (modelOf entries changes s) places (length before) .edits) s
 
 -- ---- the list of card records
 -- a row of the answer, as the lent list holds it: (card, stored, line)

@@ -1,82 +1,25 @@
--- The numbers that pass a test, found one after the other: each once, in rising order, and no other list is that. Assumes nothing.
-use Prim.Native.Nat.{ℕ, zero, suc, _+_, _≤_, _<_, zero-le}
+-- The numbers that pass a test, found one after the other, and no other list is that. Assumes nothing.
+use Prim.Native.Nat.{ℕ, suc, _+_, _≤_, _<_}
 use mathlib.Core.Path.{_≡_, refl, sym, _∙_, ap, ap₂}
-use mathlib.Core.Bool.{Bool, true, false, _&&_, cond}
-use mathlib.Core.List.{List, [], _∷_, _++_, append-nil}
+use mathlib.Core.Bool.{Bool, false, cond}
+use mathlib.Core.List.{List, [], _∷_, _++_}
 use mathlib.Core.Logic.{by-cases}
-use native.Mathlib.Nat.{not-suc-le-zero}
-use native.Mathlib.Decide.{decLt, ℕ-discrete}
+use native.Mathlib.Decide.{ℕ-discrete}
 use native.Mathlib.Omega.{arith}
 use lib.ListN.{length, set, length-append}
 use lib.Seq.{sets}
-use lib.Dec.{eqb, ltb}
-use borrow.Author.Tests.{lt-ltb, le-ltb, eq-eqb, ne-eqb}
-use Rattle.base_laws.specs.Below.{selected, occurs, one-if}
-use Rattle.base_laws.proofs.Below.{occurs-append}
+use Rattle.base_laws.proofs.Order.{those, flat, those-same}
 use Rattle.base_laws.proofs.Fill.{sets-snoc}
 use Rattle.base_merge.specs.Merge.{NextOf}
 use Rattle.cabinet_listing.specs.Lost.{Rising, Listed}
-
--- the numbers below n that pass
-abbrev pub those : (ℕ → Bool) → ℕ → List ℕ
-those p n = selected n p (λ k. k)
-
--- no number between passes
-pub flat : (p : ℕ → Bool) (m k : ℕ) → k < m → ((j : ℕ) → k < j → j < m → p j ≡ false) → those p m ≡ those p (suc k)
-flat p zero k h f = absurd (not-suc-le-zero h)
-flat p (suc m) k h f = by-cases (ℕ-discrete k m) (λ (q : k ≡ m). ap (λ (i : ℕ). those p (suc i)) (sym q)) (λ (n : ¬ (k ≡ m)). before n (flat p m k (omega (arith, n)) (λ j a b. f j a (omega arith))))
-  where
-    before : ¬ (k ≡ m) → those p m ≡ those p (suc k) → those p (suc m) ≡ those p (suc k)
-    before n e = ap₂ (λ (l : List ℕ) (b : Bool). l ++ cond b (m ∷ []) []) e (f m (omega (arith, n)) (omega arith)) ∙ append-nil (those p (suc k))
 
 -- the next that passes
 pub step : (p : ℕ → Bool) (k x : ℕ) → NextOf p k x → (x ≡ 0 → ⊥) → those p (suc x) ≡ those p (suc k) ++ (x ∷ [])
 step p k x r n = ap₂ (λ (l : List ℕ) (b : Bool). l ++ cond b (x ∷ []) []) (flat p x k (r .above n) (r .least)) (r .passes n)
 
--- ---- two lists of all that pass are the same
+-- two lists of all that pass are the same
 pub rising-one : {p : ℕ → Bool} {xs ys : List ℕ} → Rising p xs → Rising p ys → xs ≡ ys
-rising-one {p} {xs} {ys} r s = r .so ∙ tops ∙ sym (s .so)
-  where
-    tops : those p (suc (r .top)) ≡ those p (suc (s .top))
-    tops = by-cases (decLt (r .top) (s .top))
-        (λ (h : r .top < s .top). sym (flat p (suc (s .top)) (r .top) (omega arith) (λ j a b. r .end j a)))
-        (λ (h : ¬ (r .top < s .top)). flat p (suc (r .top)) (s .top) (omega (arith, h)) (λ j a b. s .end j a))
-
--- ---- each once
-occurs-those : (p : ℕ → Bool) (k n : ℕ) → occurs k (those p n) ≡ one-if (ltb k n && p k)
-occurs-those p k zero = ap (λ (b : Bool). one-if (b && p k)) (sym (le-ltb k 0 zero-le))
-occurs-those p k (suc n) = occurs-append k (those p n) (cond (p n) (n ∷ []) []) ∙ by-cases (ℕ-discrete k n) (here (occurs-those p k n)) (other (occurs-those p k n))
-  where
-    last : (b : Bool) → occurs k (cond b (n ∷ []) []) ≡ cond b (one-if (eqb n k)) 0
-    last true = let e : one-if (eqb n k) + 0 ≡ one-if (eqb n k) = omega arith in e
-    last false = refl
-
-    here : occurs k (those p n) ≡ one-if (ltb k n && p k) → k ≡ n → occurs k (those p n) + occurs k (cond (p n) (n ∷ []) []) ≡ one-if (ltb k (suc n) && p k)
-    here r q =
-        ap₂ (λ (a b : ℕ). a + b) (r ∙ ap (λ (b : Bool). one-if (b && p k)) (le-ltb k n (omega arith))) (last (p n) ∙ ap (λ (b : Bool). cond (p n) (one-if b) 0) (eq-eqb n k (sym q)))
-        ∙ ones (p n) ∙ ap (λ (i : ℕ). one-if (p i)) (sym q) ∙ ap (λ (b : Bool). one-if (b && p k)) (sym (lt-ltb k (suc n) (omega arith)))
-      where
-        ones : (b : Bool) → 0 + cond b 1 0 ≡ one-if b
-        ones true = refl
-        ones false = refl
-
-    other : occurs k (those p n) ≡ one-if (ltb k n && p k) → ¬ (k ≡ n) → occurs k (those p n) + occurs k (cond (p n) (n ∷ []) []) ≡ one-if (ltb k (suc n) && p k)
-    other r h =
-        ap₂ (λ (a b : ℕ). a + b) r (last (p n) ∙ ap (λ (b : Bool). cond (p n) (one-if b) 0) (ne-eqb n k (λ (z : n ≡ k). absurd (h (sym z)))))
-        ∙ nil (p n) (one-if (ltb k n && p k)) ∙ ap (λ (b : Bool). one-if (b && p k)) same
-      where
-        nil : (b : Bool) (a : ℕ) → a + cond b 0 0 ≡ a
-        nil true a = let e : a + 0 ≡ a = omega arith in e
-        nil false a = let e : a + 0 ≡ a = omega arith in e
-
-        same : ltb k n ≡ ltb k (suc n)
-        same = by-cases (decLt k n) (λ (l : k < n). lt-ltb k n l ∙ sym (lt-ltb k (suc n) (omega arith))) (λ (l : ¬ (k < n)). le-ltb k n (omega (arith, l)) ∙ sym (le-ltb k (suc n) (omega (arith, l, h))))
-
-pub rising-once : {p : ℕ → Bool} {xs : List ℕ} → Rising p xs → (k : ℕ) → occurs k xs ≡ one-if (p k)
-rising-once {p} {xs} r k = ap (occurs k) (r .so) ∙ occurs-those p k (suc (r .top)) ∙ by-cases (decLt k (suc (r .top))) (λ (h : k < suc (r .top)). ap (λ (b : Bool). one-if (b && p k)) (lt-ltb k (suc (r .top)) h)) (λ (h : ¬ (k < suc (r .top))). beyond h)
-  where
-    beyond : ¬ (k < suc (r .top)) → one-if (ltb k (suc (r .top)) && p k) ≡ one-if (p k)
-    beyond h = ap₂ (λ (b d : Bool). one-if (b && d)) (le-ltb k (suc (r .top)) (omega (arith, h))) (r .end k (omega (arith, h))) ∙ ap one-if (sym (r .end k (omega (arith, h))))
+rising-one {p} {xs} {ys} r s = r .so ∙ those-same p (r .top) (s .top) (r .end) (s .end) ∙ sym (s .so)
 
 -- ---- found so far: those up to k, of which there are n; x is the next
 pub record FoundSoFar (p : ℕ → Bool) (n k x : ℕ) : Type 0 where

@@ -4,11 +4,11 @@ use mathlib.Core.Path.{_≡_}
 use mathlib.Core.List.{List, [], _∷_}
 use lib.ListN.{length, take}
 use lib.Seq.{sets}
-use Rattle.base_laws.specs.Below.{selected, occurs, one-if}
+use Rattle.base_laws.specs.Below.{selected}
 use Rattle.theory_protocol.specs.Model.{Model}
 use Rattle.theory_protocol.specs.Plan.{CardRow, done, opened, safe, unsafe, fixed, written, Check, Plan, accepted, refused}
 use Rattle.theory_protocol.specs.Plan as plan
-use Rattle.theory_protocol.specs.Calls.{lines, isLost}
+use Rattle.theory_protocol.specs.Calls.{lines}
 use Rattle.cabinet_layout.specs.Shape.{limits16, at, listOf, presentOf}
 use Rattle.cabinet_recovery.specs.declared.FixReply.{FixReply}
 use Rattle.cabinet_recovery.specs.declared.FixReply.the-variants.{Fixed, NotFixed}
@@ -48,15 +48,13 @@ abbrev pub countTold : FixReply → ℕ
 countTold (Fixed k) = k
 countTold (NotFixed r) = 0
 
--- for some list with each lost change once, the answer is that of the plan
-pub record FixResult (m : Model) (p : List ℕ → Plan) (n : ℕ) (stored line before after : List ℕ) (reply : FixReply) : Type 0 where
-  pub lost : List ℕ
-  pub once : (k : ℕ) → occurs k lost ≡ one-if (isLost limits16 m k)
-  pub answer : fixReplyOf n stored line after reply ≡ p lost .reply
+-- the answer is that of the plan, and so is each place of the lent list
+pub record FixResult (p : Plan) (n : ℕ) (stored line before after : List ℕ) (reply : FixReply) : Type 0 where
+  pub answer : fixReplyOf n stored line after reply ≡ p .reply
   pub inside : countTold reply ≤ length after
-  pub list : after ≡ listAfter (p lost .reply) before
+  pub list : after ≡ listAfter (p .reply) before
 
 -- the same, with the lines that are worked out
-pub record FixWorked (m : Model) (p : List ℕ → Plan) (n : ℕ) (stored line before after : List ℕ) (reply : FixReply) : Type 0 where
-  pub told : FixResult m p n stored line before after reply
-  pub lines-are : line ≡ linesAfter (p (told .lost) .reply) m
+pub record FixWorked (m : Model) (p : Plan) (n : ℕ) (stored line before after : List ℕ) (reply : FixReply) : Type 0 where
+  pub told : FixResult p n stored line before after reply
+  pub lines-are : line ≡ linesAfter (p .reply) m

@@ -103,6 +103,29 @@ fn lists() {
     fix(c, 16, 0);
 }
 
+// Two changes, decided in the order 2, 1, and both lost: a place too few, just as many, and one more, which keeps what it held.
+fn rising() {
+    let a = Cabinet::fresh(2);
+    let c = run(
+        a.cabinet,
+        b"open 0 1\nopen 0 2\nvote 2 1 1\nvote 1 0 1\ntake 2 1\ntake 1 0\nlose 3\n",
+    );
+    fix(c, 2, 1);
+    fix(c, 2, 2);
+    fix(c, 2, 3);
+}
+
+// What a loss ended, as no list leaves it: falling, one twice, one of a change with a frame, the greatest number. Each is listed
+// once, rising.
+fn ended() {
+    let a = worked().lose(2);
+    let mut c = a.cabinet;
+    let mut core = c.core;
+    core.ended = [9, 4, 9, 2, 0, 1, 0, Limits::GREATEST_NUMBER];
+    c.core = core;
+    run(c, b"fix 2 5\nfix 2 6\n");
+}
+
 pub fn say_written(w: Written) {
     match w {
         Written::Length(n) => {
@@ -152,5 +175,7 @@ fn buffers() {
 
 pub fn check() {
     lists();
+    rising();
+    ended();
     buffers();
 }

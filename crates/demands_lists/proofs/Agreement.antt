@@ -1,6 +1,6 @@
 -- What safe answers and what a fix then lists agree, of the 16-card cabinet. Assumes nothing.
 use Prim.Native.Nat.{ℕ}
-use mathlib.Core.Path.{_≡_, refl, sym, _∙_, ap, subst}
+use mathlib.Core.Path.{_≡_, refl, sym, _∙_, ap}
 use mathlib.Core.List.{[]}
 use lib.ListN.{length}
 use Rattle.base_bits.specs.Member.{member}
@@ -9,7 +9,6 @@ use Rattle.theory_protocol.specs.Model.{Phase, Model, up, down, rolling}
 use Rattle.theory_protocol.specs.Edit.{fall, halt, edited, editedAll}
 use Rattle.theory_protocol.specs.Plan.{Plan, done, afterPlan}
 use Rattle.theory_protocol.specs.Calls.{safeChecks, safePlan, loseChecks, losePlan, lossEdits, fixPlan}
-use Rattle.theory_protocol.specs.Run.{fixCall, Proper}
 use Rattle.theory_protocol.proofs.Steps.{checked-case}
 use Rattle.theory_protocol.proofs.Agreement.{safe-agrees-with-fix}
 use Rattle.cabinet_layout.specs.Shape.{limits16}
@@ -46,9 +45,8 @@ safe-agrees-with-fix-16 s z k a t lent₁ x cards b u lent₂ y records list row
     ap view (y .0 .cabinet) ∙ ap (λ (e : Cabinet). view (applyAll (losePlan limits16 (view e) (member cards) .edits) e)) same ∙ lose-shows s z (member cards) in
     safe-agrees-with-fix limits16 (view s) k a (sym (x .0 .answer)) (member cards) b
     (ap (λ (e : Cabinet). losePlan limits16 (view e) (member cards) .reply) (sym same) ∙ sym (y .0 .answer))
-    (length records) (length list) (record { lost = c .told .lost })
-    (subst (λ (m : Model). Proper limits16 m (fixCall (length records) (length list)) (record { lost = c .told .lost })) shown (c .told .once)) rows numbers
-    (ap (λ (m : Model). fixPlan limits16 m (length records) (length list) (c .told .lost) .reply) (sym shown) ∙ sym (w .answer ∙ c .told .answer))
+    (length records) (length list) rows numbers
+    (ap (λ (m : Model). fixPlan limits16 m (length records) (length list) .reply) (sym shown) ∙ sym (w .answer ∙ c .told .answer))
 
 pub agrees-in-lists-16 : AgreesInLists16
 agrees-in-lists-16 n cs s l = safe-agrees-with-fix-16 s (joined l .sized)

@@ -2,7 +2,6 @@
 use Prim.Native.Nat.{ℕ, suc, _+_, _-_, _≤_, _<_}
 use mathlib.Core.Path.{_≡_, refl, _∙_, ap}
 use mathlib.Core.Bool.{Bool, true, false, not, _&&_, cond}
-use mathlib.Core.List.{List}
 use native.Mathlib.Nat.{le-refl}
 use native.Mathlib.Omega.{arith}
 use lib.Dec.{eqb, ltb}
@@ -156,8 +155,8 @@ module _ (s : Cabinet) (z : Sized s) (w : Narrow (view s)) where
       checked-case PlanFits (loseChecks limits16 m cards) _ _ (λ r. tt)
       (λ ps. (tt, cond-case (EditsFit (apply (edit.fall cards) s)) (isUp (m .phase)) (λ e. (tt, tt)) (λ e. tt)))
 
-  pub fix-fits : (a b : ℕ) (lost : List ℕ) → PlanFits (fixPlan limits16 m a b lost)
-  fix-fits a b lost = checked-case PlanFits (fixChecks limits16 m a b lost) _ _ (λ r. tt) (λ ps. (lines-beyond s z, tt))
+  pub fix-fits : (a b : ℕ) → PlanFits (fixPlan limits16 m a b)
+  fix-fits a b = checked-case PlanFits (fixChecks limits16 m a b) _ _ (λ r. tt) (λ ps. (lines-beyond s z, tt))
 
   roll-fits : (c : ℕ) → PlanFits (rollPlan limits16 m c)
   roll-fits c =

@@ -8,7 +8,6 @@ use lib.ListN.{length, take, drop}
 use lib.Seq.{sets, sets-eq, length-sets, take-at}
 use borrow.Author.Tests.{lt-ltb, ltb-false}
 use Rattle.base_refusal.specs.declared.Refusal.{Refusal}
-use Rattle.base_laws.specs.Below.{occurs, one-if}
 use Rattle.base_laws.proofs.Logic.{clash, fails, or-right}
 use Rattle.sheet_lines.specs.Format.{formats}
 use Rattle.sheet_pages.specs.Pages.{pageBytes}
@@ -16,12 +15,9 @@ use Rattle.theory_codec.specs.Sheets.{sheetOf, codec}
 use Rattle.theory_protocol.specs.Edit.{Edit}
 use Rattle.theory_protocol.specs.Edit as edit
 use Rattle.theory_protocol.specs.Plan.{CardRow, fixed, written, accepted, refused, Plan, Passed}
-use Rattle.theory_protocol.specs.Calls.{lines, isLost, cardRows, fixChecks, fixPlan}
+use Rattle.theory_protocol.specs.Calls.{lines, cardRows, lostNumbers, fixChecks, fixPlan}
 use Rattle.theory_protocol.specs.Codec.{sheetChecks, sheetPlan}
-use Rattle.theory_protocol.specs.Run as run
-use Rattle.theory_protocol.specs.Choices.{chosen}
 use Rattle.theory_protocol.proofs.Steps.{checked-case}
-use Rattle.theory_protocol.proofs.Choices.{choosable}
 use Rattle.cabinet_layout.specs.Shape.{limits16, at, listOf, presentOf}
 use Rattle.cabinet_layout.proofs.Held.{at-list}
 use Rattle.cabinet_layout.proofs.Limits.{width16}
@@ -52,9 +48,12 @@ pub record ReachedBy (s : Cabinet) (asked : Asked) (p : Plan) : Type 0 where
   pub next-is : reached .next ≡ applyAll (p .edits) s
 
 -- ---- fix
-module _ (s : Cabinet) (records : List CardRecord) (list lost : List ℕ) (once : (k : ℕ) → occurs k lost ≡ one-if (isLost limits16 (view s) k)) where
+module _ (s : Cabinet) (records : List CardRecord) (list : List ℕ) where
+  abbrev lost : List ℕ
+  lost = lostNumbers limits16 (view s)
+
   abbrev plan : Plan
-  plan = fixPlan limits16 (view s) (length records) (length list) lost
+  plan = fixPlan limits16 (view s) (length records) (length list)
 
   abbrev fixes : List Edit
   fixes = edit.fix (lines limits16 (view s)) ∷ []
@@ -80,8 +79,6 @@ module _ (s : Cabinet) (records : List CardRecord) (list lost : List ℕ) (once 
                           record {
                             told =
                                 record {
-                                  lost = lost;
-                                  once = once;
                                   answer = sym (ap (λ (p : Plan). p .reply) e);
                                   inside = zero-le;
                                   list = sym (ap (λ (p : Plan). listAfter (p .reply) list) e);
@@ -97,7 +94,7 @@ module _ (s : Cabinet) (records : List CardRecord) (list lost : List ℕ) (once 
         next-is = sym (ap (λ (p : Plan). applyAll (p .edits) s) e);
       }
 
-  fix-done : Passed (fixChecks limits16 (view s) (length records) (length list) lost) → plan ≡ record { reply = accepted (fixed (cardRows limits16 (view s)) lost); edits = fixes } → ReachedBy s (fix records list) plan
+  fix-done : Passed (fixChecks limits16 (view s) (length records) (length list)) → plan ≡ record { reply = accepted (fixed (cardRows limits16 (view s)) lost); edits = fixes } → ReachedBy s (fix records list) plan
   fix-done ps e =
       record {
         reached = record {
@@ -113,8 +110,6 @@ module _ (s : Cabinet) (records : List CardRecord) (list lost : List ℕ) (once 
                           record {
                             told =
                                 record {
-                                  lost = lost;
-                                  once = once;
                                   answer = reply-same;
                                   inside = roomy lost list short;
                                   list = sym (ap (λ (p : Plan). listAfter (p .reply) list) e);
@@ -140,7 +135,7 @@ module _ (s : Cabinet) (records : List CardRecord) (list lost : List ℕ) (once 
 
   pub fix-by : ReachedBy s (fix records list) plan
   fix-by =
-      checked-case (λ (p : Plan). plan ≡ p → ReachedBy s (fix records list) plan) (fixChecks limits16 (view s) (length records) (length list) lost) (fixed (cardRows limits16 (view s)) lost) fixes fix-refused fix-done refl
+      checked-case (λ (p : Plan). plan ≡ p → ReachedBy s (fix records list) plan) (fixChecks limits16 (view s) (length records) (length list)) (fixed (cardRows limits16 (view s)) lost) fixes fix-refused fix-done refl
 
 -- ---- a card's sheet
 module _ (s : Cabinet) (c : ℕ) (buffer : List ℕ) where
@@ -211,6 +206,6 @@ pub some : (s : Cabinet) (asked : Asked) → Reached s asked
 some s (opening reads writes) = record { reply = _; next = _; after = nothingLent; answered = (record { answer = refl; cabinet = refl }, refl) }
 some s (plain q) = record { reply = _; next = _; after = nothingLent; answered = (record { answer = refl; cabinet = refl }, refl) }
 some s (lose cards) = record { reply = _; next = _; after = nothingLent; answered = (record { answer = refl; cabinet = refl }, refl) }
-some s (fix records list) = fix-by s records list (chosen limits16 (view s) .lost) (choosable limits16 (view s) (run.fixCall 0 0)) .reached
+some s (fix records list) = fix-by s records list .reached
 some s (sheet c buffer) = sheet-by s c buffer .reached
 some s restart = record { reply = _; next = _; after = nothingLent; answered = (record { answer = refl; cabinet = refl }, refl) }

@@ -27,7 +27,7 @@ use Rattle.theory_protocol.specs.Valid.{valid}
 use Rattle.theory_protocol.specs.Codec.{sheetChecks, sheetPlan, verdictChecks}
 use Rattle.theory_codec.specs.Sheets.{joinedSheets, restartReply, restartedFrom}
 use Rattle.cabinet_restart.proofs.Ring.{storedIn, isIn, vectorIn, ringModel}
-use Rattle.theory_protocol.specs.Run.{Call, Choice, Proper, planOf, afterCall, Calls, none, further, Run, afterRestart}
+use Rattle.theory_protocol.specs.Run.{Call, planOf, afterCall, Calls, none, further, Run, afterRestart}
 use Rattle.theory_protocol.specs.Run as run
 use Rattle.theory_protocol.specs.Demands as model
 use Rattle.theory_codec.specs.Claims.{SheetLimits}
@@ -52,18 +52,15 @@ use Rattle.demands_lists.proofs.Lengths.{by-card, by-slot, set-small}
 use Rattle.demands_lists.proofs.Laws.{EditsFit, Shows, edits-show}
 use Rattle.demands_lists.proofs.Plans.{open-fits, plain-fits, lose-fits, fix-fits}
 use Rattle.demands_lists.proofs.Fresh.{fresh-shows}
-use Rattle.demands_lists.proofs.Refusing.{no-choice}
 
 limits-fit : SheetLimits limits16
 limits-fit = record { width = width16; inHand = inHand48; greatestState = greatest60000; greatestNumber = greatestNumber32 }
 
 -- ---- one call
--- what the struct's call is in the model: for some choice, its reply and the cabinet after it
+-- what the struct's call is in the model: its reply and the cabinet after it
 pub record Step (s : Cabinet) (call : Call) (reply : Reply) (t : Cabinet) : Type 0 where
-  pub choice : Choice
-  pub proper : Proper limits16 (view s) call choice
-  pub replied : reply ≡ planOf codec limits16 (view s) call choice .reply
-  pub after : Shows (afterCall codec limits16 (view s) call choice) t
+  pub replied : reply ≡ planOf codec limits16 (view s) call .reply
+  pub after : Shows (afterCall codec limits16 (view s) call) t
 
 shown : (s : Cabinet) → Sized s → Narrow (view s) → Shows (view s) s
 shown s z w = record { same = refl; sized = z; narrow = w }
@@ -73,15 +70,13 @@ planned : (s : Cabinet) → Sized s → Narrow (view s) → (p : Plan) (t : Cabi
 planned s z w p t f e = subst (Shows (afterPlan limits16 p (view s))) (sym e) (edits-show (p .edits) (view s) s (shown s z w) f)
 
 -- a call that is carried out by its plan
-carried-step : (s : Cabinet) → Sized s → Narrow (view s) → (call : Call) (reply : Reply) (t : Cabinet) → Proper limits16 (view s) call no-choice
-    → (afterCall codec limits16 (view s) call no-choice ≡ afterPlan limits16 (planOf codec limits16 (view s) call no-choice) (view s))
-    → EditsFit s (planOf codec limits16 (view s) call no-choice .edits) → Carried s (planOf codec limits16 (view s) call no-choice) reply t → Step s call reply t
-carried-step s z w call reply t p e f d =
+carried-step : (s : Cabinet) → Sized s → Narrow (view s) → (call : Call) (reply : Reply) (t : Cabinet)
+    → (afterCall codec limits16 (view s) call ≡ afterPlan limits16 (planOf codec limits16 (view s) call) (view s))
+    → EditsFit s (planOf codec limits16 (view s) call .edits) → Carried s (planOf codec limits16 (view s) call) reply t → Step s call reply t
+carried-step s z w call reply t e f d =
     record {
-      choice = no-choice;
-      proper = p;
       replied = d .answer;
-      after = subst (λ (m : Model). Shows m t) (sym e) (planned s z w (planOf codec limits16 (view s) call no-choice) t f (d .cabinet));
+      after = subst (λ (m : Model). Shows m t) (sym e) (planned s z w (planOf codec limits16 (view s) call) t f (d .cabinet));
     }
 
 sheet-fits : (s : Cabinet) (c places : ℕ) → EditsFit s (sheetPlan codec limits16 (view s) c places .edits)
@@ -131,28 +126,22 @@ restarted-shows true (Refused r) bytes s t z w v e = subst (Shows (view s)) (sym
 restarted-shows false v bytes s t z w q e = subst (Shows (view s)) (sym e) (shown s z w)
 
 pub step : (s : Cabinet) → Sized s → Narrow (view s) → (asked : Asked) → Typed asked → (reply : Reply) (t : Cabinet) (after : Lent) → Answered s asked reply t after → Step s (callOf asked) reply t
-step s z w (opening reads writes) y reply t after d = carried-step s z w (run.openCall (member reads) (member writes)) reply t tt refl (open-fits s z w reads writes (y .0) (y .1)) (d .0)
-step s z w (plain q) y reply t after d = carried-step s z w (run.plain q) reply t tt refl (plain-fits s z w q) (d .0)
-step s z w (lose cards) y reply t after d = carried-step s z w (run.loseCall (member cards)) reply t tt refl (lose-fits s z w (member cards)) (d .0)
+step s z w (opening reads writes) y reply t after d = carried-step s z w (run.openCall (member reads) (member writes)) reply t refl (open-fits s z w reads writes (y .0) (y .1)) (d .0)
+step s z w (plain q) y reply t after d = carried-step s z w (run.plain q) reply t refl (plain-fits s z w q) (d .0)
+step s z w (lose cards) y reply t after d = carried-step s z w (run.loseCall (member cards)) reply t refl (lose-fits s z w (member cards)) (d .0)
 step s z w (fix records list) y reply t after d =
     let c : FixCarried s (length records) list (after .numbers) (d .told) t = d .both .carried in
     record {
-      choice = record { lost = c .told .lost };
-      proper = c .told .once;
       replied = d .answer ∙ c .told .answer;
-      after = planned s z w (fixPlan limits16 (view s) (length records) (length list) (c .told .lost)) t (fix-fits s z w (length records) (length list) (c .told .lost)) (c .cabinet);
+      after = planned s z w (fixPlan limits16 (view s) (length records) (length list)) t (fix-fits s z w (length records) (length list)) (c .cabinet);
     }
 step s z w (sheet c buffer) y reply t after d =
     record {
-      choice = no-choice;
-      proper = tt;
       replied = d .answer ∙ d .carried .told .answer;
       after = planned s z w (sheetPlan codec limits16 (view s) c (length buffer)) t (sheet-fits s c (length buffer)) (d .carried .cabinet);
     }
 step s z w restart y reply t after d =
     record {
-      choice = no-choice;
-      proper = tt;
       replied = d .0 .answer;
       after = restarted-shows (valid limits16 (view s)) (restartReply (ownSheets s)) (ownSheets s) s t z w refl (d .0 .cabinet);
     }
@@ -186,7 +175,7 @@ further-joined n cs s j call reply t e =
     record {
       few = j .few;
       some = j .some;
-      made = subst₂ (λ (z : Reply) (m : Model). Run codec limits16 (λ c. ltb c n) (further cs call z) m) (sym (e .replied)) (sym (e .after .same)) (run.next (j .made) call (e .choice) (e .proper));
+      made = subst₂ (λ (z : Reply) (m : Model). Run codec limits16 (λ c. ltb c n) (further cs call z) m) (sym (e .replied)) (sym (e .after .same)) (run.next (j .made) call);
       sized = e .after .sized;
       narrow = subst Narrow (sym (e .after .same)) (e .after .narrow);
     }
@@ -200,7 +189,7 @@ joined {n} (next {cs} {s} l asked y reply t after d) =
 -- what holds of the cabinet that a list leads to
 last-right : (n : ℕ) {cs : Calls} {m : Model} (r : Run codec limits16 (λ c. ltb c n) cs m) → model.Throughout r → CabinetRight codec limits16 (λ c. ltb c n) cs m
 last-right n run.start t = t
-last-right n (run.next r call x p) t = t .2
+last-right n (run.next r call) t = t .2
 
 -- what the restart of the code hands back, from sheets that restart to a line
 restart-gives : (n : ℕ) → n ≤ limits16 .width → (s : Cabinet) (line : Numbers) → model.RestartsTo codec limits16 (λ c. ltb c n) (view s) line
@@ -230,7 +219,7 @@ cabinet-right n {cs} {s} j =
 call-right : (n : ℕ) (cs : Calls) (s : Cabinet) → Joined n cs s → (call : Call) (reply : Reply) (t : Cabinet) → Step s call reply t
     → (a : Answer) → reply ≡ accepted a → CallRight limits16 (λ c. ltb c n) cs call a (view s) (view t)
 call-right n cs s j call reply t e a q =
-    let more : Run codec limits16 (λ c. ltb c n) (further cs call (planOf codec limits16 (view s) call (e .choice) .reply)) (afterCall codec limits16 (view s) call (e .choice)) = run.next (j .made) call (e .choice) (e .proper) in
+    let more : Run codec limits16 (λ c. ltb c n) (further cs call (planOf codec limits16 (view s) call .reply)) (afterCall codec limits16 (view s) call) = run.next (j .made) call in
     let right : model.Throughout more = demands limits16 limits-fit n (j .some) (j .few) _ _ more in
     subst (λ (m : Model). CallRight limits16 (λ c. ltb c n) cs call a (view s) m) (sym (e .after .same)) (right .1 a (sym (e .replied) ∙ q))
 

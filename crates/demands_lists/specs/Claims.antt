@@ -3,6 +3,7 @@ use Prim.Native.Nat.{ℕ, _<_}
 use mathlib.Core.Path.{_≡_}
 use mathlib.Core.List.{List}
 use lib.Dec.{ltb}
+use lib.Seq.{sets}
 use Rattle.base_refusal.specs.declared.Refusal.{Refusal}
 use Rattle.base_refusal.specs.declared.Refusal.the-variants.{Barred}
 use Rattle.base_refusal.specs.Number.{Listed, numberOf}
@@ -12,8 +13,8 @@ use Rattle.theory_history.specs.Change.{CardSet, Numbers}
 use Rattle.theory_codec.specs.Sheets.{joinedSheets, codec}
 use Rattle.theory_protocol.specs.Plan.{CardRow, Answer, done, fixed, Reply, accepted, refused, Check, Passed, Due}
 use Rattle.theory_protocol.specs.Journal.{fixing}
-use Rattle.theory_protocol.specs.Run.{safeCall, Choice, Proper, checksOf, Calls, none, further, journal}
-use Rattle.theory_protocol.specs.Demands.{NamedRight, CallRight, CabinetRight}
+use Rattle.theory_protocol.specs.Run.{safeCall, checksOf, Calls, none, further, journal}
+use Rattle.theory_protocol.specs.Demands.{NamedRight, ListedRight, CallRight, CabinetRight}
 use Rattle.theory_protocol.specs.Agreement.{Agrees}
 use Rattle.cabinet_layout.specs.Shape.{limits16}
 use Rattle.cabinet.specs.declared.Cabinet.{Cabinet}
@@ -42,12 +43,21 @@ Names s (fix records list) reply = Unit {0}
 Names s (sheet c buffer) reply = Unit {0}
 Names s restart reply = Unit {0}
 
--- the table is the call's, for some choice of what document 01 leaves to the program
+-- and its wish 3, "The list of lost changes comes in rising change number.": what holds of the numbers that a fix answers, and of the list lent: they stand at its front, and the other places keep what they held
+abbrev pub ListsLost : Cabinet → Asked → Reply → Lent → Type 0
+ListsLost s (opening reads writes) reply after = Unit {0}
+ListsLost s (plain q) reply after = Unit {0}
+ListsLost s (lose cards) reply after = Unit {0}
+ListsLost s (fix records list) reply after =
+    (rows : List CardRow) (numbers : List ℕ) → reply ≡ accepted (fixed rows numbers) → ListedRight limits16 (view s) numbers × (after .numbers ≡ sets list 0 numbers)
+ListsLost s (sheet c buffer) reply after = Unit {0}
+ListsLost s restart reply after = Unit {0}
+
+-- the table is the call's
 pub record Gets (s : Cabinet) (asked : Asked) (reply : Reply) (t : Cabinet) (after : Lent) : Type 0 where
-  pub choice : Choice
-  pub proper : Proper limits16 (view s) (callOf asked) choice
-  pub outcome : Outcome (checksOf codec limits16 (view s) (callOf asked) choice) s t (lent asked) after reply
+  pub outcome : Outcome (checksOf codec limits16 (view s) (callOf asked)) s t (lent asked) after reply
   pub names : Names s asked reply
+  pub lists : ListsLost s asked reply after
 
 -- some answer of a call
 pub record Reached (s : Cabinet) (asked : Asked) : Type 0 where
@@ -59,7 +69,10 @@ pub record Reached (s : Cabinet) (asked : Asked) : Type 0 where
 pub record CallsAnswer : Type 0 where
   -- there is one
   pub some : (s : Cabinet) (asked : Asked) → Reached s asked
-  -- and every one is as said
+  -- no other: document 02's wish 3, "Their order isn't left to the program either.", and nothing else is
+  pub one : (s : Cabinet) (asked : Asked) (reply reply′ : Reply) (t t′ : Cabinet) (after after′ : Lent) → Answered s asked reply t after → Answered s asked reply′ t′ after′
+      → (reply ≡ reply′) × (t ≡ t′) × (after ≡ after′)
+  -- and it is as said
   pub each : (s : Cabinet) (asked : Asked) (reply : Reply) (t : Cabinet) (after : Lent) → Answered s asked reply t after → Gets s asked reply t after
 
 -- ---- Demands 2 and 3

@@ -14,7 +14,7 @@ use Rattle.theory_protocol.specs.Model.{isDown}
 use Rattle.theory_protocol.specs.Valid.{valid}
 use Rattle.theory_protocol.specs.Edit.{Edit, fix}
 use Rattle.theory_protocol.specs.Plan.{CardRow, fixed, accepted, _⇒_, checked}
-use Rattle.theory_protocol.specs.Calls.{lines, cardRows}
+use Rattle.theory_protocol.specs.Calls.{lines, cardRows, lostNumbers}
 use Rattle.theory_protocol.specs.Room.{mostLost}
 use Rattle.theory_protocol.proofs.Steps.{not-not}
 use Rattle.theory_protocol.proofs.Room as model
@@ -29,7 +29,7 @@ most-776 = refl
 
 pub never-short : NeverShort
 never-short s places before after reply next carried a b e =
-    model.never-short limits16 (view s) places (length before) (omega (arith, a, width16)) (omega (arith, b, most-776)) (carried .told .lost) (carried .told .once)
+    model.never-short limits16 (view s) places (length before) (omega (arith, a, width16)) (omega (arith, b, most-776))
     (sym (carried .told .answer) ∙ ap (fixReplyOf (s .core .head .cards) (next .core .stored) (next .core .line) after) e)
 
 -- a fix that answers passed its checks, and answers the list of its plan
@@ -43,9 +43,9 @@ answered false false false false rows told-rows lost told es q = (refl, cc)
 pub few-lost : FewLost
 few-lost s places before after (NotFixed r) next carried = zero-le
 few-lost s places before after (Fixed k) next carried =
-    omega (arith, model.few-lost limits16 (view s) (not-not (valid limits16 (view s)) (w .0)) (carried .told .lost) (carried .told .once), ap length (w .1), length-take-le k after (carried .told .inside), most-776)
+    omega (arith, model.few-lost limits16 (view s) (not-not (valid limits16 (view s)) (w .0)), ap length (w .1), length-take-le k after (carried .told .inside), most-776)
   where
-    w : (not (valid limits16 (view s)) ≡ false) × (take k after ≡ carried .told .lost)
+    w : (not (valid limits16 (view s)) ≡ false) × (take k after ≡ lostNumbers limits16 (view s))
     w =
-        answered (not (valid limits16 (view s))) (not (isDown (view s .phase))) (leb (limits16 .greatestNumber) (view s .session)) (ltb places (length (cardRows limits16 (view s))) || ltb (length before) (length (carried .told .lost)))
-        (cardRows limits16 (view s)) (rowsOf (s .core .head .cards) (next .core .stored) (next .core .line)) (carried .told .lost) (take k after) (fix (lines limits16 (view s)) ∷ []) (carried .told .answer)
+        answered (not (valid limits16 (view s))) (not (isDown (view s .phase))) (leb (limits16 .greatestNumber) (view s .session)) (ltb places (length (cardRows limits16 (view s))) || ltb (length before) (length (lostNumbers limits16 (view s))))
+        (cardRows limits16 (view s)) (rowsOf (s .core .head .cards) (next .core .stored) (next .core .line)) (lostNumbers limits16 (view s)) (take k after) (fix (lines limits16 (view s)) ∷ []) (carried .told .answer)

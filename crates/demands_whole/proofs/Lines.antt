@@ -18,9 +18,6 @@ use Rattle.base_bits.specs.Member.{member}
 use Rattle.theory_protocol.specs.Plan.{done, Plan, accepted, refused, _⇒_}
 use Rattle.theory_protocol.specs.Calls.{freshRefused, openPlan, votePlan, takePlan, withdrawPlan, storePlan, trimPlan, safePlan, losePlan, fixPlan, rollPlan}
 use Rattle.theory_protocol.specs.Codec.{sheetPlan}
-use Rattle.theory_protocol.specs.Choices.{chosen}
-use Rattle.theory_protocol.specs.Run as run
-use Rattle.theory_protocol.proofs.Choices.{choosable}
 use Rattle.theory_protocol.proofs.Claims.{not-both}
 use Rattle.theory_codec.specs.Sheets.{restartReply, codec}
 use Rattle.sheet_readout.specs.Joint.{readoutOf}
@@ -49,7 +46,9 @@ use Rattle.list_results.specs.Result.{Planned, readsBeyond, writesBeyond, openW
 use Rattle.list_results.specs.Step.{freshReply, afterFresh, Asked as AskedOf, Steps}
 use Rattle.list_results.specs.Going.{nothingYet}
 use Rattle.list_texts.specs.Executed.{Executed}
-use Rattle.list_texts.specs.Steps.{Ran, noLine, oneMore}
+use Rattle.list_texts.specs.Steps.{Ran, noLine, oneMore, Replayed}
+use Rattle.list_texts.proofs.Same.{Alike, steps-alike}
+use Rattle.list_texts.proofs.Once.{same-text}
 use Rattle.demands_lists.specs.Claims.{Said, answers, refuses}
 use Rattle.demands_lists.proofs.Refusing.{every}
 use Rattle.demands_whole.specs.Texts.{unreadable}
@@ -80,10 +79,7 @@ tells c (Safe change) = by-plan c (safePlan limits16 (view c) change)
 tells c (Lose cards) =
     by-cases (decLt 65535 cards) (λ b. (c, refusedText NoSuchCard, setBeyond b (record { cabinet = refl; answer = refl })))
     (λ b. let d = by-plan c (losePlan limits16 (view c) (member cards)) in (d .0, d .1, lostWithin (omega (arith, b)) (d .2)))
-tells c (Fix records numbers) =
-    let lost : List ℕ = chosen limits16 (view c) .lost in
-    let d = by-plan c (fixPlan limits16 (view c) (min records 16) (min numbers 776) lost) in
-    (d .0, d .1, record { lost = lost; once = choosable limits16 (view c) (run.fixCall 0 0); planned = d .2 })
+tells c (Fix records numbers) = by-plan c (fixPlan limits16 (view c) (min records 16) (min numbers 776))
 tells c (Roll card) = by-plan c (rollPlan limits16 (view c) card)
 tells c (Sheet card bytes) = by-plan c (sheetPlan codec limits16 (view c) card (min bytes 65536))
 tells c Restart = (
@@ -139,8 +135,11 @@ nothing-written b TooShort t e p = p .buffer
 short : (said : Command) (r : Replay) (b : List ℕ) (w : Progress) (after : Replay) (e : List ℕ) → Executed said r b w after TooShort e → (after ≡ r) × (e ≡ b)
 short said r b w after e o = (o .replay, nothing-written b w (o .text) e (o .put))
 
+one-line-one-answer : (said : Command) (r next next′ : Replay) (text text′ : List ℕ) → Steps said r next text → Steps said r next′ text′ → (next ≡ next′) × (text ≡ text′)
+one-line-one-answer said r next next′ text text′ a b = let k : Alike next next′ text text′ = steps-alike said r a b in (k .same, k .text)
+
 pub step-answers : StepAnswers
-step-answers = record { some = some; each = each; short = short }
+step-answers = record { some = some; one = one-line-one-answer; each = each; short = short }
 
 -- ---- a whole list
 module _ (s : List ℕ) where
@@ -176,6 +175,11 @@ module _ (s : List ℕ) where
   ended : Ended
   ended = runs-on (length s - 0) 0 nothingYet [] noLine (le-refl (length s - 0))
 
+  one-text-one-answer : (b : List ℕ) (w w′ : Progress) (e e′ : List ℕ) → Replayed s nothingYet b w e → Replayed s nothingYet b w′ e′ → (w ≡ w′) × (e ≡ e′)
+  one-text-one-answer b w w′ e e′ p q =
+      let same : p .text ≡ q .text = same-text s nothingYet (p .ran) (q .ran) (p .end) (q .end) in
+      (p .put .answer ∙ ap (placeAfter (length b) (Next 0)) same ∙ sym (q .put .answer), p .put .buffer ∙ ap (wholeAfter b (Next 0)) same ∙ sym (q .put .buffer))
+
 pub run-answers : RunAnswers
 run-answers =
     record {
@@ -184,5 +188,6 @@ run-answers =
         wholeAfter b (Next 0) (d .text),
         record { place = d .place; last = d .last; text = d .text; ran = d .ran; end = d .end; put = record { answer = refl; buffer = refl } },
       );
+      one = one-text-one-answer;
       short = λ s b e d. nothing-written b (Next 0) (d .text) e (d .put);
     }

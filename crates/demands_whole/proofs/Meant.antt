@@ -61,8 +61,8 @@ module _ (c : Cabinet) (new : Cabinet) (u : List ℕ) where
       losing (setBeyond b k) = stayed (beyond-lost cards b) (k .cabinet)
       losing (lostWithin b d) = planned (Lose cards) (lose cards) (loses cards b) (omega arith) _ d (record { answer = refl; cabinet = d .cabinet }, refl)
   meant (Fix records numbers) o =
-      reached (Fix records numbers) (fix rows list) (fixes records numbers rows list rows-long list-long) tt (fixPlan limits16 (view c) (length rows) (length list) (o .lost))
-      (subst₂ (λ (a b : ℕ). Planned c (fixPlan limits16 (view c) a b (o .lost)) new u) (sym rows-long) (sym list-long) (o .planned)) (fix-by c rows list (o .lost) (o .once))
+      reached (Fix records numbers) (fix rows list) (fixes records numbers rows list rows-long list-long) tt (fixPlan limits16 (view c) (length rows) (length list))
+      (subst₂ (λ (a b : ℕ). Planned c (fixPlan limits16 (view c) a b) new u) (sym rows-long) (sym list-long) o) (fix-by c rows list)
     where
       rows : List CardRecord
       rows = replicate (min records 16) zero-record

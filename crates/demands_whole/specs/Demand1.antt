@@ -66,15 +66,17 @@ pub data LineGets (said : Command) (r next : Replay) (text : List ℕ) : Type 0 
   none-yet : r .begun ≡ false → next ≡ r → text ≡ noneText → LineGets said r next text
   no-call : NoCall said → next ≡ r → LineGets said r next text
 
--- one line: there is an answer; every one is as said; and where the buffer is too short for it nothing is changed
+-- one line: there is an answer, and no other; it is as said; and where the buffer is too short for it nothing is changed
 pub record StepAnswers : Type 0 where
   pub some : (said : Command) (r : Replay) → (next : Replay) × (text : List ℕ) × Steps said r next text
+  pub one : (said : Command) (r next next′ : Replay) (text text′ : List ℕ) → Steps said r next text → Steps said r next′ text′ → (next ≡ next′) × (text ≡ text′)
   pub each : (said : Command) (r next : Replay) (text : List ℕ) → Steps said r next text → LineGets said r next text
   pub short : (said : Command) (r : Replay) (b : List ℕ) (w : Progress) (after : Replay) (e : List ℕ) → Executed said r b w after TooShort e → (after ≡ r) × (e ≡ b)
 
--- a whole list: there is an answer to every text, and where the buffer is too short for it no byte is changed
+-- a whole list: there is an answer to every text, and no other, byte for byte; and where the buffer is too short for it no byte is changed
 pub record RunAnswers : Type 0 where
   pub some : (s b : List ℕ) → (w : Progress) × (e : List ℕ) × Replayed s nothingYet b w e
+  pub one : (s b : List ℕ) (w w′ : Progress) (e e′ : List ℕ) → Replayed s nothingYet b w e → Replayed s nothingYet b w′ e′ → (w ≡ w′) × (e ≡ e′)
   pub short : (s b e : List ℕ) → Replayed s nothingYet b TooShort e → e ≡ b
 
 pub record Demand1 : Type 0 where

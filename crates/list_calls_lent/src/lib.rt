@@ -2,11 +2,12 @@
 ghost use Prim.Native.Nat.{min};
 ghost use mathlib.Core.Path.{_≡_};
 ghost use lib.ListN.{length};
+ghost use Rattle.theory_protocol.specs.Calls.{fixPlan};
 ghost use Rattle.theory_protocol.specs.Codec.{sheetPlan};
 ghost use Rattle.theory_codec.specs.Sheets.{codec};
 ghost use Rattle.cabinet_layout.specs.Shape.{limits16};
 ghost use Rattle.cabinet.specs.View.{view};
-ghost use Rattle.list_results.specs.Result.{Planned, FixSaid, Written, Continuing};
+ghost use Rattle.list_results.specs.Result.{Planned, Written, Continuing};
 use base_limits::Limits;
 use base_text::Progress;
 use cabinet::Cabinet;
@@ -46,7 +47,7 @@ fn blank_records() -> [CardRecord; Limits::CARDS]
 
 // 9. fix: the list for card records has at most 16 places, that for change numbers at most 776.
 pub fn fix(c: Cabinet, records: u32, numbers: u32, b: &mut [u8], w: Progress) -> Stepped
-    ensures { λ r. ⌜ Written (Continuing (FixSaid c (min records 16) (min numbers 776)) (r .replay)) (now (b .entry)) w (r .written) (now (b .exit)) ⌝ }
+    ensures { λ r. ⌜ Written (Continuing (Planned c (fixPlan limits16 (view c) (min records 16) (min numbers 776))) (r .replay)) (now (b .entry)) w (r .written) (now (b .exit)) ⌝ }
 {
     let core = c.core;
     let head = core.head;

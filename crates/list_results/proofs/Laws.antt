@@ -23,7 +23,7 @@ use Rattle.cabinet_joined.specs.Joined.{FromOwnSheets}
 use Rattle.base_text.specs.Put.{Whole}
 use Rattle.list_answers.specs.Texts.{replyText}
 use Rattle.list_results.specs.declared.Replay.{Replay}
-use Rattle.list_results.specs.Result.{Written, Continuing, Planned, FixSaid, RestartResult}
+use Rattle.list_results.specs.Result.{Written, Continuing, Planned, RestartResult}
 
 module _ {b : List ℕ} {w r : Progress} {e : List ℕ} where
   -- a call that has a plan
@@ -37,19 +37,15 @@ module _ {b : List ℕ} {w r : Progress} {e : List ℕ} where
   -- fix, which was lent so many places at the front of a list: after it they hold what it left there
   pub fixed-by : {c : Cabinet} {records : ℕ} {before after : List ℕ} {q : FixReply} {next : Cabinet} (places numbers : ℕ) (whole : List ℕ)
       → FixCarried c records before after q next → length before ≡ numbers → take places whole ≡ after
-      → Whole b w (replyText (fixReplyOf (c .core .head .cards) (next .core .stored) (next .core .line) (take places whole) q)) r e → Written (FixSaid c records numbers next) b w r e
+      → Whole b w (replyText (fixReplyOf (c .core .head .cards) (next .core .stored) (next .core .line) (take places whole) q)) r e → Written (Planned c (fixPlan limits16 (view c) records numbers) next) b w r e
   fixed-by {c} {records} {before} {after} {q} {next} places numbers whole f size left u =
       record {
         text = replyText (fixReplyOf (c .core .head .cards) (next .core .stored) (next .core .line) (take places whole) q);
         told = record {
-          lost = f .told .lost;
-          once = f .told .once;
-          planned = record {
-            cabinet = f .cabinet ∙ ap (λ (n : ℕ). applyAll (fixPlan limits16 (view c) records n (f .told .lost) .edits) c) size;
-            answer = ap replyText
-                (ap (λ (l : List ℕ). fixReplyOf (c .core .head .cards) (next .core .stored) (next .core .line) l q) left ∙ f .told .answer
-                ∙ ap (λ (n : ℕ). fixPlan limits16 (view c) records n (f .told .lost) .reply) size);
-          };
+          cabinet = f .cabinet ∙ ap (λ (n : ℕ). applyAll (fixPlan limits16 (view c) records n .edits) c) size;
+          answer = ap replyText
+              (ap (λ (l : List ℕ). fixReplyOf (c .core .head .cards) (next .core .stored) (next .core .line) l q) left ∙ f .told .answer
+              ∙ ap (λ (n : ℕ). fixPlan limits16 (view c) records n .reply) size);
         };
         put = u;
       }

@@ -4,12 +4,11 @@ use mathlib.Core.Path.{_≡_}
 use mathlib.Core.Bool.{true}
 use mathlib.Core.List.{List}
 use Rattle.base_limits.specs.Document.{mostCards, longestLost, longestInput}
-use Rattle.base_laws.specs.Below.{occurs, one-if}
 use Rattle.base_bits.specs.Member.{member}
 use Rattle.base_refusal.specs.declared.Refusal.the-variants.{NoSuchCard}
 use Rattle.base_text.specs.declared.Progress.{Progress}
 use Rattle.theory_protocol.specs.Plan.{Plan, Reply}
-use Rattle.theory_protocol.specs.Calls.{openPlan, storePlan, takePlan, votePlan, withdrawPlan, safePlan, trimPlan, rollPlan, losePlan, fixPlan, isLost}
+use Rattle.theory_protocol.specs.Calls.{openPlan, storePlan, takePlan, votePlan, withdrawPlan, safePlan, trimPlan, rollPlan, losePlan, fixPlan}
 use Rattle.theory_protocol.specs.Codec.{sheetPlan}
 use Rattle.theory_codec.specs.Sheets.{codec}
 use Rattle.cabinet_layout.specs.Shape.{limits16}
@@ -57,12 +56,6 @@ pub data LoseResult (c : Cabinet) (cards : ℕ) (next : Cabinet) (text : List �
   setBeyond : 65535 < cards → Kept c (refusedText NoSuchCard) next text → LoseResult c cards next text
   lostWithin : cards ≤ 65535 → Planned c (losePlan limits16 (view c) (member cards)) next text → LoseResult c cards next text
 
--- fix, with so many places for card records and change numbers: for some list with each lost change once, by its plan
-pub record FixSaid (c : Cabinet) (records numbers : ℕ) (next : Cabinet) (text : List ℕ) : Type 0 where
-  pub lost : List ℕ
-  pub once : (k : ℕ) → occurs k lost ≡ one-if (isLost limits16 (view c) k)
-  pub planned : Planned c (fixPlan limits16 (view c) records numbers lost) next text
-
 -- "the sheets of all cards as this cabinet writes them, joined, restart: the result takes the present cabinet's place"
 pub record RestartResult (c next : Cabinet) (text : List ℕ) : Type 0 where
   pub reply : Reply
@@ -82,7 +75,7 @@ Result c Trim next text = Planned c (trimPlan limits16 (view c)) next text
 Result c (Safe change) next text = Planned c (safePlan limits16 (view c) change) next text
 Result c (Lose cards) next text = LoseResult c cards next text
 -- a readable line lends 16 records and 776 numbers at most
-Result c (Fix records numbers) next text = FixSaid c (min records mostCards) (min numbers longestLost) next text
+Result c (Fix records numbers) next text = Planned c (fixPlan limits16 (view c) (min records mostCards) (min numbers longestLost)) next text
 Result c (Roll card) next text = Planned c (rollPlan limits16 (view c) card) next text
 -- a readable line lends 65,536 bytes at most
 Result c (Sheet card bytes) next text = Planned c (sheetPlan codec limits16 (view c) card (min bytes longestInput)) next text

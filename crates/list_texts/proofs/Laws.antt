@@ -23,7 +23,7 @@ use Rattle.list_results.specs.Result.{Written}
 use Rattle.list_results.specs.Step.{Steps}
 use Rattle.list_results.specs.Going.{nothingYet}
 use Rattle.list_texts.specs.Steps.{Ran, noLine, oneMore, Holds, Passed, Replayed}
-use Rattle.list_texts.proofs.Once.{same-length}
+use Rattle.list_texts.proofs.Once.{same-text}
 
 -- ---- texts one after the other
 
@@ -125,7 +125,7 @@ module _ {s b : List ℕ} {n : Progress} {b₁ : List ℕ} {from : Progress} (sm
 
   written : {w : Progress} {e : List ℕ} → length (p .text) ≤ length b - 0 → Passed s nothingYet b (Next 0) w e → Replayed s nothingYet b w e
   written h q =
-      let same : length (p .text) ≡ length (q .text) = same-length s nothingYet (p .ran) (q .ran) (p .end) (q .end) in
+      let same : length (p .text) ≡ length (q .text) = ap length (same-text s nothingYet (p .ran) (q .ran) (p .end) (q .end)) in
       let room : length (q .text) ≤ length b - 0 = omega arith in
       record {
         place = q .place;

@@ -1,11 +1,10 @@
--- Two runs of one list: texts of one length. Assumes nothing.
+-- Two runs of one list: one text. Assumes nothing.
 use Prim.Native.Nat.{ℕ, suc, _+_, _<_, _≤_}
 use mathlib.Core.Path.{_≡_, refl, sym, _∙_, ap, ap₂, subst₂}
 use mathlib.Core.List.{List, _++_}
 use mathlib.Core.Logic.{by-cases}
 use native.Mathlib.Decide.{decLe}
 use native.Mathlib.Omega.{arith}
-use lib.ListN.{length, length-append}
 use Rattle.list_commands.specs.declared.Command.{Command}
 use Rattle.list_parse.specs.declared.Token.the-variants.{Line, End}
 use Rattle.list_parse.specs.Lines.{tokenAt}
@@ -23,7 +22,7 @@ module _ (s : List ℕ) (start : Replay) where
   pub record Level (a b : ℕ) (r q : Replay) (t u : List ℕ) : Type 0 where
     pub place : a ≡ b
     pub replay : r ≡ q
-    pub long : length t ≡ length u
+    pub text : t ≡ u
 
   token-once : (a b : ℕ) (said said′ : Command) (place place′ : ℕ) → a ≡ b → Line said place ≡ tokenAt s a → Line said′ place′ ≡ tokenAt s b → (said′ ≡ said) × (place ≡ place′)
   token-once a b said said′ place place′ e h h′ =
@@ -38,11 +37,11 @@ module _ (s : List ℕ) (start : Replay) where
       record {
         place = c .1;
         replay = k .same;
-        long = length-append t v ∙ ap₂ (λ (x y : ℕ). x + y) (l .long) (k .long) ∙ sym (length-append u w);
+        text = ap₂ (λ (x y : List ℕ). x ++ y) (l .text) (k .text);
       }
 
   level : {a : ℕ} {r : Replay} {t : List ℕ} {b : ℕ} {q : Replay} {u : List ℕ} (x : Ran s start a r t) (y : Ran s start b q u) → lines x ≡ lines y → Level a b r q t u
-  level noLine noLine e = record { place = refl; replay = refl; long = refl }
+  level noLine noLine e = record { place = refl; replay = refl; text = refl }
   level noLine (oneMore y said place h next u st) e = absurd (omega arith)
   level (oneMore x said place h next v st) noLine e = absurd (omega arith)
   level (oneMore x said place h next v st) (oneMore y said′ place′ h′ next′ v′ st′) e =
@@ -60,11 +59,11 @@ module _ (s : List ℕ) (start : Replay) where
       omega arith)
       (λ (g : lines y ≤ lines x → ⊥). longer x y (omega arith) e)
 
-  pub same-length : {a : ℕ} {r : Replay} {t : List ℕ} {b : ℕ} {q : Replay} {u : List ℕ} (x : Ran s start a r t) (y : Ran s start b q u) → tokenAt s a ≡ End → tokenAt s b ≡ End → length t ≡ length u
-  same-length x y e f =
+  pub same-text : {a : ℕ} {r : Replay} {t : List ℕ} {b : ℕ} {q : Replay} {u : List ℕ} (x : Ran s start a r t) (y : Ran s start b q u) → tokenAt s a ≡ End → tokenAt s b ≡ End → t ≡ u
+  same-text x y e f =
       by-cases (decLe (lines x) (lines y))
       (λ (g : lines x ≤ lines y).
       by-cases (decLe (lines y) (lines x))
-      (λ (h : lines y ≤ lines x). level x y (omega arith) .long)
+      (λ (h : lines y ≤ lines x). level x y (omega arith) .text)
       (λ (h : lines y ≤ lines x → ⊥). absurd (longer x y (omega arith) e)))
       (λ (g : lines x ≤ lines y → ⊥). absurd (longer y x (omega arith) f))

@@ -19,7 +19,7 @@ use Rattle.theory_protocol.specs.Calls.{freshModel}
 use Rattle.theory_codec.specs.Sheets.{joinedSheets, restartReply, restartedFrom}
 use Rattle.theory_codec.specs.Worked.{followed, safeReplies, fixReply, saidReply, recoveries, workedCalls, workedBytes}
 
--- each fix of the samples answers what document 01 says
+-- each fix answers what document 01 says, and the lost changes in rising number
 pub recovered : map fixReply recoveries ≡ map saidReply recoveries
 unfolding limits16
 recovered = refl

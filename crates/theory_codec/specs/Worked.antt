@@ -1,4 +1,4 @@
--- Document 01's samples B to H, with what safe answers of their changes, and its worked read-out, as lists of calls from a fresh cabinet.
+-- Document 01's samples B to H, with what safe answers of their changes, lists of lost changes for document 02's wish 3, and the worked read-out, as lists of calls from a fresh cabinet.
 use Prim.Native.Nat.{ℕ, suc}
 use mathlib.Core.Bool.{true}
 use mathlib.Core.List.{List, [], _∷_, _++_, map}
@@ -14,17 +14,16 @@ use Rattle.theory_protocol.specs.Plan.{CardRow, safe, unsafe, fixed, Reply, acc
 use Rattle.theory_protocol.specs.Calls.{freshModel}
 use Rattle.theory_protocol.specs.Run.{Call, plain, openCall, voteCall, takeCall, storeCall, safeCall, loseCall, fixCall, planOf, afterCall}
 use Rattle.theory_codec.specs.Sheets.{codec}
-use Rattle.theory_protocol.specs.Choices.{chosen}
 
 -- the cabinet after calls
 abbrev pub followed : Model → List Call → Model
 followed m [] = m
-followed m (c ∷ cs) = followed (afterCall codec limits16 m c (chosen limits16 m)) cs
+followed m (c ∷ cs) = followed (afterCall codec limits16 m c) cs
 
 -- what the last of some calls answers
 abbrev pub lastReply : Model → Call → List Call → Reply
-lastReply m c [] = planOf codec limits16 m c (chosen limits16 m) .reply
-lastReply m c (d ∷ cs) = lastReply (afterCall codec limits16 m c (chosen limits16 m)) d cs
+lastReply m c [] = planOf codec limits16 m c .reply
+lastReply m c (d ∷ cs) = lastReply (afterCall codec limits16 m c) d cs
 
 -- change k: opened, voted yes by every card that it touches, and taken by every one
 abbrev pub decidedBy : ℕ → (reads writes : List ℕ) → List Call
@@ -36,6 +35,13 @@ wholly k reads writes = decidedBy k reads writes ++ map (λ c. plain (takeCall k
 -- "Changes 1 (writes 0), 2 (reads 0, writes 1), 3 (writes 0)"
 abbrev pub threeChanges : List Call
 threeChanges = wholly 1 [] (0 ∷ []) ++ wholly 2 (0 ∷ []) (1 ∷ []) ++ wholly 3 [] (0 ∷ [])
+
+-- change k, which is open and touches the card c alone: decided, and taken
+abbrev pub yesOf : (k c : ℕ) → List Call
+yesOf k c = plain (voteCall k c true) ∷ []
+
+abbrev pub shareOf : (k c : ℕ) → List Call
+shareOf k c = yesOf k c ++ plain (takeCall k c) ∷ []
 
 -- a recovery: the number of cards, the calls before the loss, what safe then answers of changes 1, 2, .., the cards lost, and what the fix answers: by card the stored number and
 -- the line, and the changes lost
@@ -88,6 +94,24 @@ recoveries =
     }
     -- H: nothing decided, all lost
     ∷ record { cards = 16; calls = []; safety = []; lostCards = tabulate 16 (λ c. c); rows = tabulate 16 (λ c. row c 0 0); lost = [] }
+    -- two cards; 1 writes 0, 2 writes 1, decided in the order 2, 1
+    ∷ record {
+      cards = 2;
+      calls = openCall (among []) (among (0 ∷ [])) ∷ openCall (among []) (among (1 ∷ [])) ∷ shareOf 2 1 ++ shareOf 1 0;
+      safety = accepted unsafe ∷ accepted unsafe ∷ [];
+      lostCards = 0 ∷ 1 ∷ [];
+      rows = row 0 0 0 ∷ row 1 0 0 ∷ [];
+      lost = 1 ∷ 2 ∷ [];
+    }
+    -- three cards; 1 writes 0, 2 writes 1, 3 writes 2, decided in the order 3, 1, 2; a loss ends 2, which no card has taken
+    ∷ record {
+      cards = 3;
+      calls = openCall (among []) (among (0 ∷ [])) ∷ openCall (among []) (among (1 ∷ [])) ∷ openCall (among []) (among (2 ∷ [])) ∷ shareOf 3 2 ++ shareOf 1 0 ++ yesOf 2 1;
+      safety = accepted unsafe ∷ refused NotAwaited ∷ accepted unsafe ∷ [];
+      lostCards = 1 ∷ [];
+      rows = row 0 0 0 ∷ row 1 0 0 ∷ row 2 0 0 ∷ [];
+      lost = 1 ∷ 2 ∷ 3 ∷ [];
+    }
     ∷ []
 
 -- what a recovery says that its fix answers

@@ -7,7 +7,7 @@ use native.Mathlib.Nat.{lt-trans, le-refl}
 use native.Mathlib.Decide.{decLt, ℕ-discrete}
 use native.Mathlib.Omega.{arith}
 use Rattle.base_laws.proofs.Logic.{test, clash, and-left, and-right, and-intro, or-left, or-right, or-elim}
-use Rattle.theory_history.specs.Change.{Change, History, Numbers, touches, meets, found, made, Precedes, direct, chain, UpTo}
+use Rattle.theory_history.specs.Change.{Change, History, Numbers, touches, meets, found, made, Precedes, direct, chain, NumbersRise, UpTo}
 use Rattle.theory_history.specs.Report.{RW, W, R, Before}
 use Rattle.theory_history.proofs.Writers.{Maker, made-found, found-mono, last-writer, next-writer}
 
@@ -40,6 +40,11 @@ module _ {w : ℕ} {H : History} where
   pub forward : {k i : ℕ} → Precedes w H k i → k < i
   forward (direct c l h e) = h
   forward (chain p q) = lt-trans (forward p) (forward q)
+
+  -- where numbers rise as changes meet, they rise along a chain
+  pub precedes-rises : {n k i : ℕ} → NumbersRise w H n → i < n → Precedes w H k i → H k .number < H i .number
+  precedes-rises r h (direct {k} {i} c l u e) = r k i c u h l e
+  precedes-rises r h (chain p q) = lt-trans (precedes-rises r (lt-trans (forward q) h) p) (precedes-rises r h q)
 
   pub linked : {m i : ℕ} → Link w H m i → Precedes w H m i
   linked l = direct (l .card) (l .is-card) (l .earlier) (l .meet)

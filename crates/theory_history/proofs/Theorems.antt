@@ -1,19 +1,23 @@
 -- The theorems of histories, for any number of cards, any history and any stored numbers. Assumes nothing.
 use Prim.Native.Nat.{ℕ, suc, _+_, _≤_, _<_}
-use mathlib.Core.Path.{_≡_, sym}
+use mathlib.Core.Path.{_≡_, refl, sym, ap}
 use mathlib.Core.Bool.{Bool, true, not, _&&_, _||_}
 use mathlib.Core.Logic.{_↔_, ⊎-elim}
+use native.Mathlib.Nat.{lt-trans}
+use native.Mathlib.Omega.{arith}
 use lib.Dec.{leb, eqb}
-use borrow.Author.Tests.{leb-true, le-leb}
-use Rattle.base_laws.specs.Below.{countBelow, occurs}
+use borrow.Author.Tests.{leb-true, le-leb, eqb-true, eq-eqb}
+use Rattle.base_laws.specs.Below.{one-if, greatest, occurs}
+use Rattle.base_laws.specs.Order.{InRisingOrder, StandsBefore}
 use Rattle.base_laws.proofs.Logic.{test, clash, and-left, and-right, and-intro, or-left, or-right, or-elim, not-true, not-intro, fails}
-use Rattle.base_laws.proofs.Below.{Found, any-elim, all-at, all-intro, occurs-selected}
-use Rattle.theory_history.specs.Change.{Change, History, Numbers, writers, made, Precedes, ConsistentCut, Cut, On, appended}
+use Rattle.base_laws.proofs.Below.{Found, any-elim, any-intro, all-at, all-intro, greatest-above}
+use Rattle.base_laws.proofs.Order.{those-once, those-rise, stands-before}
+use Rattle.theory_history.specs.Change.{Change, History, Numbers, writers, made, Precedes, NumbersRise, ConsistentCut, Cut, On, appended}
 use Rattle.theory_history.specs.Report.{Before, StateBefore, Consistent, Global, RecoveryLine}
 use Rattle.theory_history.specs.Vector.{Vector, vector, stateVector, IsVector}
-use Rattle.theory_history.specs.Line.{orphan, Climbed, line, lineFrom, wrote, inLine, lost, lostNumbers}
+use Rattle.theory_history.specs.Line.{orphan, Climbed, line, lineFrom, wrote, inLine, lost, isLostNumber, lostNumbers}
 use Rattle.theory_history.proofs.Climb.{line-climbed}
-use Rattle.theory_history.proofs.Precedence.{by-document, by-report}
+use Rattle.theory_history.proofs.Precedence.{forward, precedes-rises, by-document, by-report}
 use Rattle.theory_history.proofs.Entries.{state-vector-is}
 use Rattle.theory_history.proofs.Cuts.{in-left, left-in}
 use Rattle.theory_history.proofs.Lines.{line-cut, cut-below, on-fits, fits-on, line-mono, line-between, rule-from}
@@ -123,10 +127,32 @@ pub report-theorem-2-exists : (w : ℕ) (H : History) (start : Numbers) (n : ℕ
     → RecoveryLine w H start n last (line w H start n (stateVector w H start n) last)
 report-theorem-2-exists w H start n last global = Reports.line-recovers w H start n last global
 
--- the numbers of the changes lost: each as often as a lost change has it
-pub lost-numbers : (w : ℕ) (H : History) (start : Numbers) (n : ℕ) (l : Numbers) (k : ℕ)
-    → occurs k (lostNumbers w H start n l) ≡ countBelow n (λ i. lost w H start l i && eqb (H i .number) k)
-lost-numbers w H start n l k = occurs-selected n (lost w H start l) (λ i. H i .number) k
+-- the numbers of the changes lost: none is above the greatest of the history
+pub lost-number-below : (w : ℕ) (H : History) (start : Numbers) (n : ℕ) (l : Numbers) (k : ℕ) → isLostNumber w H start n l k ≡ true → k ≤ greatest n (λ i. H i .number)
+lost-number-below w H start n l k e =
+    let f : Found n (λ i. lost w H start l i && eqb (H i .number) k) = any-elim n (λ i. lost w H start l i && eqb (H i .number) k) e in
+    let q : H (f .0) .number ≡ k = eqb-true (H (f .0) .number) k (and-right (lost w H start l (f .0)) (eqb (H (f .0) .number) k) (f .2)) in
+    omega (arith, q, greatest-above n (λ i. H i .number) (f .0) (f .1))
+
+-- each that a lost change has stands among them once, and no other does
+pub lost-numbers : (w : ℕ) (H : History) (start : Numbers) (n : ℕ) (l : Numbers) (k : ℕ) → occurs k (lostNumbers w H start n l) ≡ one-if (isLostNumber w H start n l k)
+lost-numbers w H start n l k =
+    those-once (isLostNumber w H start n l) (suc (greatest n (λ i. H i .number))) k (λ e. let b : k ≤ greatest n (λ i. H i .number) = lost-number-below w H start n l k e in omega arith)
+
+-- they rise
+pub lost-numbers-rise : (w : ℕ) (H : History) (start : Numbers) (n : ℕ) (l : Numbers) → InRisingOrder (lostNumbers w H start n l)
+lost-numbers-rise w H start n l = those-rise (isLostNumber w H start n l) (suc (greatest n (λ i. H i .number)))
+
+-- and where numbers rise as changes meet, of two lost changes the one that precedes the other stands first
+pub builds-on : (w : ℕ) (H : History) (start : Numbers) (n : ℕ) (l : Numbers) → NumbersRise w H n → (k i : ℕ) → i < n → Precedes w H k i
+    → lost w H start l k ≡ true → lost w H start l i ≡ true → StandsBefore (H k .number) (H i .number) (lostNumbers w H start n l)
+builds-on w H start n l r k i h p a b =
+    stands-before (lostNumbers w H start n l) (H k .number) (H i .number) (lost-numbers-rise w H start n l) (stands k (lt-trans (forward p) h) a) (stands i h b) (precedes-rises r h p)
+  where
+    stands : (j : ℕ) → j < n → lost w H start l j ≡ true → 0 < occurs (H j .number) (lostNumbers w H start n l)
+    stands j u e =
+        let t : isLostNumber w H start n l (H j .number) ≡ true = any-intro n (λ x. lost w H start l x && eqb (H x .number) (H j .number)) j u (and-intro e (eq-eqb (H j .number) (H j .number) refl)) in
+        omega (arith, lost-numbers w H start n l (H j .number), ap one-if t)
 
 -- ---- 4. how the line and the vectors move
 -- greater stored numbers never lower the line

@@ -60,6 +60,10 @@ pub data Precedes (w : ℕ) (H : History) : ℕ → ℕ → Type 0 where
   direct : {k i : ℕ} (c : ℕ) → c < w → k < i → meets (H k) (H i) c ≡ true → Precedes w H k i
   chain : {k m i : ℕ} → Precedes w H k m → Precedes w H m i → Precedes w H k i
 
+-- of two of the first n changes that meet on a card the earlier has the lower number
+abbrev pub NumbersRise : ℕ → History → ℕ → Type 0
+NumbersRise w H n = (i k c : ℕ) → i < k → k < n → c < w → meets (H i) (H k) c ≡ true → H i .number < H k .number
+
 -- k is i, or precedes it
 abbrev pub UpTo : ℕ → History → ℕ → ℕ → Type 0
 UpTo w H k i = (k ≡ i) ⊎ Precedes w H k i

@@ -3,8 +3,8 @@ use Prim.Native.Nat.{ℕ, zero, suc, _+_, _-_, _≤_, _<_}
 use mathlib.Core.Path.{_≡_}
 use mathlib.Core.Bool.{Bool, false, not, _&&_, _||_, cond}
 use mathlib.Core.List.{List}
-use lib.Dec.{leb}
-use Rattle.base_laws.specs.Below.{allBelow, anyBelow, selected}
+use lib.Dec.{eqb, leb}
+use Rattle.base_laws.specs.Below.{allBelow, anyBelow, greatest, selected}
 use Rattle.theory_history.specs.Change.{Change, History, Numbers, writers, made}
 use Rattle.theory_history.specs.Vector.{Entry, none, state, entryOf, Vector}
 
@@ -49,6 +49,10 @@ inLine w H start l i = allBelow w (λ c. not (H i .writes c) || leb (made H star
 abbrev pub lost : ℕ → History → Numbers → Numbers → ℕ → Bool
 lost w H start l i = wrote w (H i) && not (inLine w H start l i)
 
--- the numbers of the changes lost, in the order of the history
+-- a change that is lost has the number k
+abbrev pub isLostNumber : ℕ → History → Numbers → ℕ → Numbers → ℕ → Bool
+isLostNumber w H start n l k = anyBelow n (λ i. lost w H start l i && eqb (H i .number) k)
+
+-- the numbers of the changes lost, up to the greatest of the history, as document 02's wish 3 has them: "The list of lost changes comes in rising change number."
 abbrev pub lostNumbers : ℕ → History → Numbers → ℕ → Numbers → List ℕ
-lostNumbers w H start n l = selected n (lost w H start l) (λ i. H i .number)
+lostNumbers w H start n l = selected (suc (greatest n (λ i. H i .number))) (isLostNumber w H start n l) (λ k. k)

@@ -1,4 +1,4 @@
--- Document 01's "Proved samples", A to H, in one table: its histories and their outcomes.
+-- Document 01's "Proved samples", A to H, in one table: its histories and their outcomes. Behind them the order of lost changes, of document 02's wish 3.
 use Prim.Native.Nat.{ℕ}
 use mathlib.Core.Bool.{false, _||_}
 use mathlib.Core.List.{List, [], _∷_, map}
@@ -96,4 +96,10 @@ samples =
     }
     -- H: nothing decided, all lost
     ∷ record { cards = 16; changes = []; outcomes = lineIs (zeros 16) (zeros 16) ∷ lostAre (zeros 16) [] ∷ [] }
+    -- two cards; 2 writes 1 and is decided before 1, which writes 0; nothing stored, then card 1, then card 0
+    ∷ record {
+      cards = 2;
+      changes = change 2 [] (1 ∷ []) ∷ change 1 [] (0 ∷ []) ∷ [];
+      outcomes = lostAre (0 ∷ 0 ∷ []) (1 ∷ 2 ∷ []) ∷ lostAre (0 ∷ 1 ∷ []) (1 ∷ []) ∷ lostAre (1 ∷ 0 ∷ []) (2 ∷ []) ∷ [];
+    }
     ∷ []

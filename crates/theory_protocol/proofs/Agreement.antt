@@ -8,12 +8,13 @@ use Rattle.base_laws.specs.Below.{occurs, one-if}
 use Rattle.theory_history.specs.Change.{CardSet}
 use Rattle.theory_protocol.specs.Model.{Limits, Model, isUp}
 use Rattle.theory_protocol.specs.Edit.{fall, halt, editedAll}
-use Rattle.theory_protocol.specs.Plan.{CardRow, Answer, done, safe, unsafe, fixed, Reply, accepted, Plan, afterPlan}
-use Rattle.theory_protocol.specs.Calls.{isSafe, safeChecks, safePlan, loseChecks, losePlan, lossEdits, allLost, isLost, cardRows, fixChecks, fixPlan}
+use Rattle.theory_protocol.specs.Plan.{Answer, done, safe, unsafe, fixed, Reply, accepted, Plan, afterPlan}
+use Rattle.theory_protocol.specs.Calls.{isSafe, safeChecks, safePlan, loseChecks, losePlan, lossEdits, allLost, isLost, fixPlan}
 use Rattle.theory_protocol.specs.Codec.{Codec}
-use Rattle.theory_protocol.specs.Run.{Call, plain, safeCall, loseCall, fixCall, Choice, Proper, planOf, afterCall, Calls, further, Run, start, next}
+use Rattle.theory_protocol.specs.Run.{Call, plain, safeCall, loseCall, fixCall, planOf, afterCall, Calls, further, Run, start, next}
 use Rattle.theory_protocol.specs.Agreement.{Agrees, SafeAgreesWithFix, AgreesInLists}
 use Rattle.theory_protocol.proofs.Steps.{checked-case, not-not}
+use Rattle.theory_protocol.proofs.Listed.{lists-rising}
 use Rattle.theory_protocol.proofs.Answers.{answered}
 
 -- by whether the change would be lost
@@ -32,35 +33,29 @@ module _ (L : Limits) (m : Model) where
   answer-is : (k : ℕ) (a : Answer) → safePlan L m k .reply ≡ accepted a → (cond (isSafe L m k) safe unsafe ≡ a) × (isUp (m .phase) ≡ true)
   answer-is k = answered (λ (x : Answer) (p : Plan). (cond (isSafe L m k) safe unsafe ≡ x) × (isUp (m .phase) ≡ true)) (safeChecks L m k) _ [] (λ ps. (refl, not-not (isUp (m .phase)) (ps .1 .0)))
 
-  numbers-are : (x y : ℕ) (lost : List ℕ) (rows : List CardRow) (numbers : List ℕ) → fixPlan L m x y lost .reply ≡ accepted (fixed rows numbers) → lost ≡ numbers
-  numbers-are x y lost rows numbers e =
-      checked-case (λ (p : Plan). p .reply ≡ accepted (fixed rows numbers) → lost ≡ numbers) (fixChecks L m x y lost) (fixed (cardRows L m) lost) _ (λ r z. let u : _≡_ {A = ℕ} 0 1 = cc in absurd (omega arith)) (λ ps z. cc) e
-
 pub safe-agrees-with-fix : SafeAgreesWithFix
-safe-agrees-with-fix L m k a ea cards b eb p q x once rows numbers ef =
+safe-agrees-with-fix L m k a ea cards b eb p q rows numbers ef =
     let s : (cond (isSafe L m k) safe unsafe ≡ a) × (isUp (m .phase) ≡ true) = answer-is L m k a ea in
     agrees-by (isLost L (allLost L m) k) k a numbers (s .0)
-    (ap (occurs k) (sym (numbers-are L (afterPlan L (losePlan L m cards) m) p q (x .lost) rows numbers ef)) ∙ once k ∙ ap one-if (lost-as-all L m cards b eb (s .1) k))
+    (lists-rising L (afterPlan L (losePlan L m cards) m) p q rows numbers ef .once k ∙ ap one-if (lost-as-all L m cards b eb (s .1) k))
 
 -- ---- lists
 -- the last call of a list
 record LastCall (C : Codec) (L : Limits) (n : CardSet) (cs : Calls) (call : Call) (reply : Reply) (m : Model) : Type 0 where
   before : Model
   run : Run C L n cs before
-  choice : Choice
-  proper : Proper L before call choice
-  replied : planOf C L before call choice .reply ≡ reply
-  after : m ≡ afterCall C L before call choice
+  replied : planOf C L before call .reply ≡ reply
+  after : m ≡ afterCall C L before call
 
 last-call : (C : Codec) (L : Limits) (n : CardSet) {ds : Calls} {m : Model} → Run C L n ds m → (cs : Calls) (call : Call) (reply : Reply) → ds ≡ further cs call reply → LastCall C L n cs call reply m
 last-call C L n start cs call reply e = let u : _≡_ {A = ℕ} 0 1 = cc in absurd (omega arith)
-last-call C L n (next {cs} {m} r c x p) ds call reply e =
+last-call C L n (next {cs} {m} r c) ds call reply e =
     let es : cs ≡ ds = cc in
     let ec : c ≡ call = cc in
-    let er : planOf C L m c x .reply ≡ reply = cc in
-    subst (λ (zs : Calls). LastCall C L n zs call reply (afterCall C L m c x)) es
-    (subst (λ (z : Call). LastCall C L n cs z reply (afterCall C L m c x)) ec
-    (record { before = m; run = r; choice = x; proper = p; replied = er; after = refl }))
+    let er : planOf C L m c .reply ≡ reply = cc in
+    subst (λ (zs : Calls). LastCall C L n zs call reply (afterCall C L m c)) es
+    (subst (λ (z : Call). LastCall C L n cs z reply (afterCall C L m c)) ec
+    (record { before = m; run = r; replied = er; after = refl }))
 
 -- a question changes nothing
 asked-same : (L : Limits) (m : Model) (k : ℕ) → afterPlan L (safePlan L m k) m ≡ m
@@ -72,6 +67,5 @@ agrees-in-lists C L n cs k a cards b x y rows numbers m r =
     let l : LastCall C L n (further cs (plain (safeCall k)) (accepted a)) (loseCall cards) (accepted b) (f .before) = last-call C L n (f .run) _ _ _ refl in
     let s : LastCall C L n cs (plain (safeCall k)) (accepted a) (l .before) = last-call C L n (l .run) _ _ _ refl in
     let same : l .before ≡ s .before = s .after ∙ asked-same L (s .before) k in
-    safe-agrees-with-fix L (l .before) k a (ap (λ (z : Model). safePlan L z k .reply) same ∙ s .replied) cards b (l .replied) x y (f .choice)
-    (subst (λ (z : Model). Proper L z (fixCall x y) (f .choice)) (l .after) (f .proper)) rows numbers
-    (ap (λ (z : Model). fixPlan L z x y (f .choice .lost) .reply) (sym (l .after)) ∙ f .replied)
+    safe-agrees-with-fix L (l .before) k a (ap (λ (z : Model). safePlan L z k .reply) same ∙ s .replied) cards b (l .replied) x y rows numbers
+    (ap (λ (z : Model). fixPlan L z x y .reply) (sym (l .after)) ∙ f .replied)

@@ -9,15 +9,17 @@ use native.Mathlib.Decide.{decLe, decLt}
 use native.Mathlib.Omega.{arith}
 use lib.Dec.{eqb, leb}
 use borrow.Author.Tests.{eq-eqb, eqb-true}
-use Rattle.base_laws.specs.Below.{selected, one-if, anyBelow, occurs}
+use Rattle.base_laws.specs.Below.{selected, anyBelow, greatest}
 use Rattle.base_laws.proofs.Logic.{test, clash, fails, and-left, and-right, and-intro, not-true, not-intro, cond-case, same-test}
 use Rattle.base_laws.proofs.Below.{Found, any-elim, any-intro, all-same}
+use Rattle.base_laws.proofs.Order.{those, those-same}
 use Rattle.theory_history.specs.Change.{CardSet, Change, History, Numbers, touches, made, On}
 use Rattle.theory_history.specs.Vector.{Vector, stateVector, IsVector}
-use Rattle.theory_history.specs.Line.{wrote, lost}
+use Rattle.theory_history.specs.Line.{wrote, lost, isLostNumber}
+use Rattle.theory_history.specs.Line as history
 use Rattle.theory_history.proofs.Entries.{state-vector-is}
 use Rattle.theory_history.proofs.Lines.{line-cut, cut-below}
-use Rattle.theory_history.proofs.Theorems.{line-whole}
+use Rattle.theory_history.proofs.Theorems.{line-whole, lost-number-below, lost-numbers, lost-numbers-rise, builds-on}
 use Rattle.theory_history.proofs.Reports.{cut-same}
 use Rattle.base_refusal.specs.declared.Refusal.the-variants.{LimitReached}
 use Rattle.base_refusal.specs.declared.Reply.the-variants.{Done, Refused}
@@ -25,10 +27,10 @@ use Rattle.theory_protocol.specs.Valid.{valid}
 use Rattle.theory_protocol.specs.Codec.{Codec}
 use Rattle.theory_protocol.specs.Model.{Limits, Phase, noCards, up, down, rolling, isUp, isDown, isRolling, OpenChange, Model, isCard, isOpen, decided, slotOf, isKnown, withCard}
 use Rattle.theory_protocol.specs.Edit.{Edit, place, grow, raise, fall, halt, lower, renew, editedAll}
-use Rattle.theory_protocol.specs.Plan.{CardRow, Answer, safe, unsafe, fixed, accepted, Check, Plan, checked, afterPlan, Passed}
-use Rattle.theory_protocol.specs.Calls.{recoveryLine, cardRows, someFrameAbove, hasFrame, allLost, isSafe, isLost, tookShare, takeChecks, safeChecks, loseChecks, fixChecks, rollChecks, allRolled}
+use Rattle.theory_protocol.specs.Plan.{Answer, safe, unsafe, fixed, accepted, Check, Plan, checked, afterPlan, Passed}
+use Rattle.theory_protocol.specs.Calls.{recoveryLine, cardRows, someFrameAbove, hasFrame, allLost, isSafe, isLost, greatestLost, lostNumbers, tookShare, takeChecks, safeChecks, loseChecks, fixChecks, rollChecks, allRolled}
 use Rattle.theory_protocol.specs.Journal.{Journal, Fixing, fixing, noteLose, greatestLine, noteRestartOf}
-use Rattle.theory_protocol.specs.Run.{Call, plain, openCall, voteCall, takeCall, withdrawCall, storeCall, trimCall, safeCall, loseCall, fixCall, rollCall, sheetCall, restartCall, Choice, Proper, planOf, afterCall, Calls, Run, start, next, journal, lastKept}
+use Rattle.theory_protocol.specs.Run.{Call, plain, openCall, voteCall, takeCall, withdrawCall, storeCall, trimCall, safeCall, loseCall, fixCall, rollCall, sheetCall, restartCall, planOf, afterCall, Calls, Run, start, next, journal, lastKept}
 use Rattle.theory_protocol.specs.Demands.{H, decisions, GreatestChoice, FixRight, RollRight, RestartRight, TakeRight, SafeRight, CallRight, RestartsTo, CabinetRight, Throughout, Demands}
 use Rattle.theory_protocol.proofs.Taking.{put-same, reached-next}
 use Rattle.theory_protocol.proofs.Intact.{lineAt, line-same}
@@ -36,6 +38,7 @@ use Rattle.theory_protocol.proofs.Places.{Stood}
 use Rattle.theory_protocol.proofs.Running.{About, Running}
 use Rattle.theory_protocol.proofs.Rolling.{AboutLine}
 use Rattle.theory_protocol.proofs.Stores.{line-right, lose-up-keeps}
+use Rattle.theory_protocol.proofs.Listed.{lost-below}
 use Rattle.theory_protocol.proofs.Lost.{Above, lost-above, above-lost, Numbered-as, frames-above, lost-right, right-lost}
 use Rattle.theory_protocol.proofs.Steps.{checked-case, not-not, card-below, known-slot, up-only}
 use Rattle.theory_protocol.proofs.Invariant.{RollingBack, Invariant, invariant-valid}
@@ -114,25 +117,45 @@ module _ (L : Limits) (n : CardSet) (m : Model) (j : Journal) (v : Invariant L n
         ∙ selected-same (L .width) n (λ c. record { card = c; stored = m .numbers .stored c; line = recoveryLine L m c }) (λ c. record { card = c; stored = j .stored c; line = line c })
         (λ c h e. ap₂ (λ (s l : ℕ). record { card = c; stored = s; line = l }) (sym (r .stored-is c h)) (line-is c h))
 
-    lost-is : (k : ℕ) → isLost L m k ≡ anyBelow (decisions j) (λ i. lost (L .width) (H j) (j .start) line i && eqb (H j i .number) k)
-    lost-is k =
-        same-test (isLost L m k) (anyBelow (decisions j) (λ i. lost (L .width) (H j) (j .start) line i && eqb (H j i .number) k))
-        (λ e. let q : (y : Numbered-as (H j) (decisions j) k) × (lost (L .width) (H j) (j .start) (recoveryLine L m) (y .i) ≡ true) = lost-right L m j r (H j) a is-down k e in
-        any-intro (decisions j) (λ i. lost (L .width) (H j) (j .start) line i && eqb (H j i .number) k) (q .0 .i) (q .0 .in-history)
-        (and-intro (sym (lost-same (L .width) (H j) (j .start) (recoveryLine L m) line line-is (q .0 .i)) ∙ q .1) (eq-eqb (H j (q .0 .i) .number) k (q .0 .is-number))))
-        (λ e. let f : Found (decisions j) (λ i. lost (L .width) (H j) (j .start) line i && eqb (H j i .number) k) = any-elim (decisions j) (λ i. lost (L .width) (H j) (j .start) line i && eqb (H j i .number) k) e in
-        let q : H j (f .0) .number ≡ k = eqb-true (H j (f .0) .number) k (and-right (lost (L .width) (H j) (j .start) line (f .0)) (eqb (H j (f .0) .number) k) (f .2)) in
-        ap (isLost L m) (sym q) ∙ right-lost L m j r (H j) a is-down (f .0) (f .1)
-        (lost-same (L .width) (H j) (j .start) (recoveryLine L m) line line-is (f .0) ∙ and-left (lost (L .width) (H j) (j .start) line (f .0)) (eqb (H j (f .0) .number) k) (f .2)))
+    abbrev lostAt : ℕ → Bool
+    lostAt i = lost (L .width) (H j) (j .start) line i
 
-    fix-right : (lost-numbers : List ℕ) → ((k : ℕ) → occurs k lost-numbers ≡ one-if (isLost L m k)) → FixRight L n j (fixed (cardRows L m) lost-numbers)
-    fix-right lost-numbers proper =
+    abbrev lostNumber : ℕ → Bool
+    lostNumber = isLostNumber (L .width) (H j) (j .start) (decisions j) line
+
+    lost-is : (k : ℕ) → isLost L m k ≡ lostNumber k
+    lost-is k =
+        same-test (isLost L m k) (lostNumber k)
+        (λ e. let q : (y : Numbered-as (H j) (decisions j) k) × (lost (L .width) (H j) (j .start) (recoveryLine L m) (y .i) ≡ true) = lost-right L m j r (H j) a is-down k e in
+        any-intro (decisions j) (λ i. lostAt i && eqb (H j i .number) k) (q .0 .i) (q .0 .in-history)
+        (and-intro (sym (lost-same (L .width) (H j) (j .start) (recoveryLine L m) line line-is (q .0 .i)) ∙ q .1) (eq-eqb (H j (q .0 .i) .number) k (q .0 .is-number))))
+        (λ e. let f : Found (decisions j) (λ i. lostAt i && eqb (H j i .number) k) = any-elim (decisions j) (λ i. lostAt i && eqb (H j i .number) k) e in
+        let q : H j (f .0) .number ≡ k = eqb-true (H j (f .0) .number) k (and-right (lostAt (f .0)) (eqb (H j (f .0) .number) k) (f .2)) in
+        ap (isLost L m) (sym q) ∙ right-lost L m j r (H j) a is-down (f .0) (f .1)
+        (lost-same (L .width) (H j) (j .start) (recoveryLine L m) line line-is (f .0) ∙ and-left (lostAt (f .0)) (eqb (H j (f .0) .number) k) (f .2)))
+
+    abbrev topNumber : ℕ
+    topNumber = greatest (decisions j) (λ i. H j i .number)
+
+    -- the list of the cabinet is that of the history
+    numbers-are : lostNumbers L m ≡ history.lostNumbers (L .width) (H j) (j .start) (decisions j) line
+    numbers-are =
+        ap (λ (p : ℕ → Bool). those p (suc (greatestLost L m))) (λ i k. lost-is k i)
+        ∙ those-same lostNumber (greatestLost L m) topNumber
+        (λ k h. fails (lostNumber k) (λ e. absurd (omega (arith, h, lost-below L m k (lost-is k ∙ e)))))
+        (λ k h. fails (lostNumber k) (λ e. absurd (omega (arith, h, lost-number-below (L .width) (H j) (j .start) (decisions j) line k e))))
+
+    fix-right : FixRight L n j (fixed (cardRows L m) (lostNumbers L m))
+    fix-right =
         record {
           line = line;
-          numbers = lost-numbers;
-          answered = ap (λ (rows : List CardRow). fixed rows lost-numbers) rows-are;
+          numbers = history.lostNumbers (L .width) (H j) (j .start) (decisions j) line;
+          answered = ap₂ fixed rows-are numbers-are;
           choice = greatest-choice L m j (recallable L n m j v);
-          lost-listed = λ k. proper k ∙ ap one-if (lost-is k);
+          numbers-are = refl;
+          lost-listed = lost-numbers (L .width) (H j) (j .start) (decisions j) line;
+          rise = lost-numbers-rise (L .width) (H j) (j .start) (decisions j) line;
+          builds-on = builds-on (L .width) (H j) (j .start) (decisions j) line (a .numbered .rising);
         }
 
   -- ---- roll
@@ -296,11 +319,11 @@ module _ (L : Limits) (n : CardSet) (m : Model) (j : Journal) (v : Invariant L n
       is-safe e = test (isSafe L m k) (λ y. y) (λ y. let d : unsafe ≡ safe = sym (ap (λ (x : Bool). cond x safe unsafe) y) ∙ e in let u : _≡_ {A = ℕ} 0 1 = cc in absurd (omega arith))
 
 -- ---- each accepted call of a list
-call-right : (C : Codec) (L : Limits) (n : CardSet) → Carded L n → CodecLaw C L n → {cs : Calls} {m : Model} (r : Run C L n cs m) (call : Call) (x : Choice) → Proper L m call x
-    → (a : Answer) → planOf C L m call x .reply ≡ accepted a → CallRight L n cs call a m (afterCall C L m call x)
-call-right C L n carded law r (openCall reads writes) x p a e = tt
-call-right C L n carded law r (plain (voteCall k c agrees)) x p a e = tt
-call-right C L n carded law {cs} {m} r (plain (takeCall k c)) x p a e =
+call-right : (C : Codec) (L : Limits) (n : CardSet) → Carded L n → CodecLaw C L n → {cs : Calls} {m : Model} (r : Run C L n cs m) (call : Call)
+    → (a : Answer) → planOf C L m call .reply ≡ accepted a → CallRight L n cs call a m (afterCall C L m call)
+call-right C L n carded law r (openCall reads writes) a e = tt
+call-right C L n carded law r (plain (voteCall k c agrees)) a e = tt
+call-right C L n carded law {cs} {m} r (plain (takeCall k c)) a e =
     answered (λ (b : Answer) (q : Plan). TakeRight (journal L n cs) k c m (afterPlan L q m)) (takeChecks L m k c) _ _
     (λ ps.
     let kp : (slotOf L m k < L .slots) × (isOpen (m .slot (slotOf L m k)) ≡ true) × (m .slot (slotOf L m k) .change .number ≡ k) = known-slot L m k (not-not (isKnown L m k) (ps .1 .1 .1 .0)) in
@@ -310,10 +333,10 @@ call-right C L n carded law {cs} {m} r (plain (takeCall k c)) x p a e =
   where
     v : Invariant L n m (journal L n cs)
     v = run-invariant carded law r
-call-right C L n carded law r (plain (withdrawCall k)) x p a e = tt
-call-right C L n carded law r (plain (storeCall c s)) x p a e = tt
-call-right C L n carded law r (plain trimCall) x p a e = tt
-call-right C L n carded law {cs} {m} r (plain (safeCall k)) x p a e =
+call-right C L n carded law r (plain (withdrawCall k)) a e = tt
+call-right C L n carded law r (plain (storeCall c s)) a e = tt
+call-right C L n carded law r (plain trimCall) a e = tt
+call-right C L n carded law {cs} {m} r (plain (safeCall k)) a e =
     answered (λ (b : Answer) (q : Plan). SafeRight L (journal L n cs) k b) (safeChecks L m k) _ _
     (λ ps. safe-right L n m (journal L n cs) v (runs L n m (journal L n cs) v (up-runs (not-not (isUp (m .phase)) (ps .1 .0)))) (not-not (isUp (m .phase)) (ps .1 .0)) k (not-not (hasFrame L m k) (ps .1 .1 .0))) a e
   where
@@ -322,16 +345,16 @@ call-right C L n carded law {cs} {m} r (plain (safeCall k)) x p a e =
 
     up-runs : isUp (m .phase) ≡ true → isRolling (m .phase) ≡ false
     up-runs = up-only (m .phase)
-call-right C L n carded law {cs} {m} r (loseCall cards) x p a e =
+call-right C L n carded law {cs} {m} r (loseCall cards) a e =
     answered (λ (b : Answer) (q : Plan). (c : ℕ) → c < L .width → n c ≡ true → cards c ≡ true → afterPlan L q m .numbers .held c ≡ lastKept L n cs c) (loseChecks L m cards) _ _
     (λ ps c lw h here. held-falls c here ∙ stored-last carded law r c lw h) a e
   where
     held-falls : (c : ℕ) → cards c ≡ true → editedAll L (fall cards ∷ cond (isUp (m .phase)) (halt ∷ []) []) m .numbers .held c ≡ m .numbers .stored c
     held-falls c here =
         cond-case (λ (es : List Edit). editedAll L (fall cards ∷ es) m .numbers .held c ≡ m .numbers .stored c) (isUp (m .phase)) (λ y. rw here) (λ y. rw here)
-call-right C L n carded law {cs} {m} r (fixCall u z) x p a e =
-    answered (λ (b : Answer) (q : Plan). FixRight L n (journal L n cs) b) (fixChecks L m u z (x .lost)) _ _
-    (λ ps. fix-right L n m (journal L n cs) v (runs L n m (journal L n cs) v (down-runs (m .phase) (not-not (isDown (m .phase)) (ps .1 .0)))) (not-not (isDown (m .phase)) (ps .1 .0)) (x .lost) p) a e
+call-right C L n carded law {cs} {m} r (fixCall u z) a e =
+    answered (λ (b : Answer) (q : Plan). FixRight L n (journal L n cs) b) (fixChecks L m u z) _ _
+    (λ ps. fix-right L n m (journal L n cs) v (runs L n m (journal L n cs) v (down-runs (m .phase) (not-not (isDown (m .phase)) (ps .1 .0)))) (not-not (isDown (m .phase)) (ps .1 .0))) a e
   where
     v : Invariant L n m (journal L n cs)
     v = run-invariant carded law r
@@ -340,11 +363,11 @@ call-right C L n carded law {cs} {m} r (fixCall u z) x p a e =
     down-runs up z = refl
     down-runs down z = refl
     down-runs rolling z = clash z refl
-call-right C L n carded law {cs} {m} r (plain (rollCall c)) x p a e =
+call-right C L n carded law {cs} {m} r (plain (rollCall c)) a e =
     answered (λ (b : Answer) (q : Plan). RollRight (journal L n cs) c (afterPlan L q m)) (rollChecks L m c) _ _
     (λ ps. roll-right L n m (journal L n cs) (run-invariant carded law r) c (card-below L m c (not-not (isCard L m c) (ps .1 .0))) (not-not (isRolling (m .phase)) (ps .1 .1 .0))) a e
-call-right C L n carded law r (sheetCall c places) x p a e = tt
-call-right C L n carded law {cs} {m} r restartCall x p a e =
+call-right C L n carded law r (sheetCall c places) a e = tt
+call-right C L n carded law {cs} {m} r restartCall a e =
     by-cases (decLt (m .session) (L .greatestNumber))
     (λ z. let q : Remade C L m = law .remade m (journal L n cs) (v .present-is) (recallable L n m (journal L n cs) v) z in
     rw (restart-reply C L m Done fine (q .accepts)) (restart-right L n m (journal L n cs) v (C .restarted L (C .joined L m)) (q .recalled)))
@@ -386,7 +409,7 @@ cabinet-right C L n carded law {cs} {m} r =
 -- throughout a list, whatever cards there are and however their sheets are written, so long as these say enough
 throughout : (C : Codec) (L : Limits) (n : CardSet) → Carded L n → CodecLaw C L n → {cs : Calls} {m : Model} (r : Run C L n cs m) → Throughout r
 throughout C L n carded law start = cabinet-right C L n carded law start
-throughout C L n carded law (next r call x p) = (throughout C L n carded law r, call-right C L n carded law r call x p, cabinet-right C L n carded law (next r call x p))
+throughout C L n carded law (next r call) = (throughout C L n carded law r, call-right C L n carded law r call, cabinet-right C L n carded law (next r call))
 
 -- demands 2 and 3
 pub demands : (C : Codec) (L : Limits) (n : CardSet) → Carded L n → CodecLaw C L n → Demands C L n

@@ -19,7 +19,7 @@ use Rattle.theory_protocol.specs.Model.{Limits, OpenChange, Model, stray
 use Rattle.theory_protocol.specs.Edit.{Edit}
 use Rattle.theory_protocol.specs.Plan.{Answer, Reply, accepted, refused, Check, _⇒_, Plan, checked, Passed, Due, afterPlan}
 use Rattle.theory_protocol.specs.Calls.{bars, barred, lowestBarred, openChecks}
-use Rattle.theory_protocol.specs.Run.{Plain, Call, plain, openCall, voteCall, takeCall, withdrawCall, storeCall, trimCall, safeCall, loseCall, fixCall, rollCall, sheetCall, restartCall, Choice, plainChecks, plainPlan, checksOf, planOf, afterCall, afterRestart}
+use Rattle.theory_protocol.specs.Run.{Plain, Call, plain, openCall, voteCall, takeCall, withdrawCall, storeCall, trimCall, safeCall, loseCall, fixCall, rollCall, sheetCall, restartCall, plainChecks, plainPlan, checksOf, planOf, afterCall, afterRestart}
 use Rattle.theory_protocol.specs.Demands.{Demand1, NamedRight, NamesLowest}
 use Rattle.theory_protocol.proofs.Steps.{checked-case, touched-there}
 
@@ -53,32 +53,32 @@ by-plain L m trimCall = (_, _, refl)
 by-plain L m (safeCall k) = (_, _, refl)
 by-plain L m (rollCall c) = (_, _, refl)
 
-pub by-table : (C : Codec) (L : Limits) (m : Model) (call : Call) (x : Choice) → ByTable (planOf C L m call x) (checksOf C L m call x)
-by-table C L m (openCall reads writes) x = (_, _, refl)
-by-table C L m (plain q) x = by-plain L m q
-by-table C L m (loseCall cards) x = (_, _, refl)
-by-table C L m (fixCall a b) x = (_, _, refl)
-by-table C L m (sheetCall c places) x = (_, _, refl)
-by-table C L m restartCall x = (_, _, refl)
+pub by-table : (C : Codec) (L : Limits) (m : Model) (call : Call) → ByTable (planOf C L m call) (checksOf C L m call)
+by-table C L m (openCall reads writes) = (_, _, refl)
+by-table C L m (plain q) = by-plain L m q
+by-table C L m (loseCall cards) = (_, _, refl)
+by-table C L m (fixCall a b) = (_, _, refl)
+by-table C L m (sheetCall c places) = (_, _, refl)
+by-table C L m restartCall = (_, _, refl)
 
 pub demand-1 : Demand1
-demand-1 C L m call x =
+demand-1 C L m call =
     record {
-      passed = λ b e. acceptance-passed (checksOf C L m call x) (t .0) (t .1) b (sym (ap (λ (p : Plan). p .reply) (t .2)) ∙ e);
-      due = λ r e. refusal-due (checksOf C L m call x) (t .0) (t .1) r (sym (ap (λ (p : Plan). p .reply) (t .2)) ∙ e);
+      passed = λ b e. acceptance-passed (checksOf C L m call) (t .0) (t .1) b (sym (ap (λ (p : Plan). p .reply) (t .2)) ∙ e);
+      due = λ r e. refusal-due (checksOf C L m call) (t .0) (t .1) r (sym (ap (λ (p : Plan). p .reply) (t .2)) ∙ e);
       listed = λ r e. rowOf r .listed;
       unchanged = unchanged call;
     }
   where
-    t : ByTable (planOf C L m call x) (checksOf C L m call x)
-    t = by-table C L m call x
+    t : ByTable (planOf C L m call) (checksOf C L m call)
+    t = by-table C L m call
 
-    keeps : (call : Call) (r : Refusal) → planOf C L m call x .reply ≡ refused r → afterPlan L (planOf C L m call x) m ≡ m
+    keeps : (call : Call) (r : Refusal) → planOf C L m call .reply ≡ refused r → afterPlan L (planOf C L m call) m ≡ m
     keeps call r e =
-        let b : ByTable (planOf C L m call x) (checksOf C L m call x) = by-table C L m call x in
-        ap (λ (q : Plan). afterPlan L q m) (b .2) ∙ refusal-keeps L m (checksOf C L m call x) (b .0) (b .1) r (sym (ap (λ (q : Plan). q .reply) (b .2)) ∙ e)
+        let b : ByTable (planOf C L m call) (checksOf C L m call) = by-table C L m call in
+        ap (λ (q : Plan). afterPlan L q m) (b .2) ∙ refusal-keeps L m (checksOf C L m call) (b .0) (b .1) r (sym (ap (λ (q : Plan). q .reply) (b .2)) ∙ e)
 
-    unchanged : (call : Call) (r : Refusal) → planOf C L m call x .reply ≡ refused r → afterCall C L m call x ≡ m
+    unchanged : (call : Call) (r : Refusal) → planOf C L m call .reply ≡ refused r → afterCall C L m call ≡ m
     unchanged (openCall reads writes) = keeps (openCall reads writes)
     unchanged (plain q) = keeps (plain q)
     unchanged (loseCall cards) = keeps (loseCall cards)

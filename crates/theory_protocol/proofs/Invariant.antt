@@ -157,17 +157,17 @@ module _ (L : Limits) (n : CardSet) (m : Model) (j : Journal) (v : Invariant L n
             notes = record { line = r .notes .line; marked = r .notes .marked; is-noted = r .notes .is-noted; line-is = r .notes .line-is; marked-is = r .notes .marked-is };
           }
 
-  pub next-fix : (cardPlaces lostPlaces : ℕ) (lost : List ℕ) → Next (noteFix j (cardRows L m)) (fixPlan L m cardPlaces lostPlaces lost)
-  next-fix cardPlaces lostPlaces lost =
+  pub next-fix : (cardPlaces lostPlaces : ℕ) → Next (noteFix j (cardRows L m)) (fixPlan L m cardPlaces lostPlaces)
+  next-fix cardPlaces lostPlaces =
       record {
         present-is = λ c. checked-case (SameCards L m) cs _ _ (λ x i. refl) (λ ps i. refl) c ∙ v .present-is c;
-        absent-start = same-start (noteFix j (cardRows L m)) (λ c. refl) (fixPlan L m cardPlaces lostPlaces lost .reply);
+        absent-start = same-start (noteFix j (cardRows L m)) (λ c. refl) (fixPlan L m cardPlaces lostPlaces .reply);
         state = checked-case (λ (p : Plan). Running L (afterPlan L p m) (noted j (noteFix j (cardRows L m)) (p .reply)) ⊎ RollingBack L (afterPlan L p m) (noted j (noteFix j (cardRows L m)) (p .reply))) cs _ _ (λ x. v .state)
             (λ ps. inr (fixes (not-not (isDown (m .phase)) (ps .1 .0)) (leb-false (L .greatestNumber) (m .session) (ps .1 .1 .0))));
       }
     where
       cs : List Check
-      cs = fixChecks L m cardPlaces lostPlaces lost
+      cs = fixChecks L m cardPlaces lostPlaces
 
       fixes : isDown (m .phase) ≡ true → m .session < L .greatestNumber → RollingBack L (editedAll L (fix (lines L m) ∷ []) m) (noteFix j (cardRows L m))
       fixes d s =

@@ -16,7 +16,7 @@ use Rattle.theory_protocol.specs.Edit.{put, Edit}
 use Rattle.theory_protocol.specs.Plan.{Answer, accepted, Check, Plan, checked}
 use Rattle.theory_protocol.specs.Calls.{openChecks, voteChecks, takeChecks, withdrawChecks, storeChecks, trimChecks, safeChecks, loseChecks, fixChecks, rollChecks}
 use Rattle.theory_protocol.specs.Journal.{Journal, Noted, struck, asked, noteVoteOn, Fixing, unfixed, fixing, noteVote, noteRollOf, noteRestartOf}
-use Rattle.theory_protocol.specs.Run.{Call, plain, openCall, voteCall, takeCall, withdrawCall, storeCall, trimCall, safeCall, loseCall, fixCall, rollCall, sheetCall, restartCall, Choice, planOf, Calls, Run, start, next, note, journal, lineNoted, keptAfter, keptBy, lastKept}
+use Rattle.theory_protocol.specs.Run.{Call, plain, openCall, voteCall, takeCall, withdrawCall, storeCall, trimCall, safeCall, loseCall, fixCall, rollCall, sheetCall, restartCall, planOf, Calls, Run, start, next, note, journal, lineNoted, keptAfter, keptBy, lastKept}
 use Rattle.theory_protocol.proofs.Taking.{put-same, put-other}
 use Rattle.theory_protocol.proofs.Running.{Running}
 use Rattle.theory_protocol.proofs.Steps.{checked-case, not-not}
@@ -98,32 +98,32 @@ module _ (C : Codec) (L : Limits) (n : CardSet) (m : Model) (j : Journal) (v : I
   restart-kept unfixed e c = ap (λ (g : Fixing). keptOf (j .stored) g c) e
   restart-kept (fixing line marked) e c = refl
 
-  kept-step : (call : Call) (y : Choice) (c : ℕ) → c < L .width → n c ≡ true → keptBy j call (planOf C L m call y .reply) x c ≡ journalKept (note L n j call (planOf C L m call y .reply)) c
-  kept-step (openCall reads writes) y c lw h = quiet (openCall reads writes) (openChecks L m reads writes) _ _ (λ c. refl) (λ c. refl) c lw h
-  kept-step (plain (voteCall k d agrees)) y c lw h = quiet (plain (voteCall k d agrees)) (voteChecks L m k d) _ _ (λ c. refl) (vote-kept k d agrees) c lw h
-  kept-step (plain (takeCall k d)) y c lw h = quiet (plain (takeCall k d)) (takeChecks L m k d) _ _ (λ c. refl) (λ c. refl) c lw h
-  kept-step (plain (withdrawCall k)) y c lw h = quiet (plain (withdrawCall k)) (withdrawChecks L m k) _ _ (λ c. refl) (λ c. refl) c lw h
-  kept-step (plain (storeCall d s)) y c lw h =
+  kept-step : (call : Call) (c : ℕ) → c < L .width → n c ≡ true → keptBy j call (planOf C L m call .reply) x c ≡ journalKept (note L n j call (planOf C L m call .reply)) c
+  kept-step (openCall reads writes) c lw h = quiet (openCall reads writes) (openChecks L m reads writes) _ _ (λ c. refl) (λ c. refl) c lw h
+  kept-step (plain (voteCall k d agrees)) c lw h = quiet (plain (voteCall k d agrees)) (voteChecks L m k d) _ _ (λ c. refl) (vote-kept k d agrees) c lw h
+  kept-step (plain (takeCall k d)) c lw h = quiet (plain (takeCall k d)) (takeChecks L m k d) _ _ (λ c. refl) (λ c. refl) c lw h
+  kept-step (plain (withdrawCall k)) c lw h = quiet (plain (withdrawCall k)) (withdrawChecks L m k) _ _ (λ c. refl) (λ c. refl) c lw h
+  kept-step (plain (storeCall d s)) c lw h =
       checked-case (λ (p : Plan). keptBy j (plain (storeCall d s)) (p .reply) x c ≡ journalKept (note L n j (plain (storeCall d s)) (p .reply)) c) (storeChecks L m d s) _ _ (λ r. same c lw h)
       (λ ps. store-kept d s (ps .1 .1 .0) c lw h)
-  kept-step (plain trimCall) y c lw h = quiet (plain trimCall) (trimChecks L m) _ _ (λ c. refl) (λ c. refl) c lw h
-  kept-step (plain (safeCall k)) y c lw h = quiet (plain (safeCall k)) (safeChecks L m k) _ _ (λ c. refl) (λ c. refl) c lw h
-  kept-step (loseCall cards) y c lw h = quiet (loseCall cards) (loseChecks L m cards) _ _ (λ c. refl) (λ c. refl) c lw h
-  kept-step (fixCall a b) y c lw h =
-      checked-case (λ (p : Plan). keptBy j (fixCall a b) (p .reply) x c ≡ journalKept (note L n j (fixCall a b) (p .reply)) c) (fixChecks L m a b (y .lost)) _ _ (λ r. same c lw h)
+  kept-step (plain trimCall) c lw h = quiet (plain trimCall) (trimChecks L m) _ _ (λ c. refl) (λ c. refl) c lw h
+  kept-step (plain (safeCall k)) c lw h = quiet (plain (safeCall k)) (safeChecks L m k) _ _ (λ c. refl) (λ c. refl) c lw h
+  kept-step (loseCall cards) c lw h = quiet (loseCall cards) (loseChecks L m cards) _ _ (λ c. refl) (λ c. refl) c lw h
+  kept-step (fixCall a b) c lw h =
+      checked-case (λ (p : Plan). keptBy j (fixCall a b) (p .reply) x c ≡ journalKept (note L n j (fixCall a b) (p .reply)) c) (fixChecks L m a b) _ _ (λ r. same c lw h)
       (λ ps. fix-kept (not-not (isDown (m .phase)) (ps .1 .0)) x c lw h)
-  kept-step (plain (rollCall d)) y c lw h =
+  kept-step (plain (rollCall d)) c lw h =
       checked-case (λ (p : Plan). keptBy j (plain (rollCall d)) (p .reply) x c ≡ journalKept (note L n j (plain (rollCall d)) (p .reply)) c) (rollChecks L m d) _ _ (λ r. same c lw h)
       (λ ps. roll-kept d (not-not (isRolling (m .phase)) (ps .1 .1 .0)) c lw h)
-  kept-step (sheetCall d places) y c lw h = quiet (sheetCall d places) (sheetChecks C L m d places) _ _ (λ c. refl) (λ c. refl) c lw h
-  kept-step restartCall y c lw h =
+  kept-step (sheetCall d places) c lw h = quiet (sheetCall d places) (sheetChecks C L m d places) _ _ (λ c. refl) (λ c. refl) c lw h
+  kept-step restartCall c lw h =
       checked-case (λ (p : Plan). keptBy j restartCall (p .reply) x c ≡ journalKept (note L n j restartCall (p .reply)) c) (restartChecks C L m) _ _ (λ r. same c lw h)
       (λ ps. same c lw h ∙ restart-kept (j .fix) refl c)
 
 kept-journal : {C : Codec} {L : Limits} {n : CardSet} → Carded L n → CodecLaw C L n → {cs : Calls} {m : Model} → Run C L n cs m → (c : ℕ) → c < L .width → n c ≡ true → lastKept L n cs c ≡ journalKept (journal L n cs) c
 kept-journal carded law start c lw h = refl
-kept-journal {C} {L} {n} carded law (next {cs} {m} r call y p) c lw h =
-    kept-step C L n m (journal L n cs) (run-invariant carded law r) (lastKept L n cs) (λ i l h. kept-journal carded law r i l h) call y c lw h
+kept-journal {C} {L} {n} carded law (next {cs} {m} r call) c lw h =
+    kept-step C L n m (journal L n cs) (run-invariant carded law r) (lastKept L n cs) (λ i l h. kept-journal carded law r i l h) call c lw h
 
 pub stored-last : {C : Codec} {L : Limits} {n : CardSet} → Carded L n → CodecLaw C L n → {cs : Calls} {m : Model} → Run C L n cs m → (c : ℕ) → c < L .width → n c ≡ true → m .numbers .stored c ≡ lastKept L n cs c
 stored-last {C} {L} {n} carded law {cs} {m} r c lw h =

@@ -14,9 +14,9 @@ pub mod Invariant
 pub mod Passed
 pub mod Restart
 pub mod Claims
+pub mod Listed
 pub mod Lists
 pub mod Kept
 pub mod Answers
-pub mod Choices
 pub mod Room
 pub mod Agreement

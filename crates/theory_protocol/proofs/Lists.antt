@@ -27,7 +27,7 @@ use Rattle.theory_protocol.specs.Edit.{Edit}
 use Rattle.theory_protocol.specs.Plan.{Answer, done, accepted, replyOf, Check, Plan, checked, afterPlan}
 use Rattle.theory_protocol.specs.Calls.{cardRows, openChecks, voteChecks, takeChecks, withdrawChecks, storeChecks, trimChecks, safeChecks, loseChecks, fixChecks, rollChecks}
 use Rattle.theory_protocol.specs.Journal.{Journal, Fixing, unfixed, fixing, noteOpen, noteVote, noteStruck, noteStore, noteLose, noteFix, noteRoll}
-use Rattle.theory_protocol.specs.Run.{Call, plain, openCall, voteCall, takeCall, withdrawCall, storeCall, trimCall, safeCall, loseCall, fixCall, rollCall, sheetCall, restartCall, Choice, planOf, afterCall, afterRestart, Calls, Run, start, next, note, journal}
+use Rattle.theory_protocol.specs.Run.{Call, plain, openCall, voteCall, takeCall, withdrawCall, storeCall, trimCall, safeCall, loseCall, fixCall, rollCall, sheetCall, restartCall, planOf, afterCall, afterRestart, Calls, Run, start, next, note, journal}
 use Rattle.theory_protocol.specs.Demands.{VectorsRight}
 use Rattle.theory_protocol.proofs.Restart.{recallable, restart-again, Remade, CodecLaw}
 use Rattle.theory_protocol.proofs.Taking.{Framed, ByTakenWriters}
@@ -62,27 +62,27 @@ restart-step C L n law m j v =
     fine : valid L m ≡ true
     fine = invariant-valid L n m j v
 
-step : (C : Codec) (L : Limits) (n : CardSet) → CodecLaw C L n → (m : Model) (j : Journal) → Invariant L n m j → (call : Call) (x : Choice)
-    → Invariant L n (afterCall C L m call x) (note L n j call (planOf C L m call x .reply))
-step C L n law m j v (openCall reads writes) x =
+step : (C : Codec) (L : Limits) (n : CardSet) → CodecLaw C L n → (m : Model) (j : Journal) → Invariant L n m j → (call : Call)
+    → Invariant L n (afterCall C L m call) (note L n j call (planOf C L m call .reply))
+step C L n law m j v (openCall reads writes) =
     subst (Invariant L n _) (same-note L n j (noteOpen j (suc (m .latest)) reads writes) (openCall reads writes) (openChecks L m reads writes) _ _ refl) (next-open L n m j v reads writes)
-step C L n law m j v (plain (voteCall k c agrees)) x = subst (Invariant L n _) (same-note L n j (noteVote L j k c agrees) (plain (voteCall k c agrees)) (voteChecks L m k c) _ _ refl) (next-vote L n m j v k c agrees)
-step C L n law m j v (plain (takeCall k c)) x = subst (Invariant L n _) (same-note L n j j (plain (takeCall k c)) (takeChecks L m k c) _ _ refl) (next-take L n m j v k c)
-step C L n law m j v (plain (withdrawCall k)) x = subst (Invariant L n _) (same-note L n j (noteStruck j k) (plain (withdrawCall k)) (withdrawChecks L m k) _ _ refl) (next-withdraw L n m j v k)
-step C L n law m j v (plain (storeCall c s)) x = subst (Invariant L n _) (same-note L n j (noteStore j c s) (plain (storeCall c s)) (storeChecks L m c s) _ _ refl) (next-store L n m j v c s)
-step C L n law m j v (plain trimCall) x = subst (Invariant L n _) (same-note L n j j (plain trimCall) (trimChecks L m) _ _ refl) (next-trim L n m j v)
-step C L n law m j v (plain (safeCall k)) x = subst (Invariant L n _) (same-note L n j j (plain (safeCall k)) (safeChecks L m k) _ _ refl) (next-safe L n m j v k)
-step C L n law m j v (loseCall cards) x = subst (Invariant L n _) (same-note L n j (noteLose j) (loseCall cards) (loseChecks L m cards) _ _ refl) (next-lose L n m j v cards)
-step C L n law m j v (fixCall a b) x = subst (Invariant L n _) (same-note L n j (noteFix j (cardRows L m)) (fixCall a b) (fixChecks L m a b (x .lost)) _ _ refl) (next-fix L n m j v a b (x .lost))
-step C L n law m j v (plain (rollCall c)) x = subst (Invariant L n _) (same-note L n j (noteRoll L n j c) (plain (rollCall c)) (rollChecks L m c) _ _ refl) (next-roll L n m j v c)
-step C L n law m j v (sheetCall c places) x =
+step C L n law m j v (plain (voteCall k c agrees)) = subst (Invariant L n _) (same-note L n j (noteVote L j k c agrees) (plain (voteCall k c agrees)) (voteChecks L m k c) _ _ refl) (next-vote L n m j v k c agrees)
+step C L n law m j v (plain (takeCall k c)) = subst (Invariant L n _) (same-note L n j j (plain (takeCall k c)) (takeChecks L m k c) _ _ refl) (next-take L n m j v k c)
+step C L n law m j v (plain (withdrawCall k)) = subst (Invariant L n _) (same-note L n j (noteStruck j k) (plain (withdrawCall k)) (withdrawChecks L m k) _ _ refl) (next-withdraw L n m j v k)
+step C L n law m j v (plain (storeCall c s)) = subst (Invariant L n _) (same-note L n j (noteStore j c s) (plain (storeCall c s)) (storeChecks L m c s) _ _ refl) (next-store L n m j v c s)
+step C L n law m j v (plain trimCall) = subst (Invariant L n _) (same-note L n j j (plain trimCall) (trimChecks L m) _ _ refl) (next-trim L n m j v)
+step C L n law m j v (plain (safeCall k)) = subst (Invariant L n _) (same-note L n j j (plain (safeCall k)) (safeChecks L m k) _ _ refl) (next-safe L n m j v k)
+step C L n law m j v (loseCall cards) = subst (Invariant L n _) (same-note L n j (noteLose j) (loseCall cards) (loseChecks L m cards) _ _ refl) (next-lose L n m j v cards)
+step C L n law m j v (fixCall a b) = subst (Invariant L n _) (same-note L n j (noteFix j (cardRows L m)) (fixCall a b) (fixChecks L m a b) _ _ refl) (next-fix L n m j v a b)
+step C L n law m j v (plain (rollCall c)) = subst (Invariant L n _) (same-note L n j (noteRoll L n j c) (plain (rollCall c)) (rollChecks L m c) _ _ refl) (next-roll L n m j v c)
+step C L n law m j v (sheetCall c places) =
     subst (Invariant L n _) (same-note L n j j (sheetCall c places) (sheetChecks C L m c places) _ _ refl)
     (checked-case (λ (p : Plan). Invariant L n (afterPlan L p m) (noted j j (p .reply))) (sheetChecks C L m c places) _ _ (λ r. v) (λ ps. v))
-step C L n law m j v restartCall x = restart-step C L n law m j v
+step C L n law m j v restartCall = restart-step C L n law m j v
 
 pub run-invariant : {C : Codec} {L : Limits} {n : CardSet} → Carded L n → CodecLaw C L n → {cs : Calls} {m : Model} → Run C L n cs m → Invariant L n m (journal L n cs)
 run-invariant {C} {L} {n} carded law start = fresh-invariant L n carded
-run-invariant {C} {L} {n} carded law (next {cs} {m} r call x p) = step C L n law m (journal L n cs) (run-invariant carded law r) call x
+run-invariant {C} {L} {n} carded law (next {cs} {m} r call) = step C L n law m (journal L n cs) (run-invariant carded law r) call
 
 -- ---- demand 2 of a cabinet that meets the invariant
 module _ (L : Limits) (n : CardSet) (m : Model) (j : Journal) (v : Invariant L n m j) where

@@ -20,10 +20,11 @@ use Rattle.base_refusal.specs.Number.{numberOf}
 use Rattle.theory_protocol.specs.Model.{Limits, Model, isDown}
 use Rattle.theory_protocol.specs.Valid.{valid}
 use Rattle.theory_protocol.specs.Plan.{CardRow, Reply, accepted, refused, Plan}
-use Rattle.theory_protocol.specs.Calls.{frameAbove, someFrameAbove, recoveryLine, isLost, cardRows}
+use Rattle.theory_protocol.specs.Calls.{frameAbove, someFrameAbove, recoveryLine, isLost, lostNumbers, cardRows}
 use Rattle.theory_protocol.specs.Room.{mostLost, FewLost, NeverShort}
 use Rattle.theory_protocol.proofs.Steps.{not-not}
 use Rattle.theory_protocol.proofs.Claims.{not-both}
+use Rattle.theory_protocol.proofs.Listed.{lost-listed}
 use Rattle.theory_protocol.proofs.Passed.{NumbersPassed, passed}
 
 -- ---- a list is no longer than one that has each of its numbers as often
@@ -132,9 +133,9 @@ module _ (L : Limits) (m : Model) where
           tabulate-has (L .slots) (m .ended) (f .0) k (f .1) (eqb-true (m .ended (f .0)) k (f .2))
 
 pub few-lost : FewLost
-few-lost L m s lost once =
-    let l : length lost ≤ length (holds L m) =
-    no-longer lost (holds L m) (λ k. test (isLost L m k) (λ e. omega (arith, once k, ap one-if e, lost-held L m s k e)) (λ e. omega (arith, once k, ap one-if e))) in
+few-lost L m s =
+    let l : length (lostNumbers L m) ≤ length (holds L m) =
+    no-longer (lostNumbers L m) (holds L m) (λ k. test (isLost L m k) (λ e. omega (arith, lost-listed L m .once k, ap one-if e, lost-held L m s k e)) (λ e. omega (arith, lost-listed L m .once k, ap one-if e))) in
     omega (arith, l, holds-length L m)
 
 -- a plan that is not refused with 4
@@ -149,14 +150,14 @@ other r h e = h (ap numberIn e)
     numberIn (refused x) = numberOf x
 
 pub never-short : NeverShort
-never-short L m cp lp a b lost once =
+never-short L m cp lp a b =
     cond-case NotShort (not (valid L m)) (λ u. other BadCabinet (λ z. absurd (omega arith)))
     (λ u. cond-case NotShort (not (isDown (m .phase))) (λ v. other WrongPhase (λ z. absurd (omega arith)))
     (λ v. cond-case NotShort (leb (L .greatestNumber) (m .session)) (λ w. other LimitReached (λ z. absurd (omega arith)))
-    (λ w. cond-case NotShort (ltb cp (length (cardRows L m)) || ltb lp (length lost)) (λ x. absurd (fits (not-not (valid L m) u) x)) (λ x. not-both _ TooShort))))
+    (λ w. cond-case NotShort (ltb cp (length (cardRows L m)) || ltb lp (length (lostNumbers L m))) (λ x. absurd (fits (not-not (valid L m) u) x)) (λ x. not-both _ TooShort))))
   where
-    fits : valid L m ≡ true → ltb cp (length (cardRows L m)) || ltb lp (length lost) ≡ true → ⊥
+    fits : valid L m ≡ true → ltb cp (length (cardRows L m)) || ltb lp (length (lostNumbers L m)) ≡ true → ⊥
     fits s x =
         ⊎-elim (λ y. omega (arith, a, ltb-true cp (length (cardRows L m)) y, selected-short {A = CardRow} (L .width) (m .present) (λ c. record { card = c; stored = m .numbers .stored c; line = recoveryLine L m c })))
-        (λ y. omega (arith, b, ltb-true lp (length lost) y, few-lost L m s lost once))
-        (or-elim (ltb cp (length (cardRows L m))) (ltb lp (length lost)) x)
+        (λ y. omega (arith, b, ltb-true lp (length (lostNumbers L m)) y, few-lost L m s))
+        (or-elim (ltb cp (length (cardRows L m))) (ltb lp (length (lostNumbers L m))) x)

@@ -3,7 +3,7 @@ use Prim.Native.Nat.{ℕ, _+_, _≤_, _<_}
 use mathlib.Core.Path.{_≡_}
 use mathlib.Core.Bool.{true, false}
 use lib.ListN.{length}
-use Rattle.theory_history.specs.Change.{CardSet, History, Numbers, touches, meets, writers, historyOf}
+use Rattle.theory_history.specs.Change.{CardSet, History, Numbers, touches, writers, NumbersRise, historyOf}
 use Rattle.theory_history.proofs.Appending.{Agree}
 use Rattle.theory_protocol.specs.Model.{Limits, Phase, isUp, isDown, isRolling, StateNumbers, OpenChange, Model, isOpen, decided}
 use Rattle.theory_protocol.specs.Journal.{Journal, unfixed}
@@ -15,7 +15,7 @@ pub record Numbered (w : ℕ) (H : History) (n latest : ℕ) : Type 0 where
   pub positive : (i : ℕ) → i < n → 0 < H i .number
   pub given : (i : ℕ) → i < n → H i .number ≤ latest
   pub distinct : (i k : ℕ) → i < k → k < n → ¬ (H i .number ≡ H k .number)
-  pub rising : (i k c : ℕ) → i < k → k < n → c < w → meets (H i) (H k) c ≡ true → H i .number < H k .number
+  pub rising : NumbersRise w H n
 
 -- an open slot that stands for position i
 pub record StandsFor (L : Limits) (place : ℕ → OpenChange) (at : ℕ → ℕ) (i : ℕ) : Type 0 where

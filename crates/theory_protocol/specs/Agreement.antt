@@ -9,7 +9,7 @@ use Rattle.theory_protocol.specs.Model.{Limits, Model}
 use Rattle.theory_protocol.specs.Plan.{CardRow, Answer, unsafe, fixed, accepted, afterPlan}
 use Rattle.theory_protocol.specs.Calls.{safePlan, losePlan, fixPlan}
 use Rattle.theory_protocol.specs.Codec.{Codec}
-use Rattle.theory_protocol.specs.Run.{plain, safeCall, loseCall, fixCall, Choice, Proper, Calls, further, Run}
+use Rattle.theory_protocol.specs.Run.{plain, safeCall, loseCall, fixCall, Calls, further, Run}
 
 -- what safe answered of change k, and the numbers that a fix lists: k is among them exactly if it was answered unsafe
 abbrev pub Agrees : ℕ → Answer → (lost : List ℕ) → Type 0
@@ -20,8 +20,8 @@ abbrev pub SafeAgreesWithFix : Type 0
 SafeAgreesWithFix =
     (L : Limits) (m : Model) (k : ℕ) (a : Answer) → safePlan L m k .reply ≡ accepted a
     → (cards : CardSet) (b : Answer) → losePlan L m cards .reply ≡ accepted b
-    → (cardPlaces lostPlaces : ℕ) (x : Choice) → Proper L (afterPlan L (losePlan L m cards) m) (fixCall cardPlaces lostPlaces) x
-    → (rows : List CardRow) (numbers : List ℕ) → fixPlan L (afterPlan L (losePlan L m cards) m) cardPlaces lostPlaces (x .lost) .reply ≡ accepted (fixed rows numbers)
+    → (cardPlaces lostPlaces : ℕ) (rows : List CardRow) (numbers : List ℕ)
+    → fixPlan L (afterPlan L (losePlan L m cards) m) cardPlaces lostPlaces .reply ≡ accepted (fixed rows numbers)
     → Agrees k a numbers
 
 -- of every list of calls that ends with these three

@@ -1,10 +1,10 @@
 -- Document 01's calls 1 to 10, for every cabinet and all arguments.
-use Prim.Native.Nat.{ℕ, suc, _+_, _-_}
+use Prim.Native.Nat.{ℕ, suc, _+_, _-_, max}
 use mathlib.Core.Bool.{Bool, not, _&&_, _||_, cond}
 use mathlib.Core.List.{List, [], _∷_}
 use lib.Dec.{eqb, leb, ltb}
 use lib.ListN.{length}
-use Rattle.base_laws.specs.Below.{anyBelow, firstBelow, selected}
+use Rattle.base_laws.specs.Below.{anyBelow, greatest, firstBelow, selected}
 use Rattle.base_refusal.specs.declared.Refusal.the-variants.{NoSuchCard, BothSetsEmpty, TooShort, WrongPhase, Barred, NoSlot, InHandFull, LimitReached, NotAwaited, AlreadyDecided, StoreOutside, BadCabinet, NotDecided, AlreadyRolled}
 use Rattle.theory_history.specs.Change.{CardSet, Numbers, touches}
 use Rattle.theory_history.specs.Vector.{noEntries, vectorOf}
@@ -221,18 +221,27 @@ abbrev pub cardRows : Limits → Model → List CardRow
 cardRows L m =
     selected (L .width) (m .present) (λ c. record { card = c; stored = m .numbers .stored c; line = recoveryLine L m c })
 
-abbrev pub fixChecks : Limits → Model → ℕ → ℕ → List ℕ → List Check
-fixChecks L m cardPlaces lostPlaces lost =
+-- the greatest number of a frame above the line and of a change that a loss ended: no lost change has a greater one
+abbrev pub greatestLost : Limits → Model → ℕ
+greatestLost L m =
+    max (greatest (L .width) (λ c. greatest (m .numbers .reached c - recoveryLine L m c) (λ s. m .memory .change c (suc (recoveryLine L m c + s)))))
+    (greatest (L .slots) (m .ended))
+
+-- the numbers of the changes lost, as document 02's wish 3 has them: "The list of lost changes comes in rising change number."
+abbrev pub lostNumbers : Limits → Model → List ℕ
+lostNumbers L m = selected (suc (greatestLost L m)) (isLost L m) (λ k. k)
+
+abbrev pub fixChecks : Limits → Model → ℕ → ℕ → List Check
+fixChecks L m cardPlaces lostPlaces =
     not (valid L m) ⇒ BadCabinet
     ∷ not (isDown (m .phase)) ⇒ WrongPhase
     ∷ leb (L .greatestNumber) (m .session) ⇒ LimitReached
-    ∷ (ltb cardPlaces (length (cardRows L m)) || ltb lostPlaces (length lost)) ⇒ TooShort
+    ∷ (ltb cardPlaces (length (cardRows L m)) || ltb lostPlaces (length (lostNumbers L m))) ⇒ TooShort
     ∷ []
 
--- the order of the lost changes is left to the program: any list that has each of them once
-abbrev pub fixPlan : Limits → Model → (cardPlaces lostPlaces : ℕ) → (lost : List ℕ) → Plan
-fixPlan L m cardPlaces lostPlaces lost =
-    checked (fixChecks L m cardPlaces lostPlaces lost) (fixed (cardRows L m) lost)
+abbrev pub fixPlan : Limits → Model → (cardPlaces lostPlaces : ℕ) → Plan
+fixPlan L m cardPlaces lostPlaces =
+    checked (fixChecks L m cardPlaces lostPlaces) (fixed (cardRows L m) (lostNumbers L m))
     (fix (lines L m) ∷ [])
 
 -- ---- 10. roll

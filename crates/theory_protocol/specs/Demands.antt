@@ -1,40 +1,40 @@
--- Demands 1 to 3 over whole lists of calls, and what belongs to them, whatever cards there are and however their sheets are written. Statements alone: the proofs are in proofs/Claims.antt (demand 1 and the card that 21 names) and proofs/Answers.antt.
+-- Demands 1 to 3 over whole lists of calls, and what belongs to them, whatever cards there are and however their sheets are written. Statements alone: the proofs are in proofs/Claims.antt (demand 1 and the card that 21 names), proofs/Listed.antt (the list of lost changes) and proofs/Answers.antt.
 use Prim.Native.Nat.{ℕ, _≤_, _<_}
 use mathlib.Core.Path.{_≡_}
-use mathlib.Core.Bool.{true, false, _&&_, _||_}
+use mathlib.Core.Bool.{true, false, _||_}
 use mathlib.Core.Logic.{_↔_}
 use mathlib.Core.List.{List}
-use lib.Dec.{eqb}
 use lib.ListN.{length}
-use Rattle.base_laws.specs.Below.{one-if, anyBelow, selected, occurs}
+use Rattle.base_laws.specs.Below.{one-if, selected, occurs}
+use Rattle.base_laws.specs.Order.{InRisingOrder, StandsBefore}
 use Rattle.base_refusal.specs.declared.Refusal.{Refusal}
 use Rattle.base_refusal.specs.Number.{Listed, numberOf}
 use Rattle.base_refusal.specs.declared.Refusal.the-variants.{LimitReached, Barred}
 use Rattle.base_refusal.specs.declared.Reply.the-variants.{Done, Refused}
-use Rattle.theory_history.specs.Change.{CardSet, History, Numbers, made, Cut, On, historyOf}
+use Rattle.theory_history.specs.Change.{CardSet, History, Numbers, made, Precedes, Cut, On, historyOf}
 use Rattle.theory_history.specs.Vector.{entryOf, LastPreceding}
-use Rattle.theory_history.specs.Line.{lost}
+use Rattle.theory_history.specs.Line.{lost, isLostNumber, lostNumbers}
 use Rattle.theory_protocol.specs.Model.{Limits, isUp, isRolling, Model, isCard}
 use Rattle.theory_protocol.specs.Valid.{valid}
-use Rattle.theory_protocol.specs.Plan.{Answer, safe, fixed, accepted, refused, Passed, Due}
-use Rattle.theory_protocol.specs.Calls.{freshModel, barred, openPlan}
+use Rattle.theory_protocol.specs.Plan.{CardRow, Answer, safe, fixed, accepted, refused, Passed, Due}
+use Rattle.theory_protocol.specs.Calls.{freshModel, barred, openPlan, isLost, fixPlan}
 use Rattle.theory_protocol.specs.Codec.{Codec}
 use Rattle.theory_protocol.specs.Journal.{Journal, fixing, noteRestart}
-use Rattle.theory_protocol.specs.Run.{Call, plain, voteCall, takeCall, withdrawCall, openCall, storeCall, trimCall, safeCall, loseCall, fixCall, rollCall, sheetCall, restartCall, Choice, checksOf, planOf, afterCall, Calls, none, further, Run, start, next, journal, lastKept}
+use Rattle.theory_protocol.specs.Run.{Call, plain, voteCall, takeCall, withdrawCall, openCall, storeCall, trimCall, safeCall, loseCall, fixCall, rollCall, sheetCall, restartCall, checksOf, planOf, afterCall, Calls, none, further, Run, start, next, journal, lastKept}
 
 -- ---- Demand 1, for any cabinet, a forged one too, and any arguments: "gets an answer or a refusal from document 01. A refusal changes neither the cabinet nor any lent list or buffer."
 -- (The lent lists and buffers are in the contracts of the calls.)
 
-pub record Refuses (C : Codec) (L : Limits) (m : Model) (call : Call) (x : Choice) : Type 0 where
+pub record Refuses (C : Codec) (L : Limits) (m : Model) (call : Call) : Type 0 where
   -- accepted, no row of the call's table fails
-  pub passed : (a : Answer) → planOf C L m call x .reply ≡ accepted a → Passed (checksOf C L m call x)
+  pub passed : (a : Answer) → planOf C L m call .reply ≡ accepted a → Passed (checksOf C L m call)
   -- "The first failing row is the answer."
-  pub due : (r : Refusal) → planOf C L m call x .reply ≡ refused r → Due (checksOf C L m call x) r
-  pub listed : (r : Refusal) → planOf C L m call x .reply ≡ refused r → Listed (numberOf r)
-  pub unchanged : (r : Refusal) → planOf C L m call x .reply ≡ refused r → afterCall C L m call x ≡ m
+  pub due : (r : Refusal) → planOf C L m call .reply ≡ refused r → Due (checksOf C L m call) r
+  pub listed : (r : Refusal) → planOf C L m call .reply ≡ refused r → Listed (numberOf r)
+  pub unchanged : (r : Refusal) → planOf C L m call .reply ≡ refused r → afterCall C L m call ≡ m
 
 abbrev pub Demand1 : Type 0
-Demand1 = (C : Codec) (L : Limits) (m : Model) (call : Call) (x : Choice) → Refuses C L m call x
+Demand1 = (C : Codec) (L : Limits) (m : Model) (call : Call) → Refuses C L m call
 
 -- ---- beside it document 02's wish 2: "Name the lowest such card.", with 21, "a touched card is barred by an open change"
 -- what holds of the card c that is named
@@ -47,6 +47,19 @@ pub record NamedRight (L : Limits) (m : Model) (reads writes : CardSet) (c : ℕ
 -- for any cabinet, a forged one too, and any sets: where the reply is 21 with c, that holds of c
 abbrev pub NamesLowest : Type 0
 NamesLowest = (L : Limits) (m : Model) (reads writes : CardSet) (c : ℕ) → openPlan L m reads writes .reply ≡ refused (Barred c) → NamedRight L m reads writes c
+
+-- ---- and its wish 3: "The list of lost changes comes in rising change number."
+-- what holds of the numbers that a fix lists
+pub record ListedRight (L : Limits) (m : Model) (numbers : List ℕ) : Type 0 where
+  -- each lost change once, and nothing else
+  pub once : (k : ℕ) → occurs k numbers ≡ one-if (isLost L m k)
+  pub rise : InRisingOrder numbers
+
+-- for any cabinet, a forged one too, and any number of places
+abbrev pub ListsRising : Type 0
+ListsRising =
+    (L : Limits) (m : Model) (cardPlaces lostPlaces : ℕ) (rows : List CardRow) (numbers : List ℕ)
+    → fixPlan L m cardPlaces lostPlaces .reply ≡ accepted (fixed rows numbers) → ListedRight L m numbers
 
 -- ---- the history of the journal: "the changes decided since the last recovery"
 abbrev pub H : Journal → History
@@ -84,8 +97,15 @@ pub record FixRight (L : Limits) (n : CardSet) (j : Journal) (a : Answer) : Type
   -- "the stored numbers answered are the book's"
   pub answered : a ≡ fixed (selected (L .width) n (λ c. record { card = c; stored = j .stored c; line = line c })) numbers
   pub choice : GreatestChoice L j line
+  -- the numbers are the list of the journal's history and that line
+  pub numbers-are : numbers ≡ lostNumbers (L .width) (H j) (j .start) (decisions j) line
   -- "Lost: decided in this session, wrote a card, not in the line. Each is listed once"
-  pub lost-listed : (k : ℕ) → occurs k numbers ≡ one-if (anyBelow (decisions j) (λ i. lost (L .width) (H j) (j .start) line i && eqb (H j i .number) k))
+  pub lost-listed : (k : ℕ) → occurs k numbers ≡ one-if (isLostNumber (L .width) (H j) (j .start) (decisions j) line k)
+  -- document 02, wish 3: "The list of lost changes comes in rising change number."
+  pub rise : InRisingOrder numbers
+  -- "a later one often builds on an earlier one": of two lost changes the one that precedes the other stands first
+  pub builds-on : (k i : ℕ) → i < decisions j → Precedes (L .width) (H j) k i → lost (L .width) (H j) (j .start) line k ≡ true → lost (L .width) (H j) (j .start) line i ≡ true
+      → StandsBefore (H j k .number) (H j i .number) numbers
 
 -- "each roll sets its card's four numbers to that card's number in it": a line is noted, and it is that one
 pub record RollRight (j : Journal) (c : ℕ) (m : Model) : Type 0 where
@@ -163,10 +183,10 @@ pub record CabinetRight (C : Codec) (L : Limits) (n : CardSet) (cs : Calls) (m :
 -- throughout a list: of each call, and of the cabinet after it
 abbrev pub Throughout : {C : Codec} {L : Limits} {n : CardSet} {cs : Calls} {m : Model} → Run C L n cs m → Type 0
 Throughout {C} {L} {n} start = CabinetRight C L n none (freshModel n)
-Throughout {C} {L} {n} (next {cs} {m} r call x p) =
+Throughout {C} {L} {n} (next {cs} {m} r call) =
     Throughout r
-    × ((a : Answer) → planOf C L m call x .reply ≡ accepted a → CallRight L n cs call a m (afterCall C L m call x))
-    × CabinetRight C L n (further cs call (planOf C L m call x .reply)) (afterCall C L m call x)
+    × ((a : Answer) → planOf C L m call .reply ≡ accepted a → CallRight L n cs call a m (afterCall C L m call))
+    × CabinetRight C L n (further cs call (planOf C L m call .reply)) (afterCall C L m call)
 
 -- demands 2 and 3, for every list of calls from a fresh cabinet of the cards n, with losses anywhere and restarts in any phase
 abbrev pub Demands : Codec → Limits → CardSet → Type 0

@@ -7,6 +7,5 @@ pub mod Journal
 pub mod Codec
 pub mod Run
 pub mod Demands
-pub mod Choices
 pub mod Room
 pub mod Agreement

@@ -1,18 +1,16 @@
 -- Lists of calls from a fresh cabinet, refused ones included, with every answer and the cabinet after each call.
 use Prim.Native.Nat.{ℕ}
-use mathlib.Core.Path.{_≡_}
 use mathlib.Core.Bool.{Bool}
 use mathlib.Core.List.{List, []}
-use Rattle.base_laws.specs.Below.{one-if, occurs}
 use Rattle.theory_history.specs.Change.{CardSet, Numbers}
 use Rattle.theory_protocol.specs.Model.{Limits, Model}
 use Rattle.theory_protocol.specs.Edit.{put}
 use Rattle.theory_protocol.specs.Plan.{CardRow, Answer, done, opened, safe, unsafe, fixed, written, Reply, accepted, refused, Check, Plan, afterPlan}
-use Rattle.theory_protocol.specs.Calls.{freshModel, isLost, openChecks, openPlan, voteChecks, votePlan, takeChecks, takePlan, withdrawChecks, withdrawPlan, storeChecks, storePlan, trimChecks, trimPlan, safeChecks, safePlan, loseChecks, losePlan, fixChecks, fixPlan, rollChecks, rollPlan}
+use Rattle.theory_protocol.specs.Calls.{freshModel, openChecks, openPlan, voteChecks, votePlan, takeChecks, takePlan, withdrawChecks, withdrawPlan, storeChecks, storePlan, trimChecks, trimPlan, safeChecks, safePlan, loseChecks, losePlan, fixChecks, fixPlan, rollChecks, rollPlan}
 use Rattle.theory_protocol.specs.Codec.{Codec, sheetChecks, sheetPlan, restartChecks, restartPlan}
 use Rattle.theory_protocol.specs.Journal.{Journal, Fixing, unfixed, fixing, emptyJournal, noteOpen, noteVote, noteStruck, noteStore, noteLose, noteFix, noteRoll, noteRestart}
 
--- calls 2 to 7 and 10: numbers go in, nothing is lent, and nothing is left to the program
+-- calls 2 to 7 and 10: numbers go in, and nothing is lent
 pub data Plain : Type 0 where
   voteCall : (change card : ℕ) (agrees : Bool) → Plain
   takeCall : (change card : ℕ) → Plain
@@ -32,19 +30,6 @@ pub data Call : Type 0 where
   -- restart from the sheets of all cards as this cabinet writes them, joined
   restartCall : Call
 
--- what document 01 leaves to the program: the order of the lost changes
-pub record Choice : Type 0 where
-  pub lost : List ℕ
-
--- "Each is listed once; their order is open"
-abbrev pub Proper : Limits → Model → Call → Choice → Type 0
-Proper L m (openCall reads writes) x = Unit {0}
-Proper L m (plain q) x = Unit {0}
-Proper L m (loseCall cards) x = Unit {0}
-Proper L m (fixCall a b) x = (k : ℕ) → occurs k (x .lost) ≡ one-if (isLost L m k)
-Proper L m (sheetCall c places) x = Unit {0}
-Proper L m restartCall x = Unit {0}
-
 -- the cabinet after a restart: the one restarted, or the old one where it is refused
 abbrev pub afterRestart : Reply → Model → Model → Model
 afterRestart (accepted a) new old = new
@@ -60,13 +45,13 @@ plainChecks L m trimCall = trimChecks L m
 plainChecks L m (safeCall k) = safeChecks L m k
 plainChecks L m (rollCall c) = rollChecks L m c
 
-abbrev pub checksOf : Codec → Limits → Model → Call → Choice → List Check
-checksOf C L m (openCall reads writes) x = openChecks L m reads writes
-checksOf C L m (plain q) x = plainChecks L m q
-checksOf C L m (loseCall cards) x = loseChecks L m cards
-checksOf C L m (fixCall a b) x = fixChecks L m a b (x .lost)
-checksOf C L m (sheetCall c places) x = sheetChecks C L m c places
-checksOf C L m restartCall x = restartChecks C L m
+abbrev pub checksOf : Codec → Limits → Model → Call → List Check
+checksOf C L m (openCall reads writes) = openChecks L m reads writes
+checksOf C L m (plain q) = plainChecks L m q
+checksOf C L m (loseCall cards) = loseChecks L m cards
+checksOf C L m (fixCall a b) = fixChecks L m a b
+checksOf C L m (sheetCall c places) = sheetChecks C L m c places
+checksOf C L m restartCall = restartChecks C L m
 
 -- the plan of a call
 abbrev pub plainPlan : Limits → Model → Plain → Plan
@@ -78,22 +63,22 @@ plainPlan L m trimCall = trimPlan L m
 plainPlan L m (safeCall k) = safePlan L m k
 plainPlan L m (rollCall c) = rollPlan L m c
 
-abbrev pub planOf : Codec → Limits → Model → Call → Choice → Plan
-planOf C L m (openCall reads writes) x = openPlan L m reads writes
-planOf C L m (plain q) x = plainPlan L m q
-planOf C L m (loseCall cards) x = losePlan L m cards
-planOf C L m (fixCall a b) x = fixPlan L m a b (x .lost)
-planOf C L m (sheetCall c places) x = sheetPlan C L m c places
-planOf C L m restartCall x = restartPlan C L m
+abbrev pub planOf : Codec → Limits → Model → Call → Plan
+planOf C L m (openCall reads writes) = openPlan L m reads writes
+planOf C L m (plain q) = plainPlan L m q
+planOf C L m (loseCall cards) = losePlan L m cards
+planOf C L m (fixCall a b) = fixPlan L m a b
+planOf C L m (sheetCall c places) = sheetPlan C L m c places
+planOf C L m restartCall = restartPlan C L m
 
 -- the cabinet after a call
-abbrev pub afterCall : Codec → Limits → Model → Call → Choice → Model
-afterCall C L m (openCall reads writes) x = afterPlan L (planOf C L m (openCall reads writes) x) m
-afterCall C L m (plain q) x = afterPlan L (plainPlan L m q) m
-afterCall C L m (loseCall cards) x = afterPlan L (planOf C L m (loseCall cards) x) m
-afterCall C L m (fixCall a b) x = afterPlan L (planOf C L m (fixCall a b) x) m
-afterCall C L m (sheetCall c places) x = afterPlan L (planOf C L m (sheetCall c places) x) m
-afterCall C L m restartCall x = afterRestart (restartPlan C L m .reply) (C .restarted L (C .joined L m)) m
+abbrev pub afterCall : Codec → Limits → Model → Call → Model
+afterCall C L m (openCall reads writes) = afterPlan L (planOf C L m (openCall reads writes)) m
+afterCall C L m (plain q) = afterPlan L (plainPlan L m q) m
+afterCall C L m (loseCall cards) = afterPlan L (planOf C L m (loseCall cards)) m
+afterCall C L m (fixCall a b) = afterPlan L (planOf C L m (fixCall a b)) m
+afterCall C L m (sheetCall c places) = afterPlan L (planOf C L m (sheetCall c places)) m
+afterCall C L m restartCall = afterRestart (restartPlan C L m .reply) (C .restarted L (C .joined L m)) m
 
 -- the calls of a list with their replies, the last one outermost
 pub data Calls : Type 0 where
@@ -103,8 +88,7 @@ pub data Calls : Type 0 where
 -- a list of calls from a fresh cabinet of the cards n, and the cabinet that it leads to. "Each call gets the cabinet that the last one returned".
 pub data Run (C : Codec) (L : Limits) (n : CardSet) : Calls → Model → Type 0 where
   start : Run C L n none (freshModel n)
-  next : {cs : Calls} {m : Model} → Run C L n cs m → (call : Call) (x : Choice) → Proper L m call x
-      → Run C L n (further cs call (planOf C L m call x .reply)) (afterCall C L m call x)
+  next : {cs : Calls} {m : Model} → Run C L n cs m → (call : Call) → Run C L n (further cs call (planOf C L m call .reply)) (afterCall C L m call)
 
 -- ---- the journal of a list
 -- the number that an opening answers

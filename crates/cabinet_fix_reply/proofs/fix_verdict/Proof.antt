@@ -6,7 +6,7 @@ use Rattle.cabinet_layout.proofs.Checks.{folded, folded-first}
 use Rattle.cabinet_recovery.specs.Fix.{butLast}
 use mathlib.Core.Path.{_≡_, _∙_}
 use mathlib.Core.Bool.{not}
-use mathlib.Core.List.{List, []}
+use mathlib.Core.List.{List}
 use Rattle.cabinet_layout.specs.Shape.{limits16, headModel}
 use Rattle.cabinet_layout.proofs.Limits.{greatestNumber32}
 use borrow.Author.Needs.{needs}
@@ -26,7 +26,7 @@ next-requires-3 : tie.Need-next-requires-3
 next-requires-3 c κs = search needs
 
 returns : tie.Need-returns
-returns c = let a : _ = c .before .before .before .before .before .args in let cs : List Check = butLast (after28 (not (a .valid)) (fixChecks limits16 (headModel (a .head)) 0 0 [])) in let e : c .next3 .result ≡ folded cs Done = rw (c .next3 .ensures, c .before .before .next2 .ensures, c .before .before .before .next .ensures, c .before .before .before .before .is-down .ensures, greatestNumber32) in e ∙ folded-first cs
+returns c = let a : _ = c .before .before .before .before .before .args in let cs : List Check = butLast (after28 (not (a .valid)) (fixChecks limits16 (headModel (a .head)) 0 0)) in let e : c .next3 .result ≡ folded cs Done = rw (c .next3 .ensures, c .before .before .next2 .ensures, c .before .before .before .next .ensures, c .before .before .before .before .is-down .ensures, greatestNumber32) in e ∙ folded-first cs
 
 pub fix-verdict-spec : {M : Type 1} → statement M
 fix-verdict-spec =

@@ -17,7 +17,7 @@ use Rattle.cabinet_lost.proofs.fix.Statement.{statement}
 use Rattle.cabinet_lost.proofs.fix.Tie as tie
 
 -- a refusal, as it is answered
-answered : {m : Model} {p : List ℕ → Plan} {n : ℕ} {stored line before : List ℕ} {q : Refusal} (y : FixReply) → y ≡ NotFixed q → FixWorked m p n stored line before before (NotFixed q) → FixWorked m p n stored line before before y
+answered : {m : Model} {p : Plan} {n : ℕ} {stored line before : List ℕ} {q : Refusal} (y : FixReply) → y ≡ NotFixed q → FixWorked m p n stored line before before (NotFixed q) → FixWorked m p n stored line before before y
 answered {m} {p} {n} {stored} {line} {before} y e t = subst (FixWorked m p n stored line before before) (sym e) t
 
 cabinet-valid-requires : tie.Need-cabinet-valid-requires
