@@ -87,7 +87,7 @@ impl Cabinet {
         }
     }
 
-    // 9. fix: the card records and the numbers of the changes lost go into the lists that the caller lends.
+    // 9. fix: the card records, and the numbers of the changes lost in rising order, go into the lists that the caller lends.
     pub fn fix<'a, 'b>(self, records: &'a mut [CardRecord], list: &'b mut [u32]) -> FixAnswer
         ensures { λ r. ⌜ FixLent self (now (records .entry)) (now (records .exit)) (now (list .entry)) (now (list .exit)) (r .reply) (r .cabinet) ⌝ }
     {

@@ -12,7 +12,7 @@ use base_limits::Limits;
 use base_refusal::Refusal;
 use cabinet_layout::Head;
 
-// What fix answers: how many changes are lost, their numbers in the lent list.
+// What fix answers: how many changes are lost; their numbers stand in the lent list, rising.
 pub enum FixReply {
     Fixed(usize),
     NotFixed(Refusal),

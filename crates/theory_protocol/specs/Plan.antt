@@ -24,7 +24,7 @@ pub data Answer : Type 0 where
   opened : (change : ℕ) → Answer
   -- safe
   safe unsafe : Answer
-  -- fix: the card records, and the numbers of the changes lost
+  -- fix: the card records, and the numbers of the changes lost, rising
   fixed : (cards : List CardRow) (lost : List ℕ) → Answer
   -- a card's sheet
   written : (bytes : List ℕ) → Answer
