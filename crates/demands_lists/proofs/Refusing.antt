@@ -60,7 +60,7 @@ by-plan s call t before after reply d stays =
     ))
 
 -- what a fix answers: the reply of its plan, and each place of both lists
-fix-carried : (s : Cabinet) (records : List CardRecord) (list : List ℕ) (reply : Reply) (t : Cabinet) (after : Lent) → FixAnswered s records list reply t after → Carried s (fixPlan limits16 (view s) (length records) (length list)) reply t
+pub fix-carried : (s : Cabinet) (records : List CardRecord) (list : List ℕ) (reply : Reply) (t : Cabinet) (after : Lent) → FixAnswered s records list reply t after → Carried s (fixPlan limits16 (view s) (length records) (length list)) reply t
 fix-carried s records list reply t after d = record { answer = d .answer ∙ d .both .carried .told .answer; cabinet = d .both .carried .cabinet }
 
 fix-lent : (s : Cabinet) (records : List CardRecord) (list : List ℕ) (reply : Reply) (t : Cabinet) (after : Lent) → FixAnswered s records list reply t after
@@ -69,7 +69,7 @@ fix-lent s records list reply t after d y e =
     both-lists after (record { records = recordsAfter y records; numbers = listAfter y list }) (d .both .filled ∙ ap (λ (u : Reply). recordsAfter u records) e) (d .both .carried .told .list ∙ ap (λ (u : Reply). listAfter u list) e)
 
 -- a card's sheet likewise
-sheet-carried : (s : Cabinet) (c : ℕ) (buffer : List ℕ) (reply : Reply) (t : Cabinet) (after : Lent) → SheetAnswered s c buffer reply t after → Carried s (sheetPlan codec limits16 (view s) c (length buffer)) reply t
+pub sheet-carried : (s : Cabinet) (c : ℕ) (buffer : List ℕ) (reply : Reply) (t : Cabinet) (after : Lent) → SheetAnswered s c buffer reply t after → Carried s (sheetPlan codec limits16 (view s) c (length buffer)) reply t
 sheet-carried s c buffer reply t after d = record { answer = d .answer ∙ d .carried .told .answer; cabinet = d .carried .cabinet }
 
 sheet-lent : (s : Cabinet) (c : ℕ) (buffer : List ℕ) (reply : Reply) (t : Cabinet) (after : Lent) → SheetAnswered s c buffer reply t after

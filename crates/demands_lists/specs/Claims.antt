@@ -69,7 +69,7 @@ pub record Reached (s : Cabinet) (asked : Asked) : Type 0 where
 pub record CallsAnswer : Type 0 where
   -- there is one
   pub some : (s : Cabinet) (asked : Asked) → Reached s asked
-  -- no other: document 02's wish 3, "Their order isn't left to the program either.", and nothing else is
+  -- and no other: document 02's wish 3, "Their order isn't left to the program either.", nor is anything else
   pub one : (s : Cabinet) (asked : Asked) (reply reply′ : Reply) (t t′ : Cabinet) (after after′ : Lent) → Answered s asked reply t after → Answered s asked reply′ t′ after′
       → (reply ≡ reply′) × (t ≡ t′) × (after ≡ after′)
   -- and it is as said

@@ -12,6 +12,7 @@ use Rattle.cabinet_layout.specs.Shape.{limits16}
 use Rattle.cabinet_records.specs.declared.CardRecord.{CardRecord}
 use Rattle.cabinet.specs.declared.Cabinet.{Cabinet}
 use Rattle.cabinet.specs.View.{view}
+use Rattle.cabinet.specs.Apply.{Carried}
 use Rattle.list_commands.specs.declared.Command.the-variants.{Asks}
 use Rattle.list_commands.specs.declared.Request.{Request}
 use Rattle.list_commands.specs.declared.Request.the-variants.{Open, Vote, Take, Withdraw, Store, Trim, Safe, Lose, Fix, Roll, Sheet, Restart, Show, Frames}
@@ -19,7 +20,9 @@ use Rattle.list_answers.specs.Texts.{replyText}
 use Rattle.list_results.specs.Result.{Planned, OpenResult, readsBeyond, writesBeyond, openWithin, LoseResult, setBeyond, lostWithin, Result}
 use Rattle.theory_protocol.specs.Run.{voteCall, takeCall, withdrawCall, storeCall, trimCall, safeCall, rollCall}
 use Rattle.demands_lists.specs.Lists.{Asked, opening, plain, lose, fix, sheet, restart, Typed, Lent, nothingLent, Answered}
-use Rattle.demands_lists.proofs.Some.{ReachedBy, fix-by, sheet-by}
+use Rattle.demands_lists.specs.Claims.{Reached}
+use Rattle.demands_lists.proofs.Some.{some}
+use Rattle.demands_lists.proofs.Refusing.{fix-carried, sheet-carried}
 use Rattle.demands_whole.specs.Texts.{Makes, opens, votes, takes, withdraws, stores, trims, asks-safe, loses, fixes, rolls, writes-sheet, restarts, NoCall, beyond-reads, beyond-writes, beyond-lost, looks, looks-at}
 
 -- a call, answered as its contract says, or none
@@ -36,11 +39,11 @@ module _ (c : Cabinet) (new : Cabinet) (u : List ℕ) where
   planned q asked k typed p d a = called asked k typed (p .reply) nothingLent a (d .answer)
 
   -- one with an answer by its plan
-  reached : (q : Request) (asked : Asked) → Makes (Asks q) asked → Typed asked → (p : Plan) → Planned c p new u → ReachedBy c asked p → Meant c q new u
-  reached q asked k typed p d g =
-      called asked k typed (g .reached .reply) (g .reached .after)
-      (subst (λ (x : Cabinet). Answered c asked (g .reached .reply) x (g .reached .after)) (g .next-is ∙ sym (d .cabinet)) (g .reached .answered))
-      (d .answer ∙ ap replyText (sym (g .reply-is)))
+  reached : (q : Request) (asked : Asked) → Makes (Asks q) asked → Typed asked → (p : Plan) → Planned c p new u → (g : Reached c asked) → Carried c p (g .reply) (g .next) → Meant c q new u
+  reached q asked k typed p d g r =
+      called asked k typed (g .reply) (g .after)
+      (subst (λ (x : Cabinet). Answered c asked (g .reply) x (g .after)) (r .cabinet ∙ sym (d .cabinet)) (g .answered))
+      (d .answer ∙ ap replyText (sym (r .answer)))
 
   pub meant : (q : Request) → Result c q new u → Meant c q new u
   meant (Open reads writes) o = opened o
@@ -62,7 +65,7 @@ module _ (c : Cabinet) (new : Cabinet) (u : List ℕ) where
       losing (lostWithin b d) = planned (Lose cards) (lose cards) (loses cards b) (omega arith) _ d (record { answer = refl; cabinet = d .cabinet }, refl)
   meant (Fix records numbers) o =
       reached (Fix records numbers) (fix rows list) (fixes records numbers rows list rows-long list-long) tt (fixPlan limits16 (view c) (length rows) (length list))
-      (subst₂ (λ (a b : ℕ). Planned c (fixPlan limits16 (view c) a b) new u) (sym rows-long) (sym list-long) o) (fix-by c rows list)
+      (subst₂ (λ (a b : ℕ). Planned c (fixPlan limits16 (view c) a b) new u) (sym rows-long) (sym list-long) o) there (fix-carried c rows list (there .reply) (there .next) (there .after) (there .answered))
     where
       rows : List CardRecord
       rows = replicate (min records 16) zero-record
@@ -75,16 +78,22 @@ module _ (c : Cabinet) (new : Cabinet) (u : List ℕ) where
 
       list-long : length list ≡ min numbers 776
       list-long = length-replicate (min numbers 776) 0
+
+      there : Reached c (fix rows list)
+      there = some c (fix rows list)
   meant (Roll card) o = planned (Roll card) (plain (rollCall card)) (rolls card) tt _ o (record { answer = refl; cabinet = o .cabinet }, refl)
   meant (Sheet card bytes) o =
       reached (Sheet card bytes) (sheet card buffer) (writes-sheet card bytes buffer long) tt (sheetPlan codec limits16 (view c) card (length buffer))
-      (subst (λ (a : ℕ). Planned c (sheetPlan codec limits16 (view c) card a) new u) (sym long) o) (sheet-by c card buffer)
+      (subst (λ (a : ℕ). Planned c (sheetPlan codec limits16 (view c) card a) new u) (sym long) o) there (sheet-carried c card buffer (there .reply) (there .next) (there .after) (there .answered))
     where
       buffer : List ℕ
       buffer = replicate (min bytes 65536) 0
 
       long : length buffer ≡ min bytes 65536
       long = length-replicate (min bytes 65536) 0
+
+      there : Reached c (sheet card buffer)
+      there = some c (sheet card buffer)
   meant Restart o = called restart restarts tt (o .reply) nothingLent (o .restarted, refl) (o .answer)
   meant Show o = stayed looks (o .cabinet)
   meant (Frames card) o = stayed (looks-at card) (o .cabinet)

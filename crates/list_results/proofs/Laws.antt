@@ -34,37 +34,33 @@ module _ {b : List ℕ} {w r : Progress} {e : List ℕ} where
   pub told-as : {S T : List ℕ → Type 0} → ((t : List ℕ) → S t → T t) → Written S b w r e → Written T b w r e
   told-as f u = record { text = u .text; told = f (u .text) (u .told); put = u .put }
 
-  -- fix, which was lent so many places at the front of a list: after it they hold what it left there
-  pub fixed-by : {c : Cabinet} {records : ℕ} {before after : List ℕ} {q : FixReply} {next : Cabinet} (places numbers : ℕ) (whole : List ℕ)
-      → FixCarried c records before after q next → length before ≡ numbers → take places whole ≡ after
-      → Whole b w (replyText (fixReplyOf (c .core .head .cards) (next .core .stored) (next .core .line) (take places whole) q)) r e → Written (Planned c (fixPlan limits16 (view c) records numbers) next) b w r e
-  fixed-by {c} {records} {before} {after} {q} {next} places numbers whole f size left u =
+  -- a call whose plan goes by how many places it was lent at the front of a list: after it they hold what it left there
+  lent-by : (c next : Cabinet) (before after : List ℕ) (p : ℕ → Plan) (said : List ℕ → Reply) (places lent : ℕ) (whole : List ℕ)
+      → next ≡ applyAll (p (length before) .edits) c → said after ≡ p (length before) .reply → length before ≡ lent → take places whole ≡ after
+      → Whole b w (replyText (said (take places whole))) r e → Written (Planned c (p lent) next) b w r e
+  lent-by c next before after p said places lent whole k q size left u =
       record {
-        text = replyText (fixReplyOf (c .core .head .cards) (next .core .stored) (next .core .line) (take places whole) q);
+        text = replyText (said (take places whole));
         told = record {
-          cabinet = f .cabinet ∙ ap (λ (n : ℕ). applyAll (fixPlan limits16 (view c) records n .edits) c) size;
-          answer = ap replyText
-              (ap (λ (l : List ℕ). fixReplyOf (c .core .head .cards) (next .core .stored) (next .core .line) l q) left ∙ f .told .answer
-              ∙ ap (λ (n : ℕ). fixPlan limits16 (view c) records n .reply) size);
+          cabinet = k ∙ ap (λ (n : ℕ). applyAll (p n .edits) c) size;
+          answer = ap replyText (ap said left ∙ q ∙ ap (λ (n : ℕ). p n .reply) size);
         };
         put = u;
       }
 
-  -- sheet writing, which was lent so many bytes at the front of a buffer
+  -- fix, lent places for change numbers
+  pub fixed-by : {c : Cabinet} {records : ℕ} {before after : List ℕ} {q : FixReply} {next : Cabinet} (places numbers : ℕ) (whole : List ℕ)
+      → FixCarried c records before after q next → length before ≡ numbers → take places whole ≡ after
+      → Whole b w (replyText (fixReplyOf (c .core .head .cards) (next .core .stored) (next .core .line) (take places whole) q)) r e → Written (Planned c (fixPlan limits16 (view c) records numbers) next) b w r e
+  fixed-by {c} {records} {before} {after} {q} {next} places numbers whole f =
+      lent-by c next before after (fixPlan limits16 (view c) records) (λ l. fixReplyOf (c .core .head .cards) (next .core .stored) (next .core .line) l q) places numbers whole (f .cabinet) (f .told .answer)
+
+  -- sheet writing, lent bytes of a buffer
   pub sheet-by : {c : Cabinet} {card : ℕ} {before after : List ℕ} {q : sheets.Written} {next : Cabinet} (places bytes : ℕ) (whole : List ℕ)
       → SheetCarried c card before after q next → length before ≡ bytes → take places whole ≡ after
       → Whole b w (replyText (sheetReplyOf (take places whole) q)) r e → Written (Planned c (sheetPlan codec limits16 (view c) card bytes) next) b w r e
-  sheet-by {c} {card} {before} {after} {q} {next} places bytes whole f size left u =
-      record {
-        text = replyText (sheetReplyOf (take places whole) q);
-        told = record {
-          cabinet = f .cabinet ∙ ap (λ (n : ℕ). applyAll (sheetPlan codec limits16 (view c) card n .edits) c) size;
-          answer = ap replyText
-              (ap (λ (l : List ℕ). sheetReplyOf l q) left ∙ f .told .answer
-              ∙ ap (λ (n : ℕ). sheetPlan codec limits16 (view c) card n .reply) size);
-        };
-        put = u;
-      }
+  sheet-by {c} {card} {before} {after} {q} {next} places bytes whole f =
+      lent-by c next before after (sheetPlan codec limits16 (view c) card) (λ l. sheetReplyOf l q) places bytes whole (f .cabinet) (f .told .answer)
 
   pub restarted-by : {c : Cabinet} {q : Reply} {next : Cabinet} → FromOwnSheets c q next → Whole b w (replyText q) r e → Written (RestartResult c next) b w r e
   restarted-by {q = q} k u = record { text = replyText q; told = record { reply = q; restarted = k; answer = refl }; put = u }

@@ -1,25 +1,24 @@
 -- What accepted calls of a list answer and do: takes, fixes, rolls, losses and safe questions; and with it demands 2 and 3. Assumes nothing.
 use Prim.Native.Nat.{ℕ, zero, suc, _<_}
 use mathlib.Core.Path.{_≡_, refl, sym, _∙_, ap, ap₂, subst}
-use mathlib.Core.Bool.{Bool, true, false, not, _&&_, _||_, cond}
+use mathlib.Core.Bool.{Bool, true, false, not, _&&_, cond}
 use mathlib.Core.Logic.{by-cases, inl, ⊎-elim}
 use mathlib.Core.List.{_++_, List, [], _∷_}
 use native.Mathlib.Nat.{le-refl, le-trans}
 use native.Mathlib.Decide.{decLe, decLt}
 use native.Mathlib.Omega.{arith}
-use lib.Dec.{eqb, leb}
+use lib.Dec.{eqb}
 use borrow.Author.Tests.{eq-eqb, eqb-true}
 use Rattle.base_laws.specs.Below.{selected, anyBelow, greatest}
-use Rattle.base_laws.proofs.Logic.{test, clash, fails, and-left, and-right, and-intro, not-true, not-intro, cond-case, same-test}
-use Rattle.base_laws.proofs.Below.{Found, any-elim, any-intro, all-same}
-use Rattle.base_laws.proofs.Order.{those, those-same}
-use Rattle.theory_history.specs.Change.{CardSet, Change, History, Numbers, touches, made, On}
+use Rattle.base_laws.proofs.Logic.{test, clash, fails, and-left, and-right, and-intro, not-true, not-intro, cond-case}
+use Rattle.base_laws.proofs.Below.{Found, any-elim, any-intro}
+use Rattle.theory_history.specs.Change.{CardSet, Change, Numbers, touches, made, On}
 use Rattle.theory_history.specs.Vector.{Vector, stateVector, IsVector}
-use Rattle.theory_history.specs.Line.{wrote, lost, isLostNumber}
+use Rattle.theory_history.specs.Line.{lost, isLostNumber}
 use Rattle.theory_history.specs.Line as history
 use Rattle.theory_history.proofs.Entries.{state-vector-is}
 use Rattle.theory_history.proofs.Lines.{line-cut, cut-below}
-use Rattle.theory_history.proofs.Theorems.{line-whole, lost-number-below, lost-numbers, lost-numbers-rise, builds-on}
+use Rattle.theory_history.proofs.Theorems.{line-whole, lost-numbers, lost-numbers-rise, builds-on}
 use Rattle.theory_history.proofs.Reports.{cut-same}
 use Rattle.base_refusal.specs.declared.Refusal.the-variants.{LimitReached}
 use Rattle.base_refusal.specs.declared.Reply.the-variants.{Done, Refused}
@@ -28,7 +27,7 @@ use Rattle.theory_protocol.specs.Codec.{Codec}
 use Rattle.theory_protocol.specs.Model.{Limits, Phase, noCards, up, down, rolling, isUp, isDown, isRolling, OpenChange, Model, isCard, isOpen, decided, slotOf, isKnown, withCard}
 use Rattle.theory_protocol.specs.Edit.{Edit, place, grow, raise, fall, halt, lower, renew, editedAll}
 use Rattle.theory_protocol.specs.Plan.{Answer, safe, unsafe, fixed, accepted, Check, Plan, checked, afterPlan, Passed}
-use Rattle.theory_protocol.specs.Calls.{recoveryLine, cardRows, someFrameAbove, hasFrame, allLost, isSafe, isLost, greatestLost, lostNumbers, tookShare, takeChecks, safeChecks, loseChecks, fixChecks, rollChecks, allRolled}
+use Rattle.theory_protocol.specs.Calls.{recoveryLine, cardRows, someFrameAbove, hasFrame, allLost, isSafe, isLost, lostNumbers, tookShare, takeChecks, safeChecks, loseChecks, fixChecks, rollChecks, allRolled}
 use Rattle.theory_protocol.specs.Journal.{Journal, Fixing, fixing, noteLose, greatestLine, noteRestartOf}
 use Rattle.theory_protocol.specs.Run.{Call, plain, openCall, voteCall, takeCall, withdrawCall, storeCall, trimCall, safeCall, loseCall, fixCall, rollCall, sheetCall, restartCall, planOf, afterCall, Calls, Run, start, next, journal, lastKept}
 use Rattle.theory_protocol.specs.Demands.{H, decisions, GreatestChoice, FixRight, RollRight, RestartRight, TakeRight, SafeRight, CallRight, RestartsTo, CabinetRight, Throughout, Demands}
@@ -38,8 +37,7 @@ use Rattle.theory_protocol.proofs.Places.{Stood}
 use Rattle.theory_protocol.proofs.Running.{About, Running}
 use Rattle.theory_protocol.proofs.Rolling.{AboutLine}
 use Rattle.theory_protocol.proofs.Stores.{line-right, lose-up-keeps}
-use Rattle.theory_protocol.proofs.Listed.{lost-below}
-use Rattle.theory_protocol.proofs.Lost.{Above, lost-above, above-lost, Numbered-as, frames-above, lost-right, right-lost}
+use Rattle.theory_protocol.proofs.Lost.{Above, lost-above, above-lost, Numbered-as, frames-above, lost-number, lost-numbers-are}
 use Rattle.theory_protocol.proofs.Steps.{checked-case, not-not, card-below, known-slot, up-only}
 use Rattle.theory_protocol.proofs.Invariant.{RollingBack, Invariant, invariant-valid}
 use Rattle.theory_protocol.proofs.Claims.{not-both}
@@ -54,12 +52,6 @@ pub answered : (P : Answer → Plan → Type 0) (cs : List Check) (a : Answer) (
 answered P cs a es f =
     checked-case (λ (p : Plan). (b : Answer) → p .reply ≡ accepted b → P b p) cs a es (λ r b e. not-both b r (sym e))
     (λ ps b e. let q : a ≡ b = cc in subst (λ (y : Answer). P y (record { reply = accepted a; edits = es })) q (f ps))
-
--- a line goes by its cards alone
-lost-same : (w : ℕ) (G : History) (s l l' : Numbers) → ((c : ℕ) → c < w → l c ≡ l' c) → (i : ℕ) → lost w G s l i ≡ lost w G s l' i
-lost-same w G s l l' e i =
-    ap (λ (b : Bool). wrote w (G i) && not b)
-    (all-same w (λ c. not (G i .writes c) || leb (made G s i c) (l c)) (λ c. not (G i .writes c) || leb (made G s i c) (l' c)) (λ c h. ap (λ (x : ℕ). not (G i .writes c) || leb (made G s i c) x) (e c h)))
 
 selected-same : {A : Type 0} (n : ℕ) (p : ℕ → Bool) (f g : ℕ → A) → ((k : ℕ) → k < n → p k ≡ true → f k ≡ g k) → selected n p f ≡ selected n p g
 selected-same zero p f g e = refl
@@ -117,40 +109,15 @@ module _ (L : Limits) (n : CardSet) (m : Model) (j : Journal) (v : Invariant L n
         ∙ selected-same (L .width) n (λ c. record { card = c; stored = m .numbers .stored c; line = recoveryLine L m c }) (λ c. record { card = c; stored = j .stored c; line = line c })
         (λ c h e. ap₂ (λ (s l : ℕ). record { card = c; stored = s; line = l }) (sym (r .stored-is c h)) (line-is c h))
 
-    abbrev lostAt : ℕ → Bool
-    lostAt i = lost (L .width) (H j) (j .start) line i
-
-    abbrev lostNumber : ℕ → Bool
-    lostNumber = isLostNumber (L .width) (H j) (j .start) (decisions j) line
-
-    lost-is : (k : ℕ) → isLost L m k ≡ lostNumber k
-    lost-is k =
-        same-test (isLost L m k) (lostNumber k)
-        (λ e. let q : (y : Numbered-as (H j) (decisions j) k) × (lost (L .width) (H j) (j .start) (recoveryLine L m) (y .i) ≡ true) = lost-right L m j r (H j) a is-down k e in
-        any-intro (decisions j) (λ i. lostAt i && eqb (H j i .number) k) (q .0 .i) (q .0 .in-history)
-        (and-intro (sym (lost-same (L .width) (H j) (j .start) (recoveryLine L m) line line-is (q .0 .i)) ∙ q .1) (eq-eqb (H j (q .0 .i) .number) k (q .0 .is-number))))
-        (λ e. let f : Found (decisions j) (λ i. lostAt i && eqb (H j i .number) k) = any-elim (decisions j) (λ i. lostAt i && eqb (H j i .number) k) e in
-        let q : H j (f .0) .number ≡ k = eqb-true (H j (f .0) .number) k (and-right (lostAt (f .0)) (eqb (H j (f .0) .number) k) (f .2)) in
-        ap (isLost L m) (sym q) ∙ right-lost L m j r (H j) a is-down (f .0) (f .1)
-        (lost-same (L .width) (H j) (j .start) (recoveryLine L m) line line-is (f .0) ∙ and-left (lostAt (f .0)) (eqb (H j (f .0) .number) k) (f .2)))
-
-    abbrev topNumber : ℕ
-    topNumber = greatest (decisions j) (λ i. H j i .number)
-
-    -- the list of the cabinet is that of the history
-    numbers-are : lostNumbers L m ≡ history.lostNumbers (L .width) (H j) (j .start) (decisions j) line
-    numbers-are =
-        ap (λ (p : ℕ → Bool). those p (suc (greatestLost L m))) (λ i k. lost-is k i)
-        ∙ those-same lostNumber (greatestLost L m) topNumber
-        (λ k h. fails (lostNumber k) (λ e. absurd (omega (arith, h, lost-below L m k (lost-is k ∙ e)))))
-        (λ k h. fails (lostNumber k) (λ e. absurd (omega (arith, h, lost-number-below (L .width) (H j) (j .start) (decisions j) line k e))))
+    lost-is : (k : ℕ) → isLost L m k ≡ isLostNumber (L .width) (H j) (j .start) (decisions j) line k
+    lost-is = lost-number L m j r (H j) a is-down line line-is
 
     fix-right : FixRight L n j (fixed (cardRows L m) (lostNumbers L m))
     fix-right =
         record {
           line = line;
           numbers = history.lostNumbers (L .width) (H j) (j .start) (decisions j) line;
-          answered = ap₂ fixed rows-are numbers-are;
+          answered = ap₂ fixed rows-are (lost-numbers-are L m j r (H j) a is-down line line-is);
           choice = greatest-choice L m j (recallable L n m j v);
           numbers-are = refl;
           lost-listed = lost-numbers (L .width) (H j) (j .start) (decisions j) line;

@@ -54,9 +54,9 @@ module _ (L : Limits) (m : Model) where
       }
 
   -- a fix that is accepted lists these
-  pub numbers-are : (cardPlaces lostPlaces : ℕ) (rows : List CardRow) (numbers : List ℕ) → fixPlan L m cardPlaces lostPlaces .reply ≡ accepted (fixed rows numbers) → lostNumbers L m ≡ numbers
-  numbers-are x y rows numbers =
+  listed-so : (cardPlaces lostPlaces : ℕ) (rows : List CardRow) (numbers : List ℕ) → fixPlan L m cardPlaces lostPlaces .reply ≡ accepted (fixed rows numbers) → lostNumbers L m ≡ numbers
+  listed-so x y rows numbers =
       checked-case (λ (p : Plan). p .reply ≡ accepted (fixed rows numbers) → lostNumbers L m ≡ numbers) (fixChecks L m x y) (fixed (cardRows L m) (lostNumbers L m)) _ (λ r z. not-both (fixed rows numbers) r (sym z)) (λ ps z. cc)
 
 pub lists-rising : ListsRising
-lists-rising L m x y rows numbers e = subst (ListedRight L m) (numbers-are L m x y rows numbers e) (lost-listed L m)
+lists-rising L m x y rows numbers e = subst (ListedRight L m) (listed-so L m x y rows numbers e) (lost-listed L m)

@@ -9,18 +9,22 @@ use native.Mathlib.Omega.{arith}
 use lib.Dec.{eqb, leb}
 use lib.ListN.{length}
 use borrow.Author.Tests.{eqb-true, eq-eqb, ne-eqb, leb-true, leb-false}
-use Rattle.base_laws.specs.Below.{anyBelow}
-use Rattle.base_laws.proofs.Logic.{test, clash, fails, and-left, and-right, and-intro, or-left, or-right, or-elim, not-true, not-intro}
-use Rattle.base_laws.proofs.Below.{Found, any-elim, any-intro, all-at, all-intro, search-below}
+use Rattle.base_laws.specs.Below.{anyBelow, greatest}
+use Rattle.base_laws.proofs.Logic.{test, clash, fails, and-left, and-right, and-intro, or-left, or-right, or-elim, not-true, not-intro, same-test}
+use Rattle.base_laws.proofs.Below.{Found, any-elim, any-intro, all-at, all-intro, all-same, search-below}
+use Rattle.base_laws.proofs.Order.{those, those-same}
 use Rattle.theory_history.specs.Change.{History, Numbers, made}
-use Rattle.theory_history.specs.Line.{wrote, inLine, lost}
+use Rattle.theory_history.specs.Line.{wrote, inLine, lost, isLostNumber}
+use Rattle.theory_history.specs.Line as history
 use Rattle.theory_history.proofs.Writers.{Maker, maker}
 use Rattle.theory_history.proofs.Precedence.{writes-touches}
+use Rattle.theory_history.proofs.Theorems.{lost-number-below}
 use Rattle.theory_protocol.specs.Model.{Limits, isDown, Model}
-use Rattle.theory_protocol.specs.Calls.{recoveryLine, frameAbove, someFrameAbove, isLost}
+use Rattle.theory_protocol.specs.Calls.{recoveryLine, frameAbove, someFrameAbove, isLost, greatestLost, lostNumbers}
 use Rattle.theory_protocol.specs.Journal.{Journal}
 use Rattle.theory_protocol.proofs.Running.{About, Remembers, Unfinished, Running}
 use Rattle.theory_protocol.proofs.Stores.{intact, line-right}
+use Rattle.theory_protocol.proofs.Listed.{lost-below}
 
 -- a change that is not in a line: a card that it wrote where its state is above
 pub record Above (w : ℕ) (H : History) (start line : Numbers) (i : ℕ) : Type 0 where
@@ -58,6 +62,12 @@ above-lost w H start line i a =
     (λ e. ⊎-elim (λ (z : not (H i .writes (a .c)) ≡ true). clash (a .wrote-it) (not-true (H i .writes (a .c)) z))
     (λ (z : leb (made H start i (a .c)) (line (a .c)) ≡ true). absurd (omega (arith, a .is-above, leb-true (made H start i (a .c)) (line (a .c)) z)))
     (or-elim (not (H i .writes (a .c))) (leb (made H start i (a .c)) (line (a .c))) (all-at w (λ c. not (H i .writes c) || leb (made H start i c) (line c)) e (a .c) (a .is-card))))))
+
+-- a line goes by its cards alone
+lost-same : (w : ℕ) (G : History) (s l l' : Numbers) → ((c : ℕ) → c < w → l c ≡ l' c) → (i : ℕ) → lost w G s l i ≡ lost w G s l' i
+lost-same w G s l l' e i =
+    ap (λ (b : Bool). wrote w (G i) && not b)
+    (all-same w (λ c. not (G i .writes c) || leb (made G s i c) (l c)) (λ c. not (G i .writes c) || leb (made G s i c) (l' c)) (λ c h. ap (λ (x : ℕ). not (G i .writes c) || leb (made G s i c) x) (e c h)))
 
 -- a change of the history by its number
 pub record Numbered-as (H : History) (n k : ℕ) : Type 0 where
@@ -145,3 +155,35 @@ module _ (L : Limits) (m : Model) (j : Journal) (r : Running L m j) (H : History
       remembered y =
           let u : Remembers L (m .ended) (H i .number) = a .ended-untaken is-down i (b .c) h (b .is-card) (b .wrote-it) (fails (r .took i (b .c)) (λ z. y (a .levels .up-to i (b .c) h (b .is-card) (b .wrote-it) z))) in
           any-intro (L .slots) (λ p. eqb (m .ended p) (H i .number)) (u .p) (u .is-slot) (eq-eqb (m .ended (u .p)) (H i .number) (u .is-number))
+
+  -- ---- the list: a line that is the same on every card
+  module _ (is-down : isDown (m .phase) ≡ true) (line : Numbers) (line-is : (c : ℕ) → c < L .width → recoveryLine L m c ≡ line c) where
+    abbrev N : ℕ
+    N = length (j .history)
+
+    abbrev isNumber : ℕ → Bool
+    isNumber = isLostNumber (L .width) H (j .start) N line
+
+    same-lost : (i : ℕ) → lost (L .width) H (j .start) (recoveryLine L m) i ≡ lost (L .width) H (j .start) line i
+    same-lost = lost-same (L .width) H (j .start) (recoveryLine L m) line line-is
+
+    -- a number is lost where a lost change of the history has it
+    pub lost-number : (k : ℕ) → isLost L m k ≡ isNumber k
+    lost-number k =
+        same-test (isLost L m k) (isNumber k)
+        (λ e. let q : (y : Numbered-as H N k) × (lost (L .width) H (j .start) (recoveryLine L m) (y .i) ≡ true) = lost-right is-down k e in
+        any-intro N test-of (q .0 .i) (q .0 .in-history) (and-intro (sym (same-lost (q .0 .i)) ∙ q .1) (eq-eqb (H (q .0 .i) .number) k (q .0 .is-number))))
+        (λ e. let f : Found N test-of = any-elim N test-of e in
+        let q : H (f .0) .number ≡ k = eqb-true (H (f .0) .number) k (and-right (lost (L .width) H (j .start) line (f .0)) (eqb (H (f .0) .number) k) (f .2)) in
+        ap (isLost L m) (sym q) ∙ right-lost is-down (f .0) (f .1) (same-lost (f .0) ∙ and-left (lost (L .width) H (j .start) line (f .0)) (eqb (H (f .0) .number) k) (f .2)))
+      where
+        test-of : ℕ → Bool
+        test-of i = lost (L .width) H (j .start) line i && eqb (H i .number) k
+
+    -- the list of the cabinet is that of the history
+    pub lost-numbers-are : lostNumbers L m ≡ history.lostNumbers (L .width) H (j .start) N line
+    lost-numbers-are =
+        ap (λ (p : ℕ → Bool). those p (suc (greatestLost L m))) (λ i k. lost-number k i)
+        ∙ those-same isNumber (greatestLost L m) (greatest N (λ i. H i .number))
+        (λ k h. fails (isNumber k) (λ e. absurd (omega (arith, h, lost-below L m k (lost-number k ∙ e)))))
+        (λ k h. fails (isNumber k) (λ e. absurd (omega (arith, h, lost-number-below (L .width) H (j .start) N line k e))))
