@@ -1,6 +1,8 @@
 //! The property checks over random lists and read-outs: the setter's book,
 //! vectors by both ways, lines by both ways, sheets, refusals.
 
+mod bound;
+
 use crate::answer::Answer;
 use crate::cabinet::{Cabinet, Past, Phase, Record};
 use crate::call::{read_call, write_call, Call};
@@ -14,6 +16,7 @@ use crate::replay::Place;
 use crate::restart::restart;
 use crate::sheet::{read_sheet, read_sheets, write_sheet};
 use crate::takes::Takes;
+use bound::demand_bound;
 use std::collections::{BTreeMap, BTreeSet};
 
 /// What the checks saw.
@@ -89,7 +92,10 @@ impl Follower {
         counts.add(&format!("accepted {}", word.split(' ').next().unwrap_or("")));
         self.follow(call, &answer, before.as_ref(), counts)?;
         self.demand_numbers()?;
-        self.demand_sheets(counts)?;
+        let joined = self.cabinet()?.joined_sheets();
+        self.demand_sheets(&joined, counts)?;
+        demand_altered_refused(&joined, &mut self.random, counts)?;
+        demand_bound(&joined, 1, &mut self.random, counts)?;
         self.demand_cut(counts)
     }
 
@@ -375,11 +381,10 @@ impl Follower {
 
     /// The sheets read back, and from a fix to the last roll restart to the
     /// line.
-    fn demand_sheets(&self, counts: &mut Counts) -> Result<(), String> {
+    fn demand_sheets(&self, joined: &[u8], counts: &mut Counts) -> Result<(), String> {
         let cabinet = self.cabinet()?;
-        let joined = cabinet.joined_sheets();
         let sheets =
-            read_sheets(&joined).map_err(|refusal| format!("own sheets refused {}", refusal.number()))?;
+            read_sheets(joined).map_err(|refusal| format!("own sheets refused {}", refusal.number()))?;
         for (card, sheet) in sheets.iter().enumerate() {
             demand(*sheet == cabinet.sheet_of(card), "a sheet does not read back the same")?;
             demand(
@@ -388,7 +393,7 @@ impl Follower {
             )?;
         }
         counts.add("sheets of a cabinet read back");
-        let again = restart(&joined).map_err(|refusal| format!("restart refused {}", refusal.number()))?;
+        let again = restart(joined).map_err(|refusal| format!("restart refused {}", refusal.number()))?;
         match &self.journal.noted {
             Some(noted) => {
                 counts.add("restarts to the line tried");
@@ -465,7 +470,8 @@ fn count_fix(records: &[Record], lost: &[u32], before: Option<&Cabinet>, counts:
 }
 
 /// The checks on one read-out: an accepted one is the very bytes the writer
-/// makes of it, and with one byte altered it is refused.
+/// makes of it, with one byte altered it is refused, and its lines belong to
+/// their sheets.
 pub fn check_readout(bytes: &[u8], random: &mut Random, counts: &mut Counts) -> Result<(), String> {
     counts.add("read-outs");
     let cabinet = match restart(bytes) {
@@ -484,6 +490,7 @@ pub fn check_readout(bytes: &[u8], random: &mut Random, counts: &mut Counts) -> 
     for _ in 0..8 {
         demand_altered_refused(bytes, random, counts)?;
     }
+    demand_bound(bytes, 4, random, counts)?;
     demand_rolls_keep_line(cabinet, random, counts)
 }
 

@@ -8,6 +8,7 @@ pub mod answer;
 pub mod cabinet;
 pub mod call;
 pub mod cards;
+pub mod carried;
 pub mod check;
 pub mod compare;
 pub mod data;

@@ -2,6 +2,7 @@
 
 mod damage;
 
+use crate::carried::{joined, Line};
 use crate::lists;
 use crate::random::Random;
 use crate::replay::Place;
@@ -45,24 +46,25 @@ fn loose_sheet(sheet: Sheet) -> LooseSheet {
     }
 }
 
-/// All lines with right checks, whatever the fields.
+/// A sheet's lines with right checks, whatever the fields.
+fn loose_lines(sheet: &LooseSheet) -> Vec<Line> {
+    let LooseSheet { session, card, cards, base, count, .. } = *sheet;
+    let line = |is_header, bytes| Line { session, card, is_header, bytes };
+    let header = header_line(session, card & 0xFF, cards & 0xFF, base & NONE, count & NONE);
+    let frames = sheet.frames.iter().map(|frame| {
+        let mut text = digits(frame.state & NONE, 4) + &digits(frame.change, 8);
+        frame.entries.iter().for_each(|entry| text += &digits(entry & NONE, 4));
+        line(false, finish_line(session, card, text.as_bytes()))
+    });
+    [line(true, header)].into_iter().chain(frames).collect()
+}
+
 fn write(sheets: &[LooseSheet]) -> Vec<u8> {
-    let mut bytes = Vec::new();
-    for sheet in sheets {
-        bytes.extend(header_line(
-            sheet.session,
-            sheet.card & 0xFF,
-            sheet.cards & 0xFF,
-            sheet.base & NONE,
-            sheet.count & NONE,
-        ));
-        for frame in &sheet.frames {
-            let mut text = digits(frame.state & NONE, 4) + &digits(frame.change, 8);
-            frame.entries.iter().for_each(|entry| text += &digits(entry & NONE, 4));
-            bytes.extend(finish_line(text));
-        }
-    }
-    bytes
+    joined(&all_lines(sheets))
+}
+
+fn all_lines(sheets: &[LooseSheet]) -> Vec<Line> {
+    sheets.iter().flat_map(loose_lines).collect()
 }
 
 /// How large the read-outs get.
@@ -85,7 +87,8 @@ pub fn readout(seed: u64) -> Vec<u8> {
     damaged(sheets, &mut random)
 }
 
-/// No read-out at all, or lines that can be headers and frames both.
+/// No read-out at all, or lines that but for their checks can be headers and
+/// frames both.
 fn noise(random: &mut Random) -> Vec<u8> {
     let length = random.place(120);
     match random.below(4) {
@@ -96,9 +99,10 @@ fn noise(random: &mut Random) -> Vec<u8> {
     }
 }
 
-/// Two cards, where header and frame have one length: the header and the first
-/// frame of card 1 can also be a frame of card 0 and the header of card 1. With
-/// the last frame of card 0 gone (`cut`) they are read so.
+/// Two cards, where header and frame have one length: but for their checks the
+/// header and the first frame of card 1 can also be a frame of card 0 and the
+/// header of card 1. With the last frame of card 0 gone (`cut`) they stand where
+/// those are due.
 pub fn lines_of_two_kinds(cut: bool) -> Vec<u8> {
     let session = 0x0030_0005;
     let frame = |card: u32, state: u32, change: u32, other: u32| {
@@ -176,6 +180,7 @@ fn made_up(random: &mut Random, cards: u32, most: u32, full: bool) -> Vec<LooseS
     let session = match random.below(8) {
         0 => random.bits() as u32,
         1 => random.pick(&[4_294_967_294, 4_294_967_293, 1]),
+        2 => random.pick(&[0xFF, 0x100, 0x1FF, 0xFFFF_FEFF, 0xFFFF_FF00]),
         _ => random.from_to(1, 9),
     }
     .max(1);

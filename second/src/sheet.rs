@@ -39,10 +39,12 @@ pub fn frame_digits(cards: usize) -> usize {
 /// None is written FFFF.
 const NONE: u32 = 0xFFFF;
 
-/// The two running sums over the bytes before the check: second, first.
-pub fn check_of(bytes: &[u8]) -> u32 {
-    let mut first = 0u8;
-    let mut second = 0u8;
+/// The two running sums over the bytes before the check: second, first. The
+/// first starts at the card number plus one, the second at the session's
+/// lowest eight bits.
+fn check_of(session: u32, card: u32, bytes: &[u8]) -> u32 {
+    let mut first = (card as u8).wrapping_add(1);
+    let mut second = session as u8;
     for byte in bytes {
         first = first.wrapping_add(*byte);
         second = second.wrapping_add(first);
@@ -55,37 +57,34 @@ pub fn digits(number: u32, count: usize) -> String {
     format!("{number:0count$X}")
 }
 
-/// A line: its digits, their check and byte 10.
-pub fn finish_line(text: String) -> Vec<u8> {
-    let check = check_of(text.as_bytes());
-    let mut line = text.into_bytes();
-    line.extend_from_slice(digits(check, 4).as_bytes());
-    line.push(10);
-    line
+/// A line of this session and card: its digits, their check and byte 10.
+pub fn finish_line(session: u32, card: u32, text: &[u8]) -> Vec<u8> {
+    let check = check_of(session, card, text);
+    [text, digits(check, 4).as_bytes(), b"\n"].concat()
 }
 
 /// A header line from its fields, whatever they are.
 pub fn header_line(session: u32, card: u32, cards: u32, base: u32, count: u32) -> Vec<u8> {
     let text =
         digits(session, 8) + &digits(card, 2) + &digits(cards, 2) + &digits(base, 4) + &digits(count, 4);
-    finish_line(text)
+    finish_line(session, card, text.as_bytes())
 }
 
-/// A frame line.
-pub fn frame_line(frame: &Frame) -> Vec<u8> {
+/// A frame line in a sheet of this session and card.
+pub fn frame_line(session: u32, card: u32, frame: &Frame) -> Vec<u8> {
     let mut text = digits(frame.state, 4) + &digits(frame.change, 8);
     for entry in &frame.vector {
         text += &digits(entry.unwrap_or(NONE), 4);
     }
-    finish_line(text)
+    finish_line(session, card, text.as_bytes())
 }
 
 /// The writer of a sheet.
 pub fn write_sheet(sheet: &Sheet) -> Vec<u8> {
-    let count = sheet.frames.len() as u32;
-    let mut bytes = header_line(sheet.session, sheet.card as u32, sheet.cards as u32, sheet.base, count);
+    let (card, count) = (sheet.card as u32, sheet.frames.len() as u32);
+    let mut bytes = header_line(sheet.session, card, sheet.cards as u32, sheet.base, count);
     for frame in &sheet.frames {
-        bytes.extend(frame_line(frame));
+        bytes.extend(frame_line(sheet.session, card, frame));
     }
     bytes
 }
@@ -96,9 +95,9 @@ struct Input<'a> {
     at: usize,
 }
 
-impl Input<'_> {
-    /// The next line, of so many digits, without its check and byte 10.
-    fn line(&mut self, count: usize) -> Result<&[u8], Refusal> {
+impl<'a> Input<'a> {
+    /// The digits of the next line, so many with its check.
+    fn line(&mut self, count: usize) -> Result<&'a [u8], Refusal> {
         let rest = &self.bytes[self.at..];
         if rest.is_empty() {
             return Err(Refusal::WrongEnd);
@@ -106,12 +105,8 @@ impl Input<'_> {
         if rest.len() <= count || rest[count] != 10 || !rest[..count].iter().all(is_digit) {
             return Err(Refusal::WrongLine);
         }
-        let (before, check) = rest[..count].split_at(count - 4);
-        if value(check) != check_of(before) {
-            return Err(Refusal::WrongCheck);
-        }
         self.at += count + 1;
-        Ok(before)
+        Ok(&rest[..count])
     }
 
     fn at_end(&self) -> bool {
@@ -131,11 +126,22 @@ fn value(digits: &[u8]) -> u32 {
     })
 }
 
-/// A header read: the sheet still without frames, and its frame count.
+/// What stands before the check of a line of this session and card.
+fn checked(line: &[u8], session: u32, card: u32) -> Result<&[u8], Refusal> {
+    let (text, check) = line.split_at(line.len() - 4);
+    if value(check) != check_of(session, card, text) {
+        return Err(Refusal::WrongCheck);
+    }
+    Ok(text)
+}
+
+/// A header read: the sheet still without frames, and its frame count. Its
+/// check goes by the session and card that it names.
 fn read_header(input: &mut Input, due: usize, first: Option<usize>) -> Result<(Sheet, u32), Refusal> {
-    let text = input.line(HEADER_DIGITS)?;
-    let session = value(&text[0..8]);
-    let card = value(&text[8..10]) as usize;
+    let line = input.line(HEADER_DIGITS)?;
+    let session = value(&line[0..8]);
+    let card = value(&line[8..10]) as usize;
+    let text = checked(line, session, card as u32)?;
     let cards = value(&text[10..12]) as usize;
     let base = value(&text[12..16]);
     let count = value(&text[16..20]);
@@ -152,9 +158,9 @@ fn read_header(input: &mut Input, due: usize, first: Option<usize>) -> Result<(S
     Ok((Sheet { session, card, cards, base, frames: Vec::new() }, count))
 }
 
-/// The next frame of a sheet.
+/// The next frame of a sheet. Its check goes by the header's session and card.
 fn read_frame(input: &mut Input, sheet: &Sheet) -> Result<Frame, Refusal> {
-    let text = input.line(frame_digits(sheet.cards))?;
+    let text = checked(input.line(frame_digits(sheet.cards))?, sheet.session, sheet.card as u32)?;
     let entries: Vec<u32> = text[12..].chunks(4).map(value).collect();
     let frame = Frame {
         state: value(&text[0..4]),

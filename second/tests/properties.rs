@@ -27,6 +27,22 @@ fn random_lists() {
     ] {
         assert!(counts.numbers.contains_key(name), "{name} never came");
     }
+    demand_carried(&counts);
+}
+
+/// Each way of carrying a line came.
+fn demand_carried(counts: &Counts) {
+    for way in ["in place of", "in front of"] {
+        for name in [
+            format!("frame {way} another card's frame: refused 06"),
+            format!("header {way} another card's frame: refused 06"),
+            format!("header {way} another card's frame: refused 05"),
+            format!("frame {way} the next card's header: refused 06"),
+            format!("frame {way} the next card's header: refused 05"),
+        ] {
+            assert!(counts.numbers.contains_key(&name), "{name} never came");
+        }
+    }
 }
 
 #[test]
@@ -51,6 +67,8 @@ fn random_readouts() {
             "refusal {number} never came"
         );
     }
+    demand_carried(&counts);
+    assert!(counts.numbers.contains_key("frame in place of the next card's header: refused 07"));
 }
 
 /// A replay that gives change 3 a wrong number.

@@ -1,10 +1,11 @@
 //! Each refusal at least once, and the order they come in.
 
+use second::carried::*;
 use second::readouts::{largest, lines_of_two_kinds, padded};
 use second::refusal::Refusal;
 use second::replay::replay;
 use second::restart::line_text;
-use second::sheet::{finish_line, header_line, read_sheet};
+use second::sheet::{finish_line, header_line, read_sheet, read_sheets};
 
 /// The last answer line to some calls.
 fn last(calls: &str) -> String {
@@ -19,8 +20,9 @@ fn line(parts: &[Vec<u8>]) -> String {
     line_text(&parts.concat()).lines().next().unwrap_or("").to_string()
 }
 
+/// A frame of card 0 in session 1.
 fn frame(text: &str) -> Vec<u8> {
-    finish_line(text.to_string())
+    finish_line(1, 0, text.as_bytes())
 }
 
 #[test]
@@ -217,7 +219,8 @@ fn frames() {
 #[test]
 fn after_the_last_line() {
     let shared = |session, card, other: &str| {
-        [header_line(session, card, 2, 0, 1), frame(&format!("000100000001{other}"))].concat()
+        let frame = finish_line(session, card, format!("000100000001{other}").as_bytes());
+        [header_line(session, card, 2, 0, 1), frame].concat()
     };
     assert_eq!(line(&[shared(1, 0, "00000000"), shared(1, 1, "00000000")]), "0 1 1");
     assert_eq!(line(&[shared(1, 0, "0000FFFF"), shared(1, 1, "00000000")]), "refused 10");
@@ -237,9 +240,112 @@ fn too_long() {
     assert_eq!(read_sheet(&[48; 65_537], 0), Err(Refusal::TooLong));
 }
 
-/// What document 01's check cannot tell: a header read as a frame.
+/// What document 01's check could not tell: a header read as a frame. Now the
+/// sheet that lost its last frame is refused.
 #[test]
 fn lines_that_are_header_and_frame() {
     assert_eq!(line_text(&lines_of_two_kinds(false)), "0 48 48\n1 95 47\nsession 3145734\n");
-    assert_eq!(line_text(&lines_of_two_kinds(true)), "0 48 48\n1 95 48\nsession 3145734\n");
+    assert_eq!(line_text(&lines_of_two_kinds(true)), "refused 6\n");
+}
+
+/// Changes 1 and 2 wrote all cards: but for their checks the sheets have the
+/// same frames.
+fn alike(cards: usize) -> Vec<Line> {
+    let mut readout = Vec::new();
+    for card in 0..cards as u32 {
+        readout.extend(header_line(1, card, cards as u32, 0, 2));
+        for state in 1..=2u32 {
+            let text = format!("{state:04X}{state:08X}") + &format!("{:04X}", state - 1).repeat(cards);
+            readout.extend(finish_line(1, card, text.as_bytes()));
+        }
+    }
+    let sheets = read_sheets(&readout).unwrap_or_default();
+    assert_eq!(sheets.len(), cards);
+    lines_of(&sheets)
+}
+
+/// Wish 4: every frame at every place where a frame of another card is due.
+#[test]
+fn carried_frames() {
+    for cards in 2..=16 {
+        let lines = alike(cards);
+        let pairs = all_pairs(&lines, frame_to_frame);
+        assert_eq!(pairs.len(), 4 * cards * (cards - 1));
+        for (from, to) in pairs {
+            assert_eq!(line_text(&in_place_of(&lines, from, to)), "refused 6\n");
+            assert_eq!(line_text(&in_front_of(&lines, from, to)), "refused 6\n");
+        }
+    }
+}
+
+/// Header and frame have one length with two cards only.
+#[test]
+fn headers_and_frames_carried() {
+    for (cards, refused) in [(2, "refused 6\n"), (3, "refused 5\n"), (16, "refused 5\n")] {
+        let lines = alike(cards);
+        for pair in [header_to_frame as Pair, frame_to_header] {
+            for (from, to) in all_pairs(&lines, pair) {
+                assert_eq!(line_text(&in_place_of(&lines, from, to)), refused);
+                assert_eq!(line_text(&in_front_of(&lines, from, to)), refused);
+            }
+        }
+    }
+}
+
+/// A frame of session 256 can be a header of that session and its own card.
+#[test]
+fn a_frame_that_is_a_header_of_its_own_card() {
+    let frame = finish_line(256, 0, b"00010000000200000000");
+    let readout = [header_line(256, 0, 2, 0, 1), frame.clone(), header_line(256, 1, 2, 0, 0)];
+    assert_eq!(line(&readout), "0 1 0");
+    assert_eq!(line(&[header_line(256, 0, 2, 0, 0), frame]), "refused 7");
+}
+
+#[test]
+fn checks_by_session_and_card() {
+    let other = header_line(1, 1, 2, 0, 0);
+    let with = |session, card| {
+        let frame = finish_line(session, card, b"0001000000010000FFFF");
+        line(&[header_line(1, 0, 2, 0, 1), frame, other.clone()])
+    };
+    assert_eq!(with(1, 0), "0 1 1");
+    assert_eq!(with(0x101, 0), "0 1 1");
+    for (session, card) in [(0, 0), (2, 0), (1, 1), (1, 255), (0, 255)] {
+        assert_eq!(with(session, card), "refused 6", "{session} {card}");
+    }
+    for session in [0xFF, 0x100, 0x1FF, 0xFFFF_FF00] {
+        let frame = finish_line(session, 0, b"0001000000010000FFFF");
+        let ahead = header_line(session + 1, 1, 2, 0, 0);
+        assert_eq!(line(&[header_line(session, 0, 2, 0, 1), frame, ahead]), "0 1 1", "{session}");
+    }
+}
+
+/// 6 goes by the card that the header names, and comes before 7.
+#[test]
+fn headers_of_other_cards() {
+    assert_eq!(line(&[header_line(1, 255, 2, 0, 0)]), "refused 7");
+    assert_eq!(line(&[header_line(0, 255, 255, 0, 0)]), "refused 7");
+    let header = |card| Line { session: 1, card, is_header: true, bytes: header_line(1, card, 2, 0, 0) };
+    for name in [1, 2, 255] {
+        assert_eq!(line(&[naming(&header(0), name)]), "refused 6", "{name}");
+        assert_eq!(read_sheet(&naming(&header(0), name), name as usize), Err(Refusal::WrongCheck));
+    }
+    assert_eq!(line(&[header_line(1, 0, 2, 0, 0), naming(&header(1), 0)]), "refused 6");
+}
+
+/// A digit altered anywhere in a header, its card's digits among them.
+#[test]
+fn altered_digits_of_a_header() {
+    for session in [1, 0xFF, 0x100, 0xFFFF_FFFE] {
+        for card in 0..16 {
+            let header = header_line(session, card, 16, 0xEA5F, 0);
+            assert!(read_sheet(&header, card as usize).is_ok());
+            for (place, digit) in (0..24).flat_map(|place| b"0123456789ABCDEF".map(|digit| (place, digit))) {
+                let mut altered = header.clone();
+                altered[place] = digit;
+                let refused = read_sheet(&altered, card as usize) == Err(Refusal::WrongCheck);
+                assert_eq!(refused, altered != header, "{}", String::from_utf8_lossy(&altered));
+            }
+        }
+    }
 }

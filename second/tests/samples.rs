@@ -43,8 +43,8 @@ fn a_has_its_vectors() {
     ends(&(sample_a() + "frames 0\nframes 1\n"), "frames 2\n1 1 0 -\n2 3 1 0\nframes 1\n1 2 0 0\n");
     ends(
         &(sample_a() + "store 0 2\nsheet 0 75\nsheet 1 25\n"),
-        "sheet 75\n0000000100020000000281C5\n0001000000010000FFFF561A\n00020000000300010000A2C6\n\
-         sheet 25\n000000010102000000008AC4\n",
+        "sheet 75\n0000000100020000000296C6\n0001000000010000FFFF6B1B\n00020000000300010000B7C7\n\
+         sheet 25\n00000001010200000000B3C6\n",
     );
 }
 
@@ -134,8 +134,29 @@ fn an_ended_change_stands_between_framed_ones() {
 
 #[test]
 fn the_worked_read_out() {
-    let input = "0000000100020000000281C5\n0001000000010000FFFF561A\n00020000000300010000A2C6\n000000010102000000008AC4\n";
+    let input = "0000000100020000000296C6\n0001000000010000FFFF6B1B\n00020000000300010000B7C7\n00000001010200000000B3C6\n";
     assert_eq!(line_text(input.as_bytes()), "0 2 1\n1 0 0\nsession 2\n");
+}
+
+/// Wish 4: "Older sheets no longer read."
+#[test]
+fn the_worked_read_out_as_it_was() {
+    let input = "0000000100020000000281C5\n0001000000010000FFFF561A\n00020000000300010000A2C6\n000000010102000000008AC4\n";
+    assert_eq!(line_text(input.as_bytes()), "refused 6\n");
+}
+
+/// Wish 4: card 0's frame once more, where card 1's is due.
+#[test]
+fn a_frame_carried_from_card_0_to_card_1() {
+    let input = "0000000100020000000195C5\n0001000000010000FFFF6B1B\n00000001010200000001B4C7\n0001000000010000FFFF6B1B\n";
+    assert_eq!(line_text(input.as_bytes()), "refused 6\n");
+}
+
+/// A card already rolled has the check of the next session.
+#[test]
+fn the_sheet_of_a_rolled_card() {
+    let calls = sample_a() + &fixed(&[2, 0]) + "roll 0\nsheet 0 25\nsheet 1 25\n";
+    ends(&calls, "ok\nsheet 25\n00000002000200010000A7C6\nsheet 25\n00000001010200000000B3C6\n");
 }
 
 #[test]

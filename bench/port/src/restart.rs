@@ -29,8 +29,8 @@ fn line_at(bytes: &[u8], at: usize, length: usize) -> Result<&[u8], Refusal> {
     Ok(line)
 }
 
-fn check_line(line: &[u8], length: usize) -> Result<(), Refusal> {
-    refuse(check_of(&line[..length]) != number(&line[length..length + 4]), 6)
+fn check_line(session: u32, card: u32, line: &[u8], length: usize) -> Result<(), Refusal> {
+    refuse(check_of(session, card, &line[..length]) != number(&line[length..length + 4]), 6)
 }
 
 pub struct Readout {
@@ -53,7 +53,7 @@ fn header_at(bytes: &[u8], at: usize, due: u32, first: u32) -> Result<Header, Re
     let line = line_at(bytes, at, 20)?;
     let (session, card, cards) = (number(&line[..8]), number(&line[8..10]), number(&line[10..12]));
     let (base, count) = (number(&line[12..16]), number(&line[16..20]));
-    check_line(line, 20)?;
+    check_line(session, card, line, 20)?;
     let allowed = session != 0
         && card == due
         && card < cards
@@ -75,13 +75,14 @@ fn frame_at(
     bytes: &[u8],
     at: usize,
     card: usize,
-    cards: usize,
+    header: &Header,
     state: u32,
     last: &Frame,
 ) -> Result<Frame, Refusal> {
+    let cards = header.cards as usize;
     let length = 12 + cards * 4;
     let line = line_at(bytes, at, length)?;
-    check_line(line, length)?;
+    check_line(header.session, card as u32, line, length)?;
     let told = number(&line[..4]);
     let change = number(&line[4..12]);
     let mut entries = [0; WIDTH];
@@ -107,7 +108,7 @@ fn read_card(
     let mut last = Frame { change: 0, entries: [0; WIDTH] };
     let mut at = at;
     for state in header.base + 1..=header.base + header.count {
-        last = frame_at(bytes, at, card, cards, state, &last)?;
+        last = frame_at(bytes, at, card, header, state, &last)?;
         let place = place_in_ring(card, state);
         readout.changes[place] = last.change;
         readout.entries[place * WIDTH..][..WIDTH].copy_from_slice(&last.entries);

@@ -13,9 +13,9 @@ pub fn put_number(bytes: &mut [u8], width: usize, number: u32) {
     }
 }
 
-/// The two running sums, as a number.
-pub fn check_of(bytes: &[u8]) -> u32 {
-    let (mut first, mut second) = (0u8, 0u8);
+/// The two running sums of a line of this session and card, as a number.
+pub fn check_of(session: u32, card: u32, bytes: &[u8]) -> u32 {
+    let (mut first, mut second) = ((card as u8).wrapping_add(1), session as u8);
     for byte in bytes {
         first = first.wrapping_add(*byte);
         second = second.wrapping_add(first);
@@ -23,8 +23,8 @@ pub fn check_of(bytes: &[u8]) -> u32 {
     u32::from(second) * 256 + u32::from(first)
 }
 
-fn end_line(line: &mut [u8], length: usize) {
-    let check = check_of(&line[..length]);
+fn end_line(session: u32, card: u32, line: &mut [u8], length: usize) {
+    let check = check_of(session, card, &line[..length]);
     put_number(&mut line[length..], 4, check);
     line[length + 4] = 10;
 }
@@ -44,25 +44,26 @@ impl Cabinet {
         let width = 17 + cards * 4;
         let length = 25 + (stored - base) as usize * width;
         refuse(buffer.len() < length, 4)?;
-        self.put_header(card, &mut buffer[..25]);
+        let ahead = self.head.phase == Phase::Rolling && has(self.rolled, card);
+        let session = self.head.session + u32::from(ahead);
+        self.put_header(session, card, &mut buffer[..25]);
         let frames = buffer[25..length].chunks_exact_mut(width);
-        frames.zip(base + 1..).for_each(|(line, state)| self.put_frame(card as usize, state, line));
+        frames.zip(base + 1..).for_each(|(line, state)| self.put_frame(session, card, state, line));
         Ok(length)
     }
 
-    fn put_header(&self, card: u32, line: &mut [u8]) {
-        let ahead = self.head.phase == Phase::Rolling && has(self.rolled, card);
+    fn put_header(&self, session: u32, card: u32, line: &mut [u8]) {
         let (base, stored) = (self.base[card as usize], self.stored[card as usize]);
-        put_number(line, 8, self.head.session + u32::from(ahead));
+        put_number(line, 8, session);
         put_number(&mut line[8..], 2, card);
         put_number(&mut line[10..], 2, self.head.cards);
         put_number(&mut line[12..], 4, base);
         put_number(&mut line[16..], 4, stored - base);
-        end_line(line, 20);
+        end_line(session, card, line, 20);
     }
 
-    fn put_frame(&self, card: usize, state: u32, line: &mut [u8]) {
-        let place = place_in_ring(card, state);
+    fn put_frame(&self, session: u32, card: u32, state: u32, line: &mut [u8]) {
+        let place = place_in_ring(card as usize, state);
         let cards = self.head.cards as usize;
         put_number(line, 4, state);
         put_number(&mut line[4..], 8, self.makers[place]);
@@ -70,6 +71,6 @@ impl Cabinet {
             let told = if *entry == 0 { NONE } else { *entry - 1 };
             put_number(&mut line[12 + j * 4..], 4, told);
         }
-        end_line(line, 12 + cards * 4);
+        end_line(session, card, line, 12 + cards * 4);
     }
 }

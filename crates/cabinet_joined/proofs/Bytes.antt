@@ -1,22 +1,19 @@
 -- How many bytes the sheets of a cabinet that passes 28 have. Assumes nothing.
 use Prim.Native.Nat.{ℕ, zero, suc, _+_, _*_, _-_, _≤_, _<_, zero-le}
-use mathlib.Core.Path.{_≡_, refl, sym, _∙_, ap}
+use mathlib.Core.Path.{_≡_, ap}
 use mathlib.Core.Bool.{true}
 use mathlib.Core.List.{List, [], _∷_, _++_}
 use native.Mathlib.Omega.{arith}
-use lib.ListN.{length, replicate, length-append, length-map, length-replicate}
+use lib.ListN.{length, length-append}
 use borrow.Author.Tests.{lt-ltb, le-ltb}
 use Rattle.base_laws.specs.Below.{tabulate}
 use Rattle.base_laws.proofs.Below.{count-first}
 use Rattle.base_laws.proofs.Fill.{length-tabulate}
 use Rattle.sheet_digits.specs.declared.Sums.{Sums}
-use Rattle.sheet_digits.specs.Digits.{written}
-use Rattle.sheet_digits.proofs.Digits.{total, written-length, written-all}
-use Rattle.sheet_digits.proofs.Lines.{line-length}
 use Rattle.sheet_lines.specs.declared.Frame.{Frame}
-use Rattle.sheet_lines.specs.Format.{format, entryOf, formats}
-use Rattle.sheet_lines.specs.Lines.{startOf, headerLine, frameWidths, frameNumbers, frameLine}
-use Rattle.sheet_line_writer.proofs.Puts.{header-line-length}
+use Rattle.sheet_lines.specs.Format.{format, formats}
+use Rattle.sheet_lines.specs.Lines.{startOf, headerLine, frameLine}
+use Rattle.sheet_lines.proofs.Lengths.{header-line-length, frame-line-length}
 use Rattle.sheet_pages.specs.Pages.{framesBytes, pageBytes}
 use Rattle.theory_protocol.specs.Valid.{valid}
 use Rattle.theory_codec.specs.Sheets.{cardCount, sheetFrame, sheetOf}
@@ -26,17 +23,9 @@ use Rattle.cabinet.specs.declared.Cabinet.{Cabinet}
 use Rattle.cabinet.specs.View.{view}
 use Rattle.cabinet_sheet.proofs.Pages.{within}
 
-entries-total : (n : ℕ) → total (replicate n 4) ≡ n * 4
-entries-total zero = refl
-entries-total (suc n) = let e : total (replicate n 4) ≡ n * 4 = entries-total n in omega arith
-
 -- a frame line of n entries, of 16 at most
 frame-few : (start : Sums) (n state : ℕ) (fr : Frame) → length (fr .entries) ≡ n → n ≤ 16 → length (frameLine format start n state fr) ≤ 81
-unfolding frameLine
-frame-few start n state fr e few =
-    let ls : length (frameWidths format n) ≡ length (frameNumbers format state fr) = ap (λ (k : ℕ). suc (suc k)) (length-replicate n 4 ∙ sym (length-map (fr .entries) (entryOf 65535) ∙ e)) in
-    let t : length (written (frameWidths format n) (frameNumbers format state fr)) ≡ 12 + n * 4 = written-length (frameWidths format n) (frameNumbers format state fr) ls ∙ omega (arith, entries-total n) in
-    omega (arith, line-length start (12 + n * 4) (written (frameWidths format n) (frameNumbers format state fr)) [] (written-all (frameWidths format n) (frameNumbers format state fr)) t)
+frame-few start n state fr e few = omega (arith, frame-line-length format start n state fr (omega (arith, e)))
 
 frames-join : (start : Sums) (n state : ℕ) (xs ys : List Frame) → length (framesBytes format start n state (xs ++ ys)) ≡ length (framesBytes format start n state xs) + length (framesBytes format start n (state + length xs) ys)
 frames-join start n state [] ys = let z : state + 0 ≡ state = omega arith in omega (arith, ap (λ (k : ℕ). length (framesBytes format start n k ys)) z)

@@ -132,10 +132,11 @@ Fitting [] (v ∷ vs) = ⊥
 Fitting (k ∷ ks) [] = ⊥
 Fitting (k ∷ ks) (v ∷ vs) = (v < 16 ^ k) × Fitting ks vs
 
-pub written-length : (ks vs : List ℕ) → length ks ≡ length vs → length (written ks vs) ≡ total ks
-written-length [] vs e = refl
-written-length (k ∷ ks) [] e = absurd (omega arith)
-written-length (k ∷ ks) (v ∷ vs) e = length-append (digits k v) (written ks vs) ∙ ap₂ (λ (a b : ℕ). a + b) (digits-length k v) (written-length ks vs (omega arith))
+-- as many of the numbers as there are widths are written
+pub written-length : (ks vs : List ℕ) → length ks ≤ length vs → length (written ks vs) ≡ total ks
+written-length [] vs h = refl
+written-length (k ∷ ks) [] h = absurd (omega arith)
+written-length (k ∷ ks) (v ∷ vs) h = length-append (digits k v) (written ks vs) ∙ ap₂ (λ (a b : ℕ). a + b) (digits-length k v) (written-length ks vs (omega arith))
 
 pub written-all : (ks vs : List ℕ) → allDigits (written ks vs) ≡ true
 written-all [] vs = refl

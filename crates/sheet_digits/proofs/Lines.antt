@@ -1,4 +1,4 @@
--- Laws of lines: a line that is written passes, a line that passes is the line that is written, and a line with one altered byte does not pass. Assumes nothing.
+-- Laws of lines: a line that is written passes, a line that passes is the line that is written, a line with one altered byte does not pass, and none passes from two starts. Assumes nothing.
 use Prim.Native.Nat.{ℕ, zero, suc, _+_, _-_, _%_, _≤_, _<_}
 use mathlib.Core.Path.{_≡_, refl, sym, _∙_, ap}
 use mathlib.Core.Bool.{true, _&&_}
@@ -8,8 +8,8 @@ use native.Mathlib.Nat.{mod-add-mod, add-assoc}
 use native.Mathlib.Decide.{decLt}
 use native.Mathlib.Omega.{arith}
 use lib.Dec.{leb, eqb}
-use lib.ListN.{length, take, drop, getD, set, length-append, length-drop}
-use lib.Seq.{take-suc, take-add, take-at, drop-at, getD-at, take-length, length-take-le, take-set-le, take-set-lt, drop-set-lt, getD-set-same, getD-drop, getD-take}
+use lib.ListN.{length, take, drop, getD, set, length-append, length-drop, List·getD-append}
+use lib.Seq.{take-suc, take-add, take-at, drop-at, getD-at, take-length, length-take-le, take-set-le, take-set-lt, drop-set-lt, getD-set-same, getD-drop, getD-take, take-append-le, drop-append-le}
 use borrow.Author.Tests.{leb-true, eqb-true, le-leb, eq-eqb}
 use Rattle.base_laws.proofs.Logic.{test, and-left, and-right, and-intro}
 use Rattle.sheet_digits.specs.declared.Sums.{Sums}
@@ -233,3 +233,78 @@ module _
 
     pub altered : p < n + 5 → b ≡ getD input p 0
     altered h = by-cases (decLt p n) (in-body h) (λ l. by-cases (decLt p (n + 4)) (in-check h l) (at-end h))
+
+-- ---- another start
+
+-- a line that passes from two starts has starts whose first sums are the same as they wrap
+pub other-start : (start start′ : Sums) (n : ℕ) (input : List ℕ) → checked start n input ≡ true → checked start′ n input ≡ true → start .first % 256 ≡ start′ .first % 256
+unfolding checked
+other-start start start′ n input c c′ =
+    let bs = take n input in
+    let a = eqb-true (number (take 4 (drop n input))) (checkOf (summed start bs)) c in
+    let b = eqb-true (number (take 4 (drop n input))) (checkOf (summed start′ bs)) c′ in
+    let e : summed start bs .first % 256 ≡ summed start′ bs .first % 256 = check-first (summed start bs) (summed start′ bs) (sym a ∙ b) in
+    let w : (start .first + sumOf bs) % 256 ≡ (start′ .first + sumOf bs) % 256 = sym (first-sum start bs) ∙ e ∙ first-sum start′ bs in
+    omega arith
+
+-- starts with one first sum: the first sums stay the same, and the second as far apart as they were
+same-firsts : (s t : Sums) (bs : List ℕ) → s .first ≡ t .first → summed s bs .first ≡ summed t bs .first
+same-firsts s t [] e = e
+same-firsts s t (b ∷ bs) e = same-firsts (added s b) (added t b) bs (ap (λ (x : ℕ). (x + b) % 256) e)
+
+seconds-apart : (s t : Sums) (bs : List ℕ) → s .first ≡ t .first → (summed s bs .second + t .second) % 256 ≡ (summed t bs .second + s .second) % 256
+seconds-apart s t [] e = omega arith
+seconds-apart s t (b ∷ bs) e =
+    let f : (s .first + b) % 256 ≡ (t .first + b) % 256 = ap (λ (x : ℕ). (x + b) % 256) e in
+    shifted (summed (added s b) bs .second) (summed (added t b) bs .second) (s .second) (t .second) ((t .first + b) % 256)
+    (seconds-apart (added s b) (added t b) bs f ∙ ap (λ (x : ℕ). (summed (added t b) bs .second + (s .second + x) % 256) % 256) f)
+  where
+    inner : (x y : ℕ) → (x + y % 256) % 256 ≡ (x + y) % 256
+    inner x y = omega arith
+
+    cancelled : (a b f : ℕ) → (a + f) % 256 ≡ (b + f) % 256 → a % 256 ≡ b % 256
+    cancelled a b f e = omega arith
+
+    shifted : (x y s t f : ℕ) → (x + (t + f) % 256) % 256 ≡ (y + (s + f) % 256) % 256 → (x + t) % 256 ≡ (y + s) % 256
+    shifted x y s t f e =
+        cancelled (x + t) (y + s) f
+        (ap (λ (z : ℕ). z % 256) (add-assoc x t f) ∙ sym (inner x (t + f)) ∙ e ∙ inner y (s + f) ∙ ap (λ (z : ℕ). z % 256) (sym (add-assoc y s f)))
+
+check-second : (s t : Sums) → s .first ≡ t .first → checkOf s ≡ checkOf t → s .second ≡ t .second
+unfolding checkOf
+check-second s t f e = omega arith
+
+-- A line passes from one start alone, of all those within eight bits.
+pub one-start :
+    (s t : Sums) (n : ℕ) (input : List ℕ) →
+    s .first < 256 →
+    s .second < 256 →
+    t .first < 256 →
+    t .second < 256 →
+    checked s n input ≡ true →
+    checked t n input ≡ true →
+    s ≡ t
+unfolding checked
+one-start s t n input p q p′ q′ c c′ =
+    let bs = take n input in
+    let a = eqb-true (number (take 4 (drop n input))) (checkOf (summed s bs)) c in
+    let b = eqb-true (number (take 4 (drop n input))) (checkOf (summed t bs)) c′ in
+    let w : s .first % 256 ≡ t .first % 256 = other-start s t n input c c′ in
+    let f : s .first ≡ t .first = omega arith in
+    let g : summed s bs .second ≡ summed t bs .second = check-second (summed s bs) (summed t bs) (same-firsts s t bs f) (sym a ∙ b) in
+    let h : (summed s bs .second + t .second) % 256 ≡ (summed t bs .second + s .second) % 256 = seconds-apart s t bs f in
+    let k : s .second ≡ t .second = omega arith in
+    λ i. record { first = f i; second = k i }
+
+-- ---- what stands behind a line is not looked at
+
+module _ (n : ℕ) (line rest : List ℕ) (long : n + 5 ≤ length line) where
+  pub shaped-behind : shaped n (line ++ rest) ≡ shaped n line
+  unfolding shaped
+  shaped-behind =
+      rw (le-leb (n + 5) (length (line ++ rest)) (rw (length-append line rest) (omega arith)), le-leb (n + 5) (length line) long, take-append-le (n + 4) line rest (omega arith), List·getD-append line rest 0 (n + 4) (omega arith))
+
+  pub checked-behind : (start : Sums) → checked start n (line ++ rest) ≡ checked start n line
+  unfolding checked
+  checked-behind start =
+      rw (take-append-le n line rest (omega arith), drop-append-le n line rest (omega arith), take-append-le 4 (drop n line) rest (rw length-drop (omega arith)))

@@ -1,9 +1,9 @@
 -- Header and frame lines, written and read back, and read and written again, for any format. Assumes nothing.
-use Prim.Native.Nat.{ℕ, zero, suc, _+_, _*_, _-_, _%_, _^_, _≤_, _<_}
+use Prim.Native.Nat.{ℕ, suc, _+_, _-_, _%_, _^_, _≤_, _<_}
 use mathlib.Core.Path.{_≡_, refl, sym, _∙_, ap, ap₂}
 use mathlib.Core.Bool.{Bool, true, not, _&&_, _||_}
 use mathlib.Core.List.{List, [], _∷_, _++_, map, append-assoc}
-use native.Mathlib.Nat.{mod-lt, suc-mul, add-comm, zero-mul}
+use native.Mathlib.Nat.{mod-lt}
 use mathlib.Core.Logic.{_⊎_, inl, inr, by-cases}
 use native.Mathlib.Decide.{decLt, ℕ-discrete}
 use native.Mathlib.Omega.{arith}
@@ -17,7 +17,7 @@ use Rattle.base_refusal.specs.declared.Refusal.the-variants.{BadHeader, BadFram
 use Rattle.sheet_digits.specs.declared.Sums.{Sums}
 use Rattle.sheet_digits.specs.Digits.{isNumeral, isLetter, isDigit, number, numbers, written, digits, allDigits}
 use Rattle.sheet_digits.specs.Line.{added, summed, checkOf, sheetLine, shaped, checked}
-use Rattle.sheet_digits.proofs.Digits.{total, Fitting, written-length, written-all, numbers-written, written-numbers, number-take, all-getD}
+use Rattle.sheet_digits.proofs.Digits.{total, Fitting, written-all, numbers-written, written-numbers, number-take, all-getD}
 use Rattle.sheet_digits.proofs.Lines.{whole-shaped, shaped-whole, line-rest, line-shaped, line-checked, line-bytes, body-all, body-length, shape, altered}
 use Rattle.base_refusal.specs.declared.Reply.the-variants.{Done}
 use Rattle.sheet_lines.specs.declared.Header.{Header}
@@ -25,6 +25,7 @@ use Rattle.sheet_lines.specs.declared.Frame.{Frame}
 use Rattle.sheet_lines.specs.Format.{Format, Formats, format, formats, noneOf, heldBy, shownBy}
 use Rattle.sheet_lines.specs.Lines.{formatIn, formatFor, startOf, headerWidths, headerDigits, headerNumbers, headerLine, headerIn, headerAllowed, headerVerdict, frameWidths, frameDigits, frameNumbers, frameLine, stateIn, entriesIn, frameIn, entryAllowed, entriesAllowed, frameAllowed, frameVerdict}
 use Rattle.sheet_lines.proofs.Entries.{entry-back, entry-again, entry-small}
+use Rattle.sheet_lines.proofs.Lengths.{header-total, header-length, frame-total, frame-length}
 use Rattle.sheet_lines.proofs.Passed.{passes, header-passed, frame-passed, header-limits}
 
 -- a format whose limits fit its widths, and whose sums start within eight bits
@@ -38,7 +39,7 @@ pub record Valid (f : Format) : Type 0 where
 
 -- document 01's format is one
 pub format-valid : Valid format
-format-valid = record { cards = λ k h. omega arith; few = lit< tt; frames = lit< tt; states = lit< tt; first = λ c s. lit< tt; second = λ c s. lit< tt }
+format-valid = record { cards = λ k h. omega arith; few = lit< tt; frames = lit< tt; states = lit< tt; first = λ c s. mod-lt (c + 1) (lit< tt); second = λ c s. mod-lt s (lit< tt) }
 
 -- the sums stay within eight bits, and the check within 4 digits
 first-small : (s : Sums) (bs : List ℕ) → s .first < 256 → summed s bs .first < 256
@@ -112,17 +113,11 @@ header-same g h e =
       count = ap (λ (l : List ℕ). getD l 4 0) e i;
     }
 
-header-total : (f : Format) → total (headerWidths f) ≡ headerDigits f
-header-total f = omega arith
-
 module _ (f : Format) (s : Valid f) (due first : ℕ) (h : Header) (rest : List ℕ) (a : headerAllowed f due first h ≡ true) (session : h .session < 16 ^ 8) where
   header-fits : Fitting (headerWidths f) (headerNumbers h)
   header-fits =
       let l = header-limits f due first h a in
       (session, (omega (arith, l .below, l .cards, s .few), (s .cards (h .cards) (l .cards), (omega (arith, l .states, s .states), (omega (arith, l .count, s .frames), tt)))))
-
-  header-length : length (written (headerWidths f) (headerNumbers h)) ≡ headerDigits f
-  header-length = written-length (headerWidths f) (headerNumbers h) refl ∙ header-total f
 
   -- what is written as a header reads back as that header
   pub header-back : headerIn f (headerLine f h ++ rest) ≡ h
@@ -138,7 +133,7 @@ module _ (f : Format) (s : Valid f) (due first : ℕ) (h : Header) (rest : List 
 
   pub header-rest : drop (headerDigits f + 5) (headerLine f h ++ rest) ≡ rest
   unfolding headerLine
-  header-rest = line-rest (startOf f h) (headerDigits f) (written (headerWidths f) (headerNumbers h)) rest (written-all (headerWidths f) (headerNumbers h)) header-length
+  header-rest = line-rest (startOf f h) (headerDigits f) (written (headerWidths f) (headerNumbers h)) rest (written-all (headerWidths f) (headerNumbers h)) (header-length f h)
 
   -- and is accepted
   pub header-accepted : headerVerdict f due first (headerLine f h ++ rest) ≡ Done
@@ -146,11 +141,11 @@ module _ (f : Format) (s : Valid f) (due first : ℕ) (h : Header) (rest : List 
   header-accepted = rw header-back (passes BadHeader (shaped-whole (headerDigits f) (headerLine f h ++ rest) well-shaped) well-checked a)
     where
       well-shaped : shaped (headerDigits f) (headerLine f h ++ rest) ≡ true
-      well-shaped = line-shaped (startOf f h) (headerDigits f) (written (headerWidths f) (headerNumbers h)) rest (written-all (headerWidths f) (headerNumbers h)) header-length
+      well-shaped = line-shaped (startOf f h) (headerDigits f) (written (headerWidths f) (headerNumbers h)) rest (written-all (headerWidths f) (headerNumbers h)) (header-length f h)
 
       well-checked : checked (startOf f h) (headerDigits f) (headerLine f h ++ rest) ≡ true
       well-checked =
-          line-checked (startOf f h) (headerDigits f) (written (headerWidths f) (headerNumbers h)) rest (written-all (headerWidths f) (headerNumbers h)) header-length
+          line-checked (startOf f h) (headerDigits f) (written (headerWidths f) (headerNumbers h)) rest (written-all (headerWidths f) (headerNumbers h)) (header-length f h)
           (check-small (startOf f h) (written (headerWidths f) (headerNumbers h)) (s .first (h .card) (h .session)) (s .second (h .card) (h .session)))
 
 -- a header line that is accepted is the line that is written of what was read
@@ -172,13 +167,6 @@ frame-numbers : (f : Format) (n : ℕ) (input : List ℕ) → frameNumbers f (st
 unfolding frameIn stateIn entriesIn
 frame-numbers f n input =
     rw (entries-again (f .short) (noneOf f) (numbers (replicate n (f .width)) (drop (f .width + 8) input)), drop-drop 8 (f .width) input)
-
-total-replicate : (n k : ℕ) → total (replicate n k) ≡ n * k
-total-replicate zero k = sym (zero-mul k)
-total-replicate (suc n) k = ap (λ (m : ℕ). k + m) (total-replicate n k) ∙ sym (suc-mul n k ∙ add-comm (n * k) k)
-
-frame-total : (f : Format) (n : ℕ) → total (frameWidths f n) ≡ frameDigits f n
-frame-total f n = rw (total-replicate n (f .width)) (omega arith)
 
 module _ (f : Format) (s : Valid f) (start : Sums) (p : start .first < 256) (q : start .second < 256) (card n state : ℕ) (last fr : Frame) (rest : List ℕ)
     (a : frameAllowed f card n state last state fr ≡ true) (l : length (fr .entries) ≡ n) (change : fr .change < 16 ^ 8) (r : state ≤ f .states)
@@ -205,11 +193,8 @@ module _ (f : Format) (s : Valid f) (start : Sums) (p : start .first < 256) (q :
     frame-fits =
         (omega (arith, s .states), (change, rw (← l) (entries-fit (f .short) (f .width) (noneOf f) (fr .entries) (omega (arith, s .states)) (within-less (f .states) (noneOf f) (fr .entries) none-room frame-within))))
 
-    frame-count : length (frameWidths f n) ≡ length (frameNumbers f state fr)
-    frame-count = ap (λ (k : ℕ). suc (suc k)) (length-replicate n (f .width) ∙ sym l ∙ sym (length-map (fr .entries) (shownBy (f .short) (noneOf f))))
-
-    frame-length : length (written (frameWidths f n) (frameNumbers f state fr)) ≡ frameDigits f n
-    frame-length = written-length (frameWidths f n) (frameNumbers f state fr) frame-count ∙ frame-total f n
+    frame-digits : length (written (frameWidths f n) (frameNumbers f state fr)) ≡ frameDigits f n
+    frame-digits = frame-length f n state fr (omega (arith, l))
 
     frame-reads : numbers (frameWidths f n) (frameLine f start n state fr ++ rest) ≡ frameNumbers f state fr
     unfolding frameLine sheetLine
@@ -237,18 +222,18 @@ module _ (f : Format) (s : Valid f) (start : Sums) (p : start .first < 256) (q :
 
     pub frame-rest : drop (frameDigits f n + 5) (frameLine f start n state fr ++ rest) ≡ rest
     unfolding frameLine
-    frame-rest = line-rest start (frameDigits f n) (written (frameWidths f n) (frameNumbers f state fr)) rest (written-all (frameWidths f n) (frameNumbers f state fr)) frame-length
+    frame-rest = line-rest start (frameDigits f n) (written (frameWidths f n) (frameNumbers f state fr)) rest (written-all (frameWidths f n) (frameNumbers f state fr)) frame-digits
 
     pub frame-accepted : frameVerdict f start card n state last (frameLine f start n state fr ++ rest) ≡ Done
     unfolding frameVerdict frameLine
     frame-accepted = rw (state-back, frame-back) (passes BadFrame (shaped-whole (frameDigits f n) (frameLine f start n state fr ++ rest) well-shaped) well-checked a)
       where
         well-shaped : shaped (frameDigits f n) (frameLine f start n state fr ++ rest) ≡ true
-        well-shaped = line-shaped start (frameDigits f n) (written (frameWidths f n) (frameNumbers f state fr)) rest (written-all (frameWidths f n) (frameNumbers f state fr)) frame-length
+        well-shaped = line-shaped start (frameDigits f n) (written (frameWidths f n) (frameNumbers f state fr)) rest (written-all (frameWidths f n) (frameNumbers f state fr)) frame-digits
 
         well-checked : checked start (frameDigits f n) (frameLine f start n state fr ++ rest) ≡ true
         well-checked =
-            line-checked start (frameDigits f n) (written (frameWidths f n) (frameNumbers f state fr)) rest (written-all (frameWidths f n) (frameNumbers f state fr)) frame-length
+            line-checked start (frameDigits f n) (written (frameWidths f n) (frameNumbers f state fr)) rest (written-all (frameWidths f n) (frameNumbers f state fr)) frame-digits
             (check-small start (written (frameWidths f n) (frameNumbers f state fr)) p q)
 
 -- a frame line that is accepted is the line that is written of what was read
@@ -357,7 +342,7 @@ told-kept F input p b (inr h) =
     ap (λ (i : ℕ). F (number (take 2 (drop 10 (set input i b))))) e ∙ ap (λ (x : List ℕ). F (number (take 2 x))) (drop-set-add 10 input (p - 10) b) ∙ ap (λ (x : List ℕ). F (number x)) (take-set-le 2 (drop 10 input) (p - 10) b q)
 
 -- no two lines of different lengths begin in bytes that agree at the shorter one's end
-not-both : (n m : ℕ) (xs ys : List ℕ) → n < m → shaped n xs ≡ true → shaped m ys ≡ true → getD xs (n + 4) 0 ≡ getD ys (n + 4) 0 → ⊥
+pub not-both : (n m : ℕ) (xs ys : List ℕ) → n < m → shaped n xs ≡ true → shaped m ys ≡ true → getD xs (n + 4) 0 ≡ getD ys (n + 4) 0 → ⊥
 unfolding isDigit isNumeral isLetter
 not-both n m xs ys h s t e =
     let a = shape n xs s in

@@ -1,21 +1,20 @@
 -- Lines as runs of stores, for any format. Assumes nothing.
-use Prim.Native.Nat.{ℕ, zero, suc, _+_, _*_, _-_, _≤_, _<_}
-use mathlib.Core.Path.{_≡_, refl, sym, _∙_, ap, ap₂}
+use Prim.Native.Nat.{ℕ, suc, _+_, _*_, _-_, _≤_, _<_}
+use mathlib.Core.Path.{_≡_, refl, sym, _∙_, ap}
 use mathlib.Core.List.{List, [], _∷_, _++_, map, append-assoc, append-nil}
-use native.Mathlib.Nat.{suc-mul, zero-mul, add-comm}
 use native.Mathlib.Omega.{arith}
-use lib.ListN.{length, take, drop, getD, replicate, length-append, length-map, length-replicate}
+use lib.ListN.{length, take, drop, getD, replicate, length-append}
 use lib.Seq.{sets, drop-cons}
 use Rattle.base_laws.proofs.Seq.{sets-append, sets-part}
 use Rattle.sheet_digits.specs.declared.Sums.{Sums}
 use Rattle.sheet_digits.specs.Digits.{digits, written}
 use Rattle.sheet_digits.specs.Line.{summed, checkOf, sheetLine}
-use Rattle.sheet_digits.proofs.Digits.{digits-length, written-length, written-all, total}
-use Rattle.sheet_digits.proofs.Lines.{line-length}
+use Rattle.sheet_digits.proofs.Digits.{digits-length}
 use Rattle.sheet_lines.specs.declared.Header.{Header}
 use Rattle.sheet_lines.specs.declared.Frame.{Frame}
 use Rattle.sheet_lines.specs.Format.{Format, noneOf, shownBy}
 use Rattle.sheet_lines.specs.Lines.{headerLine, headerDigits, headerWidths, headerNumbers, startOf, frameDigits, frameLine, frameWidths, frameNumbers}
+use Rattle.sheet_lines.proofs.Lengths.{header-length, frame-length}
 
 -- a run stored behind a run
 pub next-put : (b : List ℕ) {b₁ b₂ : List ℕ} (at p : ℕ) (xs ys : List ℕ) → b₁ ≡ sets b at xs → p ≡ at + length xs → b₂ ≡ sets b₁ p ys → b₂ ≡ sets b at (xs ++ ys)
@@ -59,9 +58,6 @@ five-puts b at k v w x y z lv lw lx ly p q r s t =
     let e : v ++ w ++ x ++ y ++ z ≡ v ++ (w ++ (x ++ (y ++ (z ++ [])))) = simp (append-assoc, append-nil) in
     five ∙ ap (sets b at) e
 
-header-length : (f : Format) (h : Header) → length (written (headerWidths f) (headerNumbers h)) ≡ headerDigits f
-header-length f h = written-length (headerWidths f) (headerNumbers h) refl ∙ omega arith
-
 pub header-put :
     (f : Format) (b : List ℕ) {b₁ b₂ b₃ b₄ b₅ b₆ : List ℕ} (at : ℕ) (h : Header) (start : Sums) →
     at + headerDigits f + 5 ≤ length b →
@@ -97,24 +93,6 @@ entry-put w show b {b₁} es at n j h k e =
     go : (rest : List ℕ) → at + (j + 1) * w ≡ at + j * w + w → sets b₁ (at + (j + 1) * w) rest ≡ sets b (at + j * w) (digits w (show (getD es j 0)) ++ rest)
     go rest q = rw (e, q) (sym (rw (sets-append (digits w (show (getD es j 0))) b (at + j * w) rest, digits-length w (show (getD es j 0)))))
 
--- as many of the numbers as there are widths are written
-written-first : (ks vs : List ℕ) → length ks ≤ length vs → length (written ks vs) ≡ total ks
-written-first [] vs h = refl
-written-first (k ∷ ks) [] h = absurd (omega arith)
-written-first (k ∷ ks) (v ∷ vs) h = length-append (digits k v) (written ks vs) ∙ ap₂ (λ (a b : ℕ). a + b) (digits-length k v) (written-first ks vs (omega arith))
-
-total-replicate : (n k : ℕ) → total (replicate n k) ≡ n * k
-total-replicate zero k = sym (zero-mul k)
-total-replicate (suc n) k = ap (λ (m : ℕ). k + m) (total-replicate n k) ∙ sym (suc-mul′ n k)
-  where
-    suc-mul′ : (n k : ℕ) → suc n * k ≡ k + n * k
-    suc-mul′ n k = suc-mul n k ∙ add-comm (n * k) k
-
-frame-length : (f : Format) (n state : ℕ) (next : Frame) → length (next .entries) ≡ 16 → n ≤ 16 → length (written (frameWidths f n) (frameNumbers f state next)) ≡ frameDigits f n
-frame-length f n state next l h =
-    let r : length {A = ℕ} (replicate n (f .width)) ≤ length (map (shownBy (f .short) (noneOf f)) (next .entries)) = rw (length-replicate, length-map, l) h in
-    written-first (frameWidths f n) (frameNumbers f state next) (omega arith) ∙ rw (total-replicate n (f .width)) (omega arith)
-
 pub frame-put :
     (f : Format) (b : List ℕ) {b₁ b₂ b₃ b₄ : List ℕ} (at n : ℕ) (start : Sums) (state : ℕ) (next : Frame) {all : ℕ} →
     all ≡ noneOf f →
@@ -130,7 +108,7 @@ unfolding frameLine
 frame-put f b at n start state next y l h k p q r z =
     let w = f .width in
     let body : digits w state ++ digits 8 (next .change) ++ written (replicate n w) (map (shownBy (f .short) (noneOf f)) (next .entries)) ≡ written (frameWidths f n) (frameNumbers f state next) = append-assoc (digits w state) (digits 8 (next .change)) (written (replicate n w) (map (shownBy (f .short) (noneOf f)) (next .entries))) in
-    line-ended b start at (frameDigits f n) (written (frameWidths f n) (frameNumbers f state next)) (frame-length f n state next l h) (omega arith)
+    line-ended b start at (frameDigits f n) (written (frameWidths f n) (frameNumbers f state next)) (frame-length f n state next (omega arith)) (omega arith)
     (next-put b at (at + (w + 8)) (digits w state ++ digits 8 (next .change)) (written (replicate n w) (map (shownBy (f .short) (noneOf f)) (next .entries)))
     (next-put b at (at + w) (digits w state) (digits 8 (next .change)) p (rw (digits-length w state)) q) (rw (length-append (digits w state) (digits 8 (next .change)), digits-length w state)) (rw y at r)
     ∙ ap (sets b at) body)
@@ -145,12 +123,3 @@ entries-begin w show b es at n =
 
 pub entries-done : (w : ℕ) (show : ℕ → ℕ) (b es : List ℕ) (at n j : ℕ) → n ≤ j → sets b (at + j * w) (written (replicate (n - j) w) (map show (drop j es))) ≡ b
 entries-done w show b es at n j h = let m : n - j ≡ 0 = omega arith in rw m
-
-pub header-line-length : (f : Format) (h : Header) → length (headerLine f h) ≡ headerDigits f + 5
-unfolding headerLine
-header-line-length f h = line-length (startOf f h) (headerDigits f) (written (headerWidths f) (headerNumbers h)) [] (written-all (headerWidths f) (headerNumbers h)) (header-length f h)
-
-pub frame-line-length : (f : Format) (start : Sums) (n state : ℕ) (next : Frame) → length (next .entries) ≡ 16 → n ≤ 16 → length (frameLine f start n state next) ≡ frameDigits f n + 5
-unfolding frameLine
-frame-line-length f start n state next l h =
-    line-length start (frameDigits f n) (written (frameWidths f n) (frameNumbers f state next)) [] (written-all (frameWidths f n) (frameNumbers f state next)) (frame-length f n state next l h)

@@ -1,14 +1,14 @@
 -- What an accepted line tells, for any format. Assumes nothing.
 use Prim.Native.Nat.{ℕ, _+_, _≤_, _<_}
-use mathlib.Core.Path.{_≡_, refl}
+use mathlib.Core.Path.{_≡_, refl, ap}
 use mathlib.Core.Bool.{Bool, true, false, not, _&&_, _||_}
 use mathlib.Core.List.{List}
 use native.Mathlib.Omega.{arith}
 use lib.Dec.{leb, ltb, eqb}
-use borrow.Author.Tests.{leb-true, ltb-true, eqb-true, eqb-false}
+use borrow.Author.Tests.{leb-true, ltb-true, eqb-true, eqb-false, ne-eqb, eq-eqb, lt-ltb, le-leb}
 use Rattle.base_refusal.specs.declared.Refusal.{Refusal}
 use Rattle.base_refusal.specs.declared.Refusal.the-variants.{BadHeader, BadFrame}
-use Rattle.base_laws.proofs.Logic.{and-left, and-right, not-true}
+use Rattle.base_laws.proofs.Logic.{and-left, and-right, and-intro, not-true}
 use Rattle.sheet_digits.specs.declared.Sums.{Sums}
 use Rattle.sheet_digits.specs.declared.Line.{Line}
 use Rattle.sheet_digits.specs.declared.Line.the-variants.{Whole, Fault}
@@ -68,6 +68,14 @@ header-limits f due first h e =
       count = leb-true (h .count) (f .frames) (and-left i j e₅);
       states = leb-true (h .base + h .count) (f .states) (and-right i j e₅);
     }
+
+-- a header that passes beside one first sheet passes beside any of as many cards, and as the first
+pub header-beside : (f : Format) (due first other : ℕ) (h : Header) → headerAllowed f due first h ≡ true → (eqb other 0 || eqb (cardsOf f h) other) ≡ true → headerAllowed f due other h ≡ true
+unfolding headerAllowed
+header-beside f due first other h e g =
+    let l = header-limits f due first h e in
+    and-intro (ap not (ne-eqb (h .session) 0 (l .session)))
+    (and-intro (eq-eqb (h .card) due (l .card)) (and-intro (lt-ltb (h .card) (cardsOf f h) (l .below)) (and-intro (le-leb (cardsOf f h) (f .cards) (l .cards)) (and-intro g (and-intro (le-leb (h .count) (f .frames) (l .count)) (le-leb (h .base + h .count) (f .states) (l .states)))))))
 
 module _ (f : Format) (due first : ℕ) (input : List ℕ) (e : headerVerdict f due first input ≡ Done) where
   pub header-passed : Passed (shapeOf (headerDigits f) input) (checked (startOf f (headerIn f input)) (headerDigits f) input) (headerAllowed f due first (headerIn f input))

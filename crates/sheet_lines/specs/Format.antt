@@ -1,5 +1,5 @@
 -- What a sheet's format leaves open, as parameters, and document 01's choice of them; entries as they are held and as they are written.
-use Prim.Native.Nat.{ℕ, _+_, _-_, _^_, _≤_}
+use Prim.Native.Nat.{ℕ, _+_, _-_, _%_, _^_, _≤_, _<_}
 use mathlib.Core.Path.{_≡_}
 use mathlib.Core.Bool.{Bool, false, cond}
 use lib.Dec.{eqb}
@@ -23,17 +23,17 @@ pub record Format : Type 0 where
   -- where the two sums of a sheet's checks start, from its card and session
   pub start : ℕ → ℕ → Sums
 
--- both sums "from 0"
-abbrev pub fromZero : ℕ → ℕ → Sums
-fromZero card session = record { first = 0; second = 0 }
+-- "The first sum now starts at the card number plus one, the second at the session's lowest eight bits": eight bits both, so that card 255, which a header can name, starts at 0
+abbrev pub fromSheet : ℕ → ℕ → Sums
+fromSheet card session = record { first = (card + 1) % 2 ^ 8; second = session % 2 ^ 8 }
 
 -- document 01's format: state numbers of 4 digits, 16 cards, 48 frames, states to 60,000
 abbrev pub format : Format
-format = record { width = 4; cards = mostCards; frames = mostInHand; states = lastState; short = false; unraised = λ k. k; start = fromZero }
+format = record { width = 4; cards = mostCards; frames = mostInHand; states = lastState; short = false; unraised = λ k. k; start = fromSheet }
 
 -- the format of a layout: what readers and writers of lines are told of it
 abbrev pub formatOf : Layout → Format
-formatOf l = record { width = l .width; cards = mostCards; frames = mostInHand; states = l .states; short = l .short; unraised = λ k. k - l .raise; start = fromZero }
+formatOf l = record { width = l .width; cards = mostCards; frames = mostInHand; states = l .states; short = l .short; unraised = λ k. k - l .raise; start = fromSheet }
 
 -- a layout whose numbers are those of its width
 pub record Fits (l : Layout) : Type 0 where
@@ -52,6 +52,12 @@ Formats = ℕ → Format
 -- document 01 has one format
 abbrev pub formats : Formats
 formats told = format
+
+-- Lines of two sheets are told apart: sums that start alike are of one card, of those that two digits can name, and of sessions with the same lowest eight bits; and below the greatest number of cards no first sum starts at 0.
+pub record Apart (F : Formats) : Type 0 where
+  pub cards : (told other c d session next : ℕ) → c < 16 ^ 2 → d < 16 ^ 2 → F told .start c session .first ≡ F other .start d next .first → c ≡ d
+  pub sessions : (told other c d session next : ℕ) → F told .start c session .second ≡ F other .start d next .second → session % 2 ^ 8 ≡ next % 2 ^ 8
+  pub from-one : (told c session : ℕ) → c < F told .cards → 1 ≤ F told .start c session .first
 
 -- the entry that says none: FFFF in 4 digits
 abbrev pub noneOf : Format → ℕ

@@ -93,7 +93,7 @@ pub fn start_of(card: u32, session: u32) -> Sums
     ensures { λ r. ⌜ r ≡ format .start card session ⌝ }
 {
     Sums {
-        first: 0,
-        second: 0,
+        first: ((card % 256 + 1) % 256) as u8,
+        second: (session % 256) as u8,
     }
 }

@@ -23,7 +23,7 @@ use Rattle.sheet_lines.specs.declared.Frame.{Frame}
 use Rattle.sheet_lines.specs.Format.{Format, formats, noneOf, shownBy}
 use Rattle.sheet_lines.specs.Lines.{cardsOf, formatFor, startOf, headerDigits, frameDigits, frameLine, headerLine, headerAllowed, noFrame}
 use Rattle.sheet_lines.proofs.Passed.{header-limits}
-use Rattle.sheet_line_writer.proofs.Puts.{frame-line-length, header-line-length}
+use Rattle.sheet_lines.proofs.Lengths.{frame-line-length, header-line-length}
 use Rattle.sheet_pages.specs.Pages.{framesBytes, bytesIn, pageBytes}
 use Rattle.sheet_pages.specs.Ring.{ringFrame, ringPage}
 use Rattle.sheet_page_writer.specs.declared.Written.{Written}
@@ -67,7 +67,7 @@ module _ (f : Format) (start : Sums) (n base count : ℕ) (g : ℕ → Frame) wh
       let m : count - k ≡ suc (count - (k + 1)) = omega arith in
       let c : base + 1 + (k + 1) ≡ base + 1 + k + 1 = omega arith in
       let line = frameLine f start n (base + 1 + k) (g k) in
-      let z : at + (frameDigits f n + 5) ≡ at + length line = ap (λ (x : ℕ). at + x) (sym (frame-line-length f start n (base + 1 + k) (g k) w few)) in
+      let z : at + (frameDigits f n + 5) ≡ at + length line = ap (λ (x : ℕ). at + x) (sym (frame-line-length f start n (base + 1 + k) (g k) (omega arith))) in
       rw (e, q, st, z, m, c) (sym (sets-append line b at (framesBytes f start n (base + 1 + k + 1) (run g (k + 1) (count - (k + 1))))))
 
   pub writing-none : (k : ℕ) → count ≤ k → writing k ≡ []
@@ -87,7 +87,7 @@ module _ (f : Format) (start : Sums) (n base count : ℕ) (g : ℕ → Frame) wh
   run-length few l i zero state = sym (zero-mul (frameDigits f n + 5))
   run-length few l i (suc k) state =
       length-append (frameLine f start n state (g i)) (framesBytes f start n (state + 1) (run g (i + 1) k))
-      ∙ rw (frame-line-length f start n state (g i) (l i) few, run-length few l (i + 1) k (state + 1), suc-mul k (frameDigits f n + 5)) (omega arith)
+      ∙ rw (frame-line-length f start n state (g i) (omega (arith, l i)), run-length few l (i + 1) k (state + 1), suc-mul k (frameDigits f n + 5)) (omega arith)
 
   frames-length : n ≤ 16 → ((k : ℕ) → length (g k .entries) ≡ 16) → length (framesBytes f start n (base + 1) (tabulate count g)) ≡ count * (frameDigits f n + 5)
   frames-length few l = rw (← run-all g count) (run-length few l 0 count (base + 1))

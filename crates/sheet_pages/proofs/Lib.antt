@@ -5,3 +5,6 @@ pub mod Back
 pub mod Read
 pub mod Whole
 pub mod Short
+pub mod Due
+pub mod Length
+pub mod Stops

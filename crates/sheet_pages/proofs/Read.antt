@@ -33,7 +33,7 @@ frames-read f start card n (suc k) state last input e =
     rw (a .0) (record { allowed = and-intro (state-is f start card n state last input (a .0)) (g .allowed); formed = (entries-all f n input, change-fits f start card n state last input (a .0), g .formed); count = ap suc (g .count) })
 
 -- a page whose header and frames were accepted
-page-read :
+pub page-read :
     (f : Format) (due first : ℕ) (input : List ℕ) →
     headerVerdict f due first input ≡ Done →
     framesOf f (headerIn f input) input .verdict ≡ Done →

@@ -1,4 +1,4 @@
--- Sheets and read-outs: written and read back, read and written again, one byte altered, one frame too few; for any format, any number of entries and any width.
+-- Sheets and read-outs: written and read back, read and written again, one byte altered, frames too few; for any format, any number of entries and any width.
 -- Assumes nothing.
 use Prim.Native.Nat.{ℕ, zero, suc, _+_, _-_, _≤_, _<_}
 use mathlib.Core.Path.{_≡_, refl, sym, _∙_, ap}
@@ -126,7 +126,7 @@ with-both (Refused r) w h fs input next e = let z : _≡_ {A = ℕ} 0 1 = cc in 
 with-both Done (Refused r) h fs input next e = let z : _≡_ {A = ℕ} 0 1 = cc in absurd (omega arith)
 with-both Done Done h fs input next e = (refl, refl, e)
 
-frames-again :
+pub frames-again :
     (f : Format) (start : Sums) (card n k state : ℕ) (last : Frame) (input : List ℕ) →
     readFrames f start card n k state last input .verdict ≡ Done →
     framesBytes f start n state (readFrames f start card n k state last input .frames) ++ readFrames f start card n k state last input .rest ≡ input
@@ -271,18 +271,20 @@ altered-refused F t all due input p b h o e =
     absurd (sheet-altered F t due 0 (λ cards rest. moreSheets F (cond all (cards - 1) 0) (due + 1) cards rest) input p b (λ cards rest q. more-altered F t (cond all (cards - 1) 0) (due + 1) cards rest q b) (record { inside = h; other = o }) e g))
     (λ (x : (r : Refusal) × (readSheets F all due (set input p b) .verdict ≡ Refused r)). x) (accepts-or (readSheets F all due (set input p b) .verdict))
 
--- ---- one frame too few
+-- ---- frames too few
 
--- Frames within the limits, with one more declared: what stands where the next frame is due decides. The frames before it were read, and the verdict is that line's.
-pub one-frame-short :
-    (f : Format) (s : Valid f) (start : Sums) → start .first < 256 → start .second < 256 → (card n : ℕ) (frs : List Frame) (state : ℕ) (last : Frame) (rest : List ℕ) {r : Refusal} →
+-- Frames within the limits, with more declared: what stands where the next frame is due decides. The frames before it were read, and the verdict is that line's.
+pub frames-short :
+    (f : Format) (s : Valid f) (start : Sums) → start .first < 256 → start .second < 256 → (card n : ℕ) (frs : List Frame) (count state : ℕ) (last : Frame) (rest : List ℕ) {r : Refusal} →
+    length frs < count →
     framesAllowed f card n state last frs ≡ true →
     Formed n frs →
     state + length frs ≤ suc (f .states) →
     frameVerdict f start card n (state + length frs) (lastOf last frs) rest ≡ Refused r →
-    readFrames f start card n (length frs + 1) state last (framesBytes f start n state frs ++ rest) ≡ record { frames = frs; verdict = Refused r; rest = rest }
-one-frame-short f s start p q card n frs state last rest {r} a m b e =
-    frames-back f s start p q card n frs 1 state last rest a m b ∙ rw e (λ i. record { frames = append-nil frs i; verdict = Refused r; rest = rest })
+    readFrames f start card n count state last (framesBytes f start n state frs ++ rest) ≡ record { frames = frs; verdict = Refused r; rest = rest }
+frames-short f s start p q card n frs count state last rest {r} l a m b e =
+    let k : count ≡ length frs + suc (count - length frs - 1) = omega arith in
+    rw k (frames-back f s start p q card n frs (suc (count - length frs - 1)) state last rest a m b ∙ rw e (λ i. record { frames = append-nil frs i; verdict = Refused r; rest = rest }))
 
 -- where the input ends there, it is 8
 pub ends-there : (f : Format) (start : Sums) (card n state : ℕ) (last : Frame) → frameVerdict f start card n state last [] ≡ Refused EndOrMore

@@ -51,7 +51,7 @@ sheet-of f n c first p a e =
     }
 
 -- a sheet behind the first has the first's number of cards
-cards-agree : (n cards : ℕ) → (n ≡ 0 → ⊥) → (eqb n 0 || eqb cards n) ≡ true → cards ≡ n
+pub cards-agree : (n cards : ℕ) → (n ≡ 0 → ⊥) → (eqb n 0 || eqb cards n) ≡ true → cards ≡ n
 cards-agree n cards h e = ⊎-elim (λ (z : eqb n 0 ≡ true). absurd (h (eqb-true n 0 z))) (λ (z : eqb cards n ≡ true). eqb-true cards n z) (or-elim (eqb n 0) (eqb cards n) e)
 
 more-at :

@@ -4,8 +4,7 @@ use mathlib.Core.Path.{_≡_}
 use mathlib.Core.Bool.{Bool, true, _&&_}
 use mathlib.Core.List.{List, [], _∷_, _++_}
 use lib.ListN.{length}
-use Rattle.base_refusal.specs.declared.Refusal.{Refusal}
-use Rattle.base_refusal.specs.declared.Reply.the-variants.{Refused}
+use Rattle.base_refusal.specs.declared.Reply.{Reply}
 use Rattle.sheet_lines.specs.declared.Header.{Header}
 use Rattle.sheet_lines.specs.declared.Frame.{Frame}
 use Rattle.sheet_lines.specs.Format.{Format, Formats}
@@ -42,18 +41,17 @@ abbrev pub lastOf : Frame → List Frame → Frame
 lastOf last [] = last
 lastOf last (fr ∷ frs) = lastOf fr frs
 
--- a header over one frame less than it declares, all within the limits
-pub record OneFewer (f : Format) (due first : ℕ) (h : Header) (frs : List Frame) : Type 0 where
+-- a header over fewer frames than it declares, all within the limits
+pub record Fewer (f : Format) (due first : ℕ) (h : Header) (frs : List Frame) : Type 0 where
   pub header : headerAllowed f due first h ≡ true
   pub session : h .session < 16 ^ 8
-  pub count : h .count ≡ length frs + 1
+  pub count : length frs < h .count
   pub formed : Formed (cardsOf f h) frs
   pub frames : framesAllowed f (h .card) (cardsOf f h) (h .base + 1) noFrame frs ≡ true
 
--- where what stands behind them is refused
-pub record Short (f : Format) (due first : ℕ) (h : Header) (frs : List Frame) (rest : List ℕ) (r : Refusal) : Type 0 where
-  pub fewer : OneFewer f due first h frs
-  pub next : frameVerdict f (startOf f h) (h .card) (cardsOf f h) (h .base + 1 + length frs) (lastOf noFrame frs) rest ≡ Refused r
+-- what is answered to the line that stands behind them, where the next frame is due
+abbrev pub nextVerdict : Format → Header → List Frame → List ℕ → Reply
+nextVerdict f h frs rest = frameVerdict f (startOf f h) (h .card) (cardsOf f h) (h .base + 1 + length frs) (lastOf noFrame frs) rest
 
 -- their bytes
 abbrev pub shortBytes : Format → Header → List Frame → List ℕ → List ℕ

@@ -1,29 +1,36 @@
--- What the readers of one sheet and of a read-out refuse: a byte altered, a frame too few. Assumes nothing.
-use Prim.Native.Nat.{ℕ, _+_, _*_}
-use mathlib.Core.Path.{_≡_, refl, _∙_, ap}
+-- What the readers of one sheet and of a read-out refuse: a byte altered, frames too few, a line of another sheet, older sheets. Assumes nothing.
+use Prim.Native.Nat.{ℕ, _+_, _*_, _-_, _%_, _≤_, _<_}
+use mathlib.Core.Path.{_≡_, refl, sym, _∙_, ap, subst}
 use mathlib.Core.Bool.{Bool, true, false, cond}
-use mathlib.Core.List.{List, [], _∷_, _++_}
+use mathlib.Core.List.{List, [], _++_}
 use native.Mathlib.Omega.{arith}
 use lib.Dec.{ltb}
-use lib.ListN.{length, set, length-set}
+use lib.ListN.{length, set, length-set, length-append}
 use borrow.Author.Tests.{le-ltb}
 use Rattle.base_refusal.specs.declared.Refusal.{Refusal}
-use Rattle.base_refusal.specs.declared.Refusal.the-variants.{TooLong}
+use Rattle.base_refusal.specs.declared.Refusal.the-variants.{BadCheck, TooLong}
 use Rattle.base_refusal.specs.declared.Reply.{Reply}
 use Rattle.base_refusal.specs.declared.Reply.the-variants.{Done, Refused}
 use Rattle.sheet_lines.specs.declared.Header.{Header}
 use Rattle.sheet_lines.specs.declared.Frame.{Frame}
 use Rattle.sheet_lines.specs.Format.{format, formats}
-use Rattle.sheet_lines.specs.Lines.{startOf, frameVerdict, noFrame}
-use Rattle.sheet_line_round.proofs.Round.{formats-alike}
-use Rattle.sheet_pages.specs.Pages.{Page, pagesBytes, readSheets}
-use Rattle.sheet_pages.specs.Allowed.{lastOf, OneFewer, Short, shortBytes}
+use Rattle.sheet_lines.specs.Lines.{cardsOf, formatIn, startOf, headerLine, headerIn, headerAllowed, headerVerdict, noFrame}
+use Rattle.sheet_lines.proofs.Passed.{header-limits, header-passed}
+use Rattle.sheet_lines.proofs.Starts.{formats-apart}
+use Rattle.sheet_line_round.proofs.Round.{format-valid, formats-alike}
+use Rattle.sheet_line_round.proofs.Carried.{eight, header-passing, frame-carried, length-other, header-carried}
+use Rattle.sheet_pages.specs.Pages.{Page, framesOf, moreSheets, readSheets}
+use Rattle.sheet_pages.specs.Allowed.{Fewer, lastOf, nextVerdict, shortBytes}
+use Rattle.sheet_pages.specs.Due.{FrameDue}
 use Rattle.sheet_pages.specs.Walk.{noReadout}
-use Rattle.sheet_pages.proofs.Round.{formats-valid, altered-refused, ends-there}
-use Rattle.sheet_pages.proofs.Short.{first-short, later-short, header-no-frame}
-use Rattle.sheet_readout.specs.Joint.{judged, lined, pagesRead, readoutOf}
+use Rattle.sheet_pages.proofs.Round.{formats-valid, with-both, altered-refused, ends-there}
+use Rattle.sheet_pages.proofs.Short.{first-short}
+use Rattle.sheet_pages.proofs.Due.{due-refused, due-card, card-apart, carried-there, carried-card, carried-session, carried-refused, never-header}
+use Rattle.sheet_pages.proofs.Stops.{stops}
+use Rattle.sheet_pages.proofs.Length.{readout-few}
+use Rattle.sheet_readout.specs.Joint.{judged, lined, given, pagesRead, readoutOf}
 use Rattle.sheet_reader.specs.Single.{sheetReadOf}
-use Rattle.sheet_round.specs.Claims.{AlteredSheetRefused, AlteredReadoutRefused, ShortSheetRefused, ShortReadoutRefused, ShortFirstRefused, Next, ends, sheet, FewerRefused, FewerFirstRefused, FewerLaterRefused}
+use Rattle.sheet_round.specs.Claims.{AlteredSheetRefused, AlteredReadoutRefused, ShortSheetRefused, ShortReadoutRefused, StopsWhereDue, Next, ends, sheet, other, FewerRefused, FewerReadoutRefused, FrameOf, CarriedFrameRefused, CarriedFramePutIn, CarriedFrameInPlace, OtherSessionRefused, CarriedIntoSheetRefused, FrameForHeaderRefused, older, OlderSheetRefused, OlderReadoutRefused}
 use Rattle.sheet_round.proofs.Sheets.{verdict-accepted}
 
 -- ---- lines that are refused
@@ -58,34 +65,126 @@ altered-readout-refused input p b h o e =
     let w = altered-refused formats formats-alike true 0 input p b h o (a .1) in
     (w .0, all-refused (set input p b) (w .0) (ap (ltb 65536) (length-set input p b) ∙ a .0) (w .1))
 
--- ---- one frame too few
+-- ---- frames too few
 
 pub short-sheet-refused : ShortSheetRefused
-short-sheet-refused card h frs rest r x l = lines-refused card (shortBytes format h frs rest) r (le-ltb 65536 (length (shortBytes format h frs rest)) l) (first-short formats formats-valid false card h frs rest r x)
-
-pub short-first-refused : ShortFirstRefused
-short-first-refused h frs rest r x l = all-refused (shortBytes format h frs rest) r (le-ltb 65536 (length (shortBytes format h frs rest)) l) (first-short formats formats-valid true 0 h frs rest r x)
+short-sheet-refused card h frs rest r x v l = lines-refused card (shortBytes format h frs rest) r (le-ltb 65536 (length (shortBytes format h frs rest)) l) (first-short formats formats-valid false card h frs rest r x v)
 
 pub short-readout-refused : ShortReadoutRefused
-short-readout-refused p ps h frs rest r a more k x l =
-    let input = pagesBytes formats (p ∷ ps) ++ shortBytes format h frs rest in
-    all-refused input r (le-ltb 65536 (length input) l) (later-short formats formats-valid 0 p ps h frs rest r a more k x)
+short-readout-refused n c front rest r d v l = all-refused (front ++ rest) r (le-ltb 65536 (length (front ++ rest)) l) (due-refused formats formats-valid n c front d rest r v)
+
+pub stops-where-due : StopsWhereDue
+stops-where-due = stops formats
 
 -- whatever number of frames there is
-next-refused : (card state : ℕ) (h : Header) (last : Frame) (rest : List ℕ) (r : Refusal) → Next (h .cards) rest r → frameVerdict format (startOf format h) card (h .cards) state last rest ≡ Refused r
-next-refused card state h last rest r ends = ends-there format (startOf format h) card (h .cards) state last
-next-refused card state h last rest r (sheet not-two next more) =
-    header-no-frame format (startOf format h) card (h .cards) state last next more (λ (e : 4 + 8 + h .cards * 4 ≡ 20). not-two (omega arith))
-
-short-of : (due first : ℕ) (h : Header) (frs : List Frame) (rest : List ℕ) (r : Refusal) → OneFewer format due first h frs → Next (h .cards) rest r → Short format due first h frs rest r
-short-of due first h frs rest r x n = record { fewer = x; next = next-refused (h .card) (h .base + 1 + length frs) h (lastOf noFrame frs) rest r n }
+next-refused : (h : Header) (frs : List Frame) (rest : List ℕ) (r : Refusal) → h .card < 16 → Next (h .card) (h .cards) rest r → nextVerdict format h frs rest ≡ Refused r
+next-refused h frs rest r c ends = ends-there format (startOf format h) (h .card) (h .cards) (h .base + 1 + length frs) (lastOf noFrame frs)
+next-refused h frs rest r c (sheet not-two next more) =
+    length-other format (startOf format h) (startOf format next) 20 (h .card) (h .cards) (h .base + 1 + length frs) (lastOf noFrame frs) (headerLine format next) more (header-passing format format-valid next) (λ (e : 4 + 8 + h .cards * 4 ≡ 20). not-two (omega arith))
+next-refused h frs rest r c (other two next more small ne) =
+    frame-carried format (startOf format h) (startOf format next) (h .card) (h .cards) (h .base + 1 + length frs) (lastOf noFrame frs) (headerLine format next) more (rw two (header-passing format format-valid next)) (eight format format-valid (h .card) (h .session))
+    (card-apart formats formats-apart (h .cards) (next .cards) (h .card) (next .card) (h .session) (next .session) (omega arith) small (λ (e : h .card ≡ next .card). ne (sym e)))
 
 pub fewer-refused : FewerRefused
-fewer-refused card h frs rest r x n l = short-sheet-refused card h frs rest r (short-of card 0 h frs rest r x n) l
+fewer-refused card h frs rest r x n l =
+    let w = header-limits format card 0 h (x .header) in
+    short-sheet-refused card h frs rest r x (next-refused h frs rest r (omega (arith, w .below, w .cards)) (subst (λ (k : ℕ). Next k (h .cards) rest r) (sym (w .card)) n)) l
 
-pub fewer-first-refused : FewerFirstRefused
-fewer-first-refused h frs rest r x n l = short-first-refused h frs rest r (short-of 0 0 h frs rest r x n) l
+pub fewer-readout-refused : FewerReadoutRefused
+fewer-readout-refused n c front rest r d x l =
+    let h = d .header in
+    let w = header-limits format c n h (d .fewer .header) in
+    short-readout-refused n c front rest r d
+    (next-refused h (d .frames) rest r (omega (arith, w .below, w .cards)) (subst (λ (k : ℕ). Next (h .card) k rest r) (sym (d .cards)) (subst (λ (k : ℕ). Next k n rest r) (sym (w .card)) x))) l
 
-pub fewer-later-refused : FewerLaterRefused
-fewer-later-refused p ps h frs rest r a more k x n l =
-    short-readout-refused p ps h frs rest r a more k (short-of (1 + length ps) (p .header .cards) h frs rest r x n) l
+-- ---- a frame of another sheet
+
+-- the lines of an accepted read-out are accepted
+lines-accepted : (input : List ℕ) → readoutOf input .verdict ≡ Done → readSheets formats true 0 input .verdict ≡ Done
+unfolding pagesRead
+lines-accepted input e = lined-accepted (ltb 65536 (length input)) (readSheets formats true 0 input .verdict) (readSheets formats true 0 input .pages) e .1
+
+module _ (n d : ℕ) (input line : List ℕ) (e : readoutOf input .verdict ≡ Done) (y : FrameOf n d input line) where
+  accepted : readSheets formats true 0 (y .front ++ (line ++ y .behind)) .verdict ≡ Done
+  accepted = rw (y .bytes) at (lines-accepted input e)
+
+  line-few : length line ≤ 81
+  line-few =
+      let w = header-limits format d n (y .due .header) (y .due .fewer .header) in
+      omega (arith, y .long, w .cards, y .due .cards)
+
+  carried :
+      (c : ℕ) (front rest : List ℕ) (x : FrameDue formats n c front) →
+      (startOf format (x .header) ≡ startOf format (y .due .header) → ⊥) →
+      length (front ++ (line ++ rest)) ≤ 65536 →
+      readoutOf (front ++ (line ++ rest)) ≡ record { readout = noReadout; verdict = Refused BadCheck }
+  carried c front rest x ne l =
+      all-refused (front ++ (line ++ rest)) BadCheck (le-ltb 65536 (length (front ++ (line ++ rest))) l)
+      (carried-refused formats formats-valid formats-apart n d (y .front) line (y .behind) (y .due) (y .long) accepted c front rest x refl ne)
+
+  -- of another card
+  other-card : (h : Header) (c : ℕ) → h .card ≡ c → c < n → (c ≡ d → ⊥) → startOf format h ≡ startOf format (y .due .header) → ⊥
+  other-card h c q l ne = carried-card formats formats-valid formats-apart n d (y .front) line (y .behind) (y .due) (y .long) accepted h (omega arith) (λ (z : h .card ≡ d). ne (sym q ∙ z))
+
+  from-other : (c : ℕ) (front rest : List ℕ) → FrameDue formats n c front → (c ≡ d → ⊥) → length (front ++ (line ++ rest)) ≤ 65536 → readoutOf (front ++ (line ++ rest)) ≡ record { readout = noReadout; verdict = Refused BadCheck }
+  from-other c front rest x ne l = carried c front rest x (other-card (x .header) c (due-card formats formats-valid n c front x) (x .behind .more) ne) l
+
+  into-sheet : (card : ℕ) (h : Header) (frs : List Frame) (rest : List ℕ) → n ≡ h .cards → Fewer format card 0 h frs → (card ≡ d → ⊥) → nextVerdict format h frs (line ++ rest) ≡ Refused BadCheck
+  into-sheet card h frs rest q x ne =
+      let w = header-limits format card 0 h (x .header) in
+      carried-there formats formats-valid formats-apart n d (y .front) line (y .behind) (y .due) (y .long) accepted h frs rest (sym q) refl (other-card h card (w .card) (omega (arith, w .below, w .card)) ne)
+
+pub carried-frame-refused : CarriedFrameRefused
+carried-frame-refused n c d input line front rest e y x ne l = from-other n d input line e y c front rest x ne l
+
+pub carried-frame-put-in : CarriedFramePutIn
+carried-frame-put-in n c d input line front rest e y x q ne =
+    from-other n d input line e y c front rest x ne
+    (omega (arith, length-append front (line ++ rest), length-append line rest, length-append front rest, ap length q, line-few n d input line e y, readout-few input (lines-accepted input e)))
+
+pub carried-frame-in-place : CarriedFrameInPlace
+carried-frame-in-place n c d input line old e y o ne =
+    from-other n d input line e y c (o .front) (o .behind) (o .due) ne
+    (omega (arith, length-append (o .front) (line ++ o .behind), length-append line (o .behind), length-append (o .front) (old ++ o .behind), length-append old (o .behind), ap length (o .bytes), o .long, y .long, readout-few input (lines-accepted input e)))
+
+pub other-session-refused : OtherSessionRefused
+other-session-refused n c d input line front rest e y x ne l =
+    carried n d input line e y c front rest x (carried-session formats formats-valid formats-apart n d (y .front) line (y .behind) (y .due) (y .long) (accepted n d input line e y) (x .header) ne) l
+
+pub carried-into-sheet-refused : CarriedIntoSheetRefused
+carried-into-sheet-refused d input line card h frs rest e y x ne l = short-sheet-refused card h frs (line ++ rest) BadCheck x (into-sheet (h .cards) d input line e y card h frs rest refl x ne) l
+
+-- what is not accepted is refused
+not-accepted : (input : List ℕ) → (readSheets formats true 0 input .verdict ≡ Done → ⊥) → (r : Refusal) × (readoutOf input ≡ record { readout = noReadout; verdict = Refused r })
+unfolding pagesRead
+not-accepted input n = by (ltb 65536 (length input)) (readSheets formats true 0 input .verdict) (readSheets formats true 0 input .pages) n
+  where
+    by : (long : Bool) (v : Reply) (ps : List Page) → (v ≡ Done → ⊥) → (r : Refusal) × (given (cond long (judged (Refused TooLong) []) (lined v ps)) ≡ record { readout = noReadout; verdict = Refused r })
+    by true v ps m = (TooLong, refl)
+    by false (Refused x) ps m = (x, refl)
+    by false Done ps m = absurd (m refl)
+
+pub frame-for-header-refused : FrameForHeaderRefused
+frame-for-header-refused n c d input line front rest e y x ne =
+    not-accepted (front ++ (line ++ rest)) (never-header formats formats-valid formats-apart n d (y .front) line (y .behind) (y .due) (y .long) (accepted n d input line e y) c front rest x ne)
+
+-- ---- older sheets
+
+-- the first header's check fails
+older-header : (all : Bool) (card : ℕ) (input : List ℕ) → readSheets older all card input .verdict ≡ Done → readSheets formats all card input .verdict ≡ Refused BadCheck
+unfolding readSheets headerIn headerAllowed
+older-header all card input e =
+    let f = formatIn older input in
+    let h = headerIn f input in
+    let fs = framesOf f h input in
+    let a = with-both (headerVerdict f card 0 input) (fs .verdict) h fs input (moreSheets older (cond all (cardsOf f h - 1) 0) (card + 1) (cardsOf f h) (fs .rest)) e in
+    let p = header-passed f card 0 input (a .0) in
+    let w = header-limits f card 0 h (p .allowed-is) in
+    let g : headerVerdict format card 0 input ≡ Refused BadCheck = header-carried format (record { first = 0; second = 0 }) card 0 input (p .whole) (p .right-is) (λ (z : startOf format h .first % 256 ≡ 0). absurd (omega (arith, formats-apart .from-one (h .cards) (h .card) (h .session) (omega (arith, w .below, w .cards)), w .below, w .cards))) in
+    rw g
+
+pub older-sheet-refused : OlderSheetRefused
+older-sheet-refused card input e l = lines-refused card input BadCheck (le-ltb 65536 (length input) l) (older-header false card input e)
+
+pub older-readout-refused : OlderReadoutRefused
+older-readout-refused input e l = all-refused input BadCheck (le-ltb 65536 (length input) l) (older-header true 0 input e)

@@ -1,24 +1,19 @@
 -- Sheets that refusals 7 and 9 let pass, one after another: how many bytes they are, and what must hold of each frame. Assumes nothing.
 use Prim.Native.Nat.{ℕ, zero, suc, _+_, _*_, _-_, _^_, _≤_, _<_, zero-le}
-use mathlib.Core.Path.{_≡_, refl, sym, _∙_, ap, subst}
+use mathlib.Core.Path.{_≡_, refl, sym, ap, subst}
 use mathlib.Core.Bool.{Bool, true, false, cond}
 use mathlib.Core.List.{List, [], _∷_, _++_}
 use native.Mathlib.Omega.{arith}
 use lib.Dec.{eqb}
-use lib.ListN.{length, replicate, length-append, length-map, length-replicate}
+use lib.ListN.{length, length-append}
 use borrow.Author.Tests.{ne-eqb}
 use Rattle.base_laws.specs.Below.{anyBelow, tabulate}
 use Rattle.base_laws.proofs.Logic.{clash, fails, and-intro}
 use Rattle.base_laws.proofs.Below.{Found, any-elim}
-use Rattle.sheet_digits.specs.declared.Sums.{Sums}
-use Rattle.sheet_digits.specs.Digits.{written}
-use Rattle.sheet_digits.proofs.Digits.{total, written-length, written-all}
-use Rattle.sheet_digits.proofs.Lines.{line-length}
 use Rattle.sheet_lines.specs.declared.Frame.{Frame}
-use Rattle.sheet_lines.specs.Format.{format, entryOf, formats}
-use Rattle.sheet_lines.specs.Lines.{startOf, headerLine, frameWidths, frameNumbers, frameLine, frameAllowed}
-use Rattle.sheet_line_writer.proofs.Puts.{header-line-length}
-use Rattle.sheet_pages.specs.Pages.{Page, framesBytes, pageBytes, pagesBytes}
+use Rattle.sheet_lines.specs.Format.{format, formats}
+use Rattle.sheet_lines.specs.Lines.{frameAllowed}
+use Rattle.sheet_pages.specs.Pages.{Page, pageBytes, pagesBytes}
 use Rattle.sheet_pages.specs.Allowed.{framesAllowed, Formed}
 
 -- ---- lists that begin with their first value
@@ -27,30 +22,6 @@ tabulate-cons zero f = refl
 tabulate-cons (suc k) f = ap (λ (l : List _). l ++ f (suc k) ∷ []) (tabulate-cons k f)
 
 -- ---- how many bytes
-total-entries : (n : ℕ) → total (replicate n 4) ≡ n * 4
-total-entries zero = refl
-total-entries (suc n) = let e : total (replicate n 4) ≡ n * 4 = total-entries n in omega arith
-
-frame-bytes : (start : Sums) (n state : ℕ) (fr : Frame) → length (fr .entries) ≡ n → n ≤ 16 → length (frameLine format start n state fr) ≤ 81
-unfolding frameLine
-frame-bytes start n state fr e few =
-    let ls : length (frameWidths format n) ≡ length (frameNumbers format state fr) = ap (λ (k : ℕ). suc (suc k)) (length-replicate n 4 ∙ sym (length-map (fr .entries) (entryOf 65535) ∙ e)) in
-    let t : length (written (frameWidths format n) (frameNumbers format state fr)) ≡ 12 + n * 4 = written-length (frameWidths format n) (frameNumbers format state fr) ls ∙ omega (arith, total-entries n) in
-    omega (arith, line-length start (12 + n * 4) (written (frameWidths format n) (frameNumbers format state fr)) [] (written-all (frameWidths format n) (frameNumbers format state fr)) t)
-
-frames-bytes : (start : Sums) (n state : ℕ) (frs : List Frame) → Formed n frs → n ≤ 16 → length (framesBytes format start n state frs) ≤ length frs * 81
-frames-bytes start n state [] f few = zero-le
-frames-bytes start n state (fr ∷ frs) f few =
-    omega (arith, length-append (frameLine format start n state fr) (framesBytes format start n (state + 1) frs), frame-bytes start n state fr (f .0) few, frames-bytes start n (state + 1) frs (f .2) few)
-
-pub page-bytes : (p : Page) → Formed (p .header .cards) (p .frames) → p .header .cards ≤ 16 → length (p .frames) ≤ 48 → length (pageBytes formats p) ≤ 3913
-page-bytes p f few short =
-    omega (
-      arith,
-      length-append (headerLine format (p .header)) (framesBytes format (startOf format (p .header)) (p .header .cards) (p .header .base + 1) (p .frames)),
-      header-line-length format (p .header),
-      frames-bytes (startOf format (p .header)) (p .header .cards) (p .header .base + 1) (p .frames) f few,
-    )
 
 pub pages-bytes : (n : ℕ) (page : ℕ → Page) → ((c : ℕ) → c < n → length (pageBytes formats (page c)) ≤ 3913) → length (pagesBytes formats (tabulate n page)) ≤ n * 3913
 pages-bytes zero page f = zero-le

@@ -24,11 +24,12 @@ use Rattle.theory_protocol.proofs.Passed.{FramePassed, RisesPassed, CardPassed,
 use Rattle.theory_codec.specs.Sheets.{cardCount, sheetSession, sheetFrame, sheetOf}
 use Rattle.theory_codec.specs.Claims.{SheetLimits}
 use Rattle.theory_codec.proofs.Written.{frames-length, count-is, entry-written, length-entries}
-use Rattle.theory_codec.proofs.Passing.{page-bytes, formed-all, frames-pass}
+use Rattle.sheet_pages.proofs.Length.{page-few}
+use Rattle.theory_codec.proofs.Passing.{formed-all, frames-pass}
 
 -- a sheet of n cards has few bytes
 pub sheet-few : (n c : ℕ) (p : Page) → n ≤ 16 → SheetOf format n c p → length (pageBytes formats p) ≤ 3913
-sheet-few n c p few s = page-bytes p (subst (λ (k : ℕ). Formed k (p .frames)) (sym (s .cards)) (s .formed)) (omega (arith, few, s .cards)) (s .short)
+sheet-few n c p few s = page-few p (subst (λ (k : ℕ). Formed k (p .frames)) (sym (s .cards)) (s .formed)) (omega (arith, few, s .cards)) (s .short)
 
 module _ (L : Limits) (limits : SheetLimits L) (n : ℕ) (m : Model) (few : n ≤ L .width) (present-is : (c : ℕ) → m .present c ≡ ltb c n) (s : valid L m ≡ true) (c : ℕ) (here : c < n) where
   width : c < L .width

@@ -1,8 +1,9 @@
 //! Single sheets, told their card: read, and written again from what was read.
 
-use super::spoiled::{altered, frame, header, of_header, over_two_frames, worked, HEADERS};
+use super::spoiled::{alike, altered, frame, header, of_header, over_two_frames, worked, HEADERS};
 use super::Record;
 use crate::answer::vector_text;
+use crate::carried::{by_older_rule, joined, naming, Line};
 use crate::random::Random;
 use crate::readouts::{family, largest, Size};
 use crate::sheet::{read_sheet, read_sheets, write_sheet, Sheet};
@@ -65,6 +66,7 @@ pub fn records() -> Vec<Record> {
         all.extend([&first, &Vec::new()].map(|bytes| Record::page(bytes.clone(), 0, ROOM).filled_to(total)));
     }
     all.extend(one_frame_short());
+    all.extend(with_a_line_of_another());
     let mut random = Random::new(40);
     let places = (0..first.len()).map(|place| altered(&first, place, &mut random, place % 2 == 0));
     all.extend(places.map(|bytes| Record::page(bytes, 0, ROOM)));
@@ -90,6 +92,28 @@ fn one_frame_short() -> Vec<Record> {
     all.into_iter()
         .chain([Record::page([header(1, 0, 1, 0, 1), header(1, 0, 1, 0, 0)].concat(), 0, ROOM)])
         .collect()
+}
+
+/// A sheet with each of its lines by the older rule, or the same line of the
+/// other card in its place; with a header that names the other card, or 255.
+fn with_a_line_of_another() -> Vec<Record> {
+    let lines = alike(1, 2, 2);
+    let (first, second) = lines.split_at(3);
+    let mut all = Vec::new();
+    for (own, other) in [(first, second), (second, first)] {
+        let with = |place: usize, bytes: Vec<u8>| {
+            let mut lines: Vec<Line> = own.to_vec();
+            lines[place].bytes = bytes;
+            [0, 1].map(|card| Record::page(joined(&lines), card, ROOM))
+        };
+        for place in 0..3 {
+            all.extend(with(place, other[place].bytes.clone()));
+            all.extend(with(place, by_older_rule(&own[place].bytes)));
+        }
+        all.extend(with(0, naming(&own[0], other[0].card)));
+        all.extend(with(0, header(1, 255, 2, 0, 2)));
+    }
+    all
 }
 
 /// A line with a digit of its check altered.

@@ -1,20 +1,26 @@
-//! Read-outs by hand: the worked one, whole, altered and cut at each byte, and
-//! one that each limit of a line lets pass or refuses.
+//! Read-outs by hand: the worked one, whole, altered and cut at each byte, one
+//! that each limit of a line lets pass or refuses, and lines of another sheet.
 
+use crate::carried::*;
 use crate::history::Vector;
 use crate::limits::LAST_NUMBER;
 use crate::random::Random;
-use crate::sheet::{frame_line, header_line, Frame};
+use crate::sheet::{frame_line, header_line, Frame, Sheet};
 
 pub fn header(session: u32, card: u32, cards: u32, base: u32, count: u32) -> Vec<u8> {
     header_line(session, card, cards, base, count)
 }
 
-pub fn frame(state: u32, change: u32, vector: &[Option<u32>]) -> Vec<u8> {
-    frame_line(&Frame { state, change, vector: Vector::from(vector) })
+pub fn frame_of(session: u32, card: u32, state: u32, change: u32, vector: &[Option<u32>]) -> Vec<u8> {
+    frame_line(session, card, &Frame { state, change, vector: Vector::from(vector) })
 }
 
-/// Document 01's worked read-out.
+/// A frame of card 0 in session 1.
+pub fn frame(state: u32, change: u32, vector: &[Option<u32>]) -> Vec<u8> {
+    frame_of(1, 0, state, change, vector)
+}
+
+/// Document 01's worked read-out, with the checks of wish 4.
 pub fn worked() -> Vec<u8> {
     [
         header(1, 0, 2, 0, 2),
@@ -81,6 +87,9 @@ pub fn readouts() -> Vec<Vec<u8>> {
     all.extend(frames_at_limits());
     all.extend(sessions());
     all.extend(one_change_on_four_cards());
+    all.extend(carried());
+    all.extend(other_starts());
+    all.extend(sessions_of_many_bits());
     all
 }
 
@@ -131,7 +140,7 @@ fn sessions() -> Vec<Vec<u8>> {
     let mut all = Vec::from(
         pairs.map(|(first, second)| [header(first, 0, 2, 0, 0), header(second, 1, 2, 0, 0)].concat()),
     );
-    all.push([header(1, 0, 2, 0, 0), header(2, 1, 2, 0, 1), frame(1, 1, &[None, Some(0)])].concat());
+    all.push([header(1, 0, 2, 0, 0), header(2, 1, 2, 0, 1), frame_of(2, 1, 1, 1, &[None, Some(0)])].concat());
     all
 }
 
@@ -141,7 +150,8 @@ fn one_change_on_four_cards() -> Vec<Vec<u8>> {
     let with = |altered: Option<(u32, u32, u32)>| -> Vec<u8> {
         let entry = |card, state, other| state - 1 + u32::from(altered == Some((card, state, other)));
         let vector = |card, state| (0..4).map(|other| Some(entry(card, state, other))).collect::<Vector>();
-        let frames = |card| (1..=3).flat_map(move |state| frame(state, state, &vector(card, state)));
+        let frames =
+            |card| (1..=3).flat_map(move |state| frame_of(1, card, state, state, &vector(card, state)));
         (0..4).flat_map(|card| header(1, card, 4, 0, 3).into_iter().chain(frames(card))).collect()
     };
     let mut all = vec![with(None)];
@@ -149,6 +159,74 @@ fn one_change_on_four_cards() -> Vec<Vec<u8>> {
         for state in 1..=3 {
             all.extend((0..4).map(|other| with(Some((card, state, other)))));
         }
+    }
+    all
+}
+
+/// The sheets of changes that each wrote all cards: but for their checks they
+/// have the same frames.
+pub fn alike(session: u32, cards: u32, states: u32) -> Vec<Line> {
+    let vector = |state: u32| vec![Some(state - 1); cards as usize];
+    let frame = |state: u32| Frame { state, change: state, vector: vector(state) };
+    let frames: Vec<Frame> = (1..=states).map(frame).collect();
+    let sheet = |card: usize| Sheet { session, card, cards: cards as usize, base: 0, frames: frames.clone() };
+    lines_of(&(0..cards as usize).map(sheet).collect::<Vec<Sheet>>())
+}
+
+/// Of two and of three cards each line carried to each place where it does not
+/// belong; of 16 cards a frame of each carried to the next.
+fn carried() -> Vec<Vec<u8>> {
+    let mut all = Vec::new();
+    for cards in 2..=3 {
+        let lines = alike(1, cards, 2);
+        for pair in [frame_to_frame as Pair, header_to_frame, frame_to_header] {
+            for (from, to) in all_pairs(&lines, pair) {
+                all.extend([in_place_of(&lines, from, to), in_front_of(&lines, from, to)]);
+            }
+        }
+    }
+    let lines = alike(1, 16, 1);
+    all.extend((0..16).map(|card| in_place_of(&lines, 2 * card + 1, 2 * ((card + 1) % 16) + 1)));
+    all
+}
+
+/// Checks that start elsewhere: by the older rule, for another card or session.
+fn other_starts() -> Vec<Vec<u8>> {
+    let lines = alike(1, 2, 1);
+    let with = |place: usize, bytes: Vec<u8>| {
+        let mut lines = lines.clone();
+        lines[place].bytes = bytes;
+        joined(&lines)
+    };
+    let older: Vec<Vec<u8>> = lines.iter().map(|line| by_older_rule(&line.bytes)).collect();
+    let mut all = vec![older.concat(), header(1, 255, 2, 0, 0), header(0, 255, 255, 0, 0)];
+    for (place, line) in lines.iter().enumerate() {
+        all.push(with(place, older[place].clone()));
+        for (session, card) in
+            [(1, 1 - line.card), (0, line.card), (2, line.card), (257, line.card), (1, 255)]
+        {
+            all.push(with(place, checked_as(&line.bytes, session, card)));
+        }
+        if line.is_header {
+            all.extend([1 - line.card, 255].map(|card| with(place, naming(line, card))));
+            all.push(with(place, header(1, 255, 2, 0, 1)));
+        }
+    }
+    all
+}
+
+/// Sessions at the ends of eight bits and above, all cards in one and the last
+/// card one ahead; a frame where a header is due, which is 7 if the eight bits
+/// are 0; and a frame of the next session.
+fn sessions_of_many_bits() -> Vec<Vec<u8>> {
+    let mut all = Vec::new();
+    for session in [0xFE, 0xFF, 0x100, 0x101, 0x1FF, 0x200, 0xFFFF_FEFF, 0xFFFF_FF00, 0xFFFF_FFFE] {
+        let mut lines = alike(session, 2, 1);
+        all.extend([joined(&lines), in_place_of(&lines, 1, 2)]);
+        lines[1].bytes = checked_as(&lines[1].bytes, session + 1, 0);
+        all.push(joined(&lines));
+        let frame = frame_of(session, 0, 1, 1, &[Some(0), None]);
+        all.push([header(session, 0, 2, 0, 1), frame, header(session + 1, 1, 2, 1, 0)].concat());
     }
     all
 }

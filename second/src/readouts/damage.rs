@@ -1,12 +1,17 @@
-//! Damage to read-outs: to fields with the checks kept right, and to bytes.
+//! Damage to read-outs: to fields with the checks kept right, to bytes, and to
+//! lines, which stand in the wrong sheet or have a check that starts elsewhere.
 
-use super::{padded, write, LooseSheet, NONE};
+use super::{all_lines, padded, write, LooseSheet, NONE};
+use crate::carried::*;
 use crate::random::Random;
 
 /// A read-out made of damaged sheets.
 pub fn damaged(mut sheets: Vec<LooseSheet>, random: &mut Random) -> Vec<u8> {
     let times = random.pick(&[1, 1, 1, 2, 3]);
-    let kind = random.below(10);
+    let kind = random.below(12);
+    if kind >= 10 {
+        return damage_lines(all_lines(&sheets), random);
+    }
     if kind < 6 {
         for _ in 0..times {
             damage_fields(&mut sheets, random);
@@ -172,6 +177,37 @@ fn damage_sheet_list(sheets: &mut Vec<LooseSheet>, which: usize, random: &mut Ra
             sheets[which].count = frames.len() as u32;
             sheets[which].frames = frames;
         }
+    }
+}
+
+/// A line carried to another sheet, or checks that start elsewhere.
+fn damage_lines(mut lines: Vec<Line>, random: &mut Random) -> Vec<u8> {
+    let pairs: [Pair; 4] = [frame_to_frame, frame_to_frame, header_to_frame, frame_to_header];
+    let pair = any_pair(&lines, random.pick(&pairs), random);
+    if let Some((from, to)) = pair.filter(|_| random.chance(700)) {
+        let carry: Carry = random.pick(&[in_place_of as Carry, in_front_of]);
+        return carry(&lines, from, to);
+    }
+    if random.chance(250) {
+        lines.iter_mut().for_each(|line| line.bytes = by_older_rule(&line.bytes));
+    } else {
+        let place = random.place(lines.len());
+        lines[place].bytes = with_another_start(&lines[place], random);
+    }
+    joined(&lines)
+}
+
+/// A line with the check of another session or card, now and then of one that
+/// has the same start; or a header that names another card than its check is of.
+fn with_another_start(line: &Line, random: &mut Random) -> Vec<u8> {
+    let Line { session, card, bytes, .. } = line;
+    match random.below(6) {
+        0 => by_older_rule(bytes),
+        1 => checked_as(bytes, session.wrapping_add(random.pick(&[1, 255, 256])), *card),
+        2 => checked_as(bytes, random.bits() as u32, *card),
+        3 => checked_as(bytes, *session, card ^ 1),
+        4 if line.is_header => naming(line, random.pick(&[card ^ 1, 15, 16, 255])),
+        _ => checked_as(bytes, *session, random.from_to(0, 255)),
     }
 }
 
