@@ -18,6 +18,14 @@ CLAIMS = [
     ("theory_protocol", "Agreement", "SafeAgreesWithFix"),
     ("demands_lists", "Claims", "SafeAgreesWithFix16"),
     ("theory_protocol", "Demands", "NamesLowest"),
+    ("sheet_round", "Claims", "AlteredReadoutRefused"),
+    ("sheet_round", "Claims", "FewerReadoutRefused"),
+    ("sheet_round", "Claims", "StopsWhereDue"),
+    ("sheet_round", "Claims", "CarriedFrameRefused"),
+    ("sheet_round", "Claims", "OtherSessionRefused"),
+    ("sheet_round", "Claims", "FrameForHeaderRefused"),
+    ("sheet_round", "Claims", "OlderReadoutRefused"),
+    ("demands_valid", "Restart", "RefusedReadouts"),
 ]
 HEAD = re.compile(r"^(?:(?:abbrev|unfoldable) )?(?:pub )?(?:(record|data) )?([^\s:(]+)(?= [:(])")
 TOKEN = re.compile(r"[^\s(){};,.\[\]]+")

@@ -27,9 +27,13 @@ pub record Format : Type 0 where
 abbrev pub fromSheet : ℕ → ℕ → Sums
 fromSheet card session = record { first = (card + 1) % 2 ^ 8; second = session % 2 ^ 8 }
 
--- document 01's format: state numbers of 4 digits, 16 cards, 48 frames, states to 60,000
+-- document 01's format, wherever its sums start: state numbers of 4 digits, 16 cards, 48 frames, states to 60,000
+abbrev pub formatFrom : (ℕ → ℕ → Sums) → Format
+formatFrom start = record { width = 4; cards = mostCards; frames = mostInHand; states = lastState; short = false; unraised = λ k. k; start = start }
+
+-- and where document 02 has them start
 abbrev pub format : Format
-format = record { width = 4; cards = mostCards; frames = mostInHand; states = lastState; short = false; unraised = λ k. k; start = fromSheet }
+format = formatFrom fromSheet
 
 -- the format of a layout: what readers and writers of lines are told of it
 abbrev pub formatOf : Layout → Format

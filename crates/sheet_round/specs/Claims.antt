@@ -11,7 +11,7 @@ use Rattle.base_refusal.specs.declared.Refusal.the-variants.{BadLine, BadCheck,
 use Rattle.base_refusal.specs.declared.Reply.the-variants.{Done, Refused}
 use Rattle.sheet_lines.specs.declared.Header.{Header}
 use Rattle.sheet_lines.specs.declared.Frame.{Frame}
-use Rattle.sheet_lines.specs.Format.{Formats, format, formats}
+use Rattle.sheet_lines.specs.Format.{Formats, formatFrom, format, formats}
 use Rattle.sheet_lines.specs.Lines.{headerLine, frameDigits}
 use Rattle.sheet_pages.specs.declared.Readout.{Readout}
 use Rattle.sheet_pages.specs.Pages.{readSheets}
@@ -191,16 +191,7 @@ FrameForHeaderRefused =
 
 -- document 01's sheets, with both sums "from 0"
 abbrev pub older : Formats
-older told =
-    record {
-      width = format .width;
-      cards = format .cards;
-      frames = format .frames;
-      states = format .states;
-      short = format .short;
-      unraised = format .unraised;
-      start = λ card session. record { first = 0; second = 0 };
-    }
+older told = formatFrom (λ card session. record { first = 0; second = 0 })
 
 -- "Older sheets no longer read": one whose lines were accepted is 6.
 abbrev pub OlderSheetRefused : Type 0

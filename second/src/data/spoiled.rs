@@ -87,6 +87,7 @@ pub fn readouts() -> Vec<Vec<u8>> {
     all.extend(frames_at_limits());
     all.extend(sessions());
     all.extend(one_change_on_four_cards());
+    all.extend(older_and_pasted());
     all.extend(carried());
     all.extend(other_starts());
     all.extend(sessions_of_many_bits());
@@ -161,6 +162,15 @@ fn one_change_on_four_cards() -> Vec<Vec<u8>> {
         }
     }
     all
+}
+
+/// Document 01's worked read-out as it was; and a frame of card 0 pasted beneath
+/// card 1's header.
+fn older_and_pasted() -> Vec<Vec<u8>> {
+    let older = worked().split_inclusive(|byte| *byte == 10).flat_map(by_older_rule).collect();
+    let frame = frame(1, 1, &[Some(0), None]);
+    let pasted = [header(1, 0, 2, 0, 1), frame.clone(), header(1, 1, 2, 0, 1), frame].concat();
+    vec![older, pasted]
 }
 
 /// The sheets of changes that each wrote all cards: but for their checks they
