@@ -8,3 +8,4 @@ pub mod Short
 pub mod Due
 pub mod Length
 pub mod Stops
+pub mod Standing

@@ -122,6 +122,15 @@ all-allowed due first (p ∷ ps) g = (now, all-allowed (due + 1) first ps later)
     later : (i : ℕ) → i < length ps → Allowed format (due + 1 + i) first (pageAt ps i)
     later i h = let e : due + suc i ≡ due + 1 + i = omega arith in rw e at (g (suc i) (omega arith))
 
+-- each sheet of a whole read-out is within the limits where it is due
+pub whole-allowed : (ps : List Page) → Whole formats ps → AllAllowed formats 0 (length ps) ps
+whole-allowed ps w = all-allowed 0 (length ps) ps each
+  where
+    each : (i : ℕ) → i < length ps → Allowed format (0 + i) (length ps) (pageAt ps i)
+    each i h =
+        let e : i ≡ 0 + i = omega arith in
+        subst (λ (x : ℕ). Allowed format x (length ps) (pageAt ps i)) e (allowed-of (length ps) i (length ps) (pageAt ps i) (w .sheet i h) h (w .few) (or-right (eqb (length ps) 0) (eq-eqb (length ps) (length ps) refl)))
+
 -- the sheets of a whole read-out, written, read back
 pub whole-back : (ps : List Page) → Whole formats ps → readSheets formats true 0 (pagesBytes formats ps) ≡ record { pages = ps; verdict = Done; rest = [] }
 whole-back [] w = absurd (not-suc-le-zero (w .some))

@@ -1,16 +1,16 @@
 -- Places of a read-out with no line before them at fault: those where a frame is due, and those where a header is.
-use Prim.Native.Nat.{ℕ, _<_}
+use Prim.Native.Nat.{ℕ, _+_, _<_}
 use mathlib.Core.Path.{_≡_}
 use mathlib.Core.Bool.{cond}
 use mathlib.Core.List.{List, [], _++_}
 use lib.Dec.{eqb}
-use lib.ListN.{length}
+use lib.ListN.{length, getD}
 use Rattle.base_refusal.specs.declared.Refusal.{Refusal}
 use Rattle.base_refusal.specs.declared.Reply.the-variants.{Refused}
 use Rattle.sheet_lines.specs.declared.Header.{Header}
 use Rattle.sheet_lines.specs.declared.Frame.{Frame}
-use Rattle.sheet_lines.specs.Format.{Formats}
-use Rattle.sheet_lines.specs.Lines.{cardsOf, formatIn, formatFor, headerVerdict}
+use Rattle.sheet_lines.specs.Format.{Format, Formats}
+use Rattle.sheet_lines.specs.Lines.{cardsOf, formatIn, formatFor, startOf, headerVerdict, frameDigits, frameLine, noFrame}
 use Rattle.sheet_pages.specs.Pages.{Page, pagesBytes, ended}
 use Rattle.sheet_pages.specs.Allowed.{AllAllowed, Fewer, nextVerdict, shortBytes}
 
@@ -31,6 +31,18 @@ pub record FrameDue (F : Formats) (n c : ℕ) (front : List ℕ) : Type 0 where
   pub bytes : front ≡ before ++ shortBytes (formatFor F header) header frames []
   pub cards : cardsOf (formatFor F header) header ≡ n
   pub fewer : Fewer (formatFor F header) c n header frames
+
+-- a frame line of card d in a read-out of n cards: it stands where a frame of that card is due, and is as long as one
+pub record FrameOf (F : Formats) (n d : ℕ) (input line : List ℕ) : Type 0 where
+  pub front : List ℕ
+  pub behind : List ℕ
+  pub bytes : input ≡ front ++ (line ++ behind)
+  pub due : FrameDue F n d front
+  pub long : length line ≡ frameDigits (formatFor F (due .header)) n + 5
+
+-- the line of a sheet's frame k, from 0 on
+abbrev pub lineAt : Format → Page → ℕ → List ℕ
+lineAt f p k = frameLine f (startOf f (p .header)) (cardsOf f (p .header)) (p .header .base + 1 + k) (getD (p .frames) k noFrame)
 
 -- the first sheet's number of cards where the header of card c is due, and 0 where that is the first
 abbrev pub firstCards : ℕ → ℕ → ℕ

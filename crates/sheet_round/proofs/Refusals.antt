@@ -21,16 +21,20 @@ use Rattle.sheet_line_round.proofs.Round.{format-valid, formats-alike}
 use Rattle.sheet_line_round.proofs.Carried.{eight, header-passing, frame-carried, length-other, header-carried}
 use Rattle.sheet_pages.specs.Pages.{Page, framesOf, moreSheets, readSheets}
 use Rattle.sheet_pages.specs.Allowed.{Fewer, lastOf, nextVerdict, shortBytes}
-use Rattle.sheet_pages.specs.Due.{FrameDue}
+use Rattle.sheet_pages.specs.Due.{FrameDue, FrameOf, lineAt}
 use Rattle.sheet_pages.specs.Walk.{noReadout}
+use Rattle.sheet_pages.specs.Ring.{pageAt}
 use Rattle.sheet_pages.proofs.Round.{formats-valid, with-both, altered-refused, ends-there}
 use Rattle.sheet_pages.proofs.Short.{first-short}
 use Rattle.sheet_pages.proofs.Due.{due-refused, due-card, card-apart, carried-there, carried-card, carried-session, carried-refused, never-header}
 use Rattle.sheet_pages.proofs.Stops.{stops}
+use Rattle.sheet_pages.proofs.Whole.{whole-allowed}
+use Rattle.sheet_pages.proofs.Standing.{frame-stands}
 use Rattle.sheet_pages.proofs.Length.{readout-few}
 use Rattle.sheet_readout.specs.Joint.{judged, lined, given, pagesRead, readoutOf}
+use Rattle.sheet_readout.proofs.Accepted.{accepted-pages}
 use Rattle.sheet_reader.specs.Single.{sheetReadOf}
-use Rattle.sheet_round.specs.Claims.{AlteredSheetRefused, AlteredReadoutRefused, ShortSheetRefused, ShortReadoutRefused, StopsWhereDue, Next, ends, sheet, other, FewerRefused, FewerReadoutRefused, FrameOf, CarriedFrameRefused, CarriedFramePutIn, CarriedFrameInPlace, OtherSessionRefused, CarriedIntoSheetRefused, FrameForHeaderRefused, older, OlderSheetRefused, OlderReadoutRefused}
+use Rattle.sheet_round.specs.Claims.{AlteredSheetRefused, AlteredReadoutRefused, ShortSheetRefused, ShortReadoutRefused, StopsWhereDue, Next, ends, sheet, other, FewerRefused, FewerReadoutRefused, FramesStand, CarriedFrameRefused, CarriedFramePutIn, CarriedFrameInPlace, OtherSessionRefused, CarriedIntoSheetRefused, FrameForHeaderRefused, older, OlderSheetRefused, OlderReadoutRefused}
 use Rattle.sheet_round.proofs.Sheets.{verdict-accepted}
 
 -- ---- lines that are refused
@@ -104,7 +108,7 @@ lines-accepted : (input : List ℕ) → readoutOf input .verdict ≡ Done → re
 unfolding pagesRead
 lines-accepted input e = lined-accepted (ltb 65536 (length input)) (readSheets formats true 0 input .verdict) (readSheets formats true 0 input .pages) e .1
 
-module _ (n d : ℕ) (input line : List ℕ) (e : readoutOf input .verdict ≡ Done) (y : FrameOf n d input line) where
+module _ (n d : ℕ) (input line : List ℕ) (e : readoutOf input .verdict ≡ Done) (y : FrameOf formats n d input line) where
   accepted : readSheets formats true 0 (y .front ++ (line ++ y .behind)) .verdict ≡ Done
   accepted = rw (y .bytes) at (lines-accepted input e)
 
@@ -133,6 +137,12 @@ module _ (n d : ℕ) (input line : List ℕ) (e : readoutOf input .verdict ≡ D
   into-sheet card h frs rest q x ne =
       let w = header-limits format card 0 h (x .header) in
       carried-there formats formats-valid formats-apart n d (y .front) line (y .behind) (y .due) (y .long) accepted h frs rest (sym q) refl (other-card h card (w .card) (omega (arith, w .below, w .card)) ne)
+
+pub frames-stand : FramesStand
+frames-stand input d k e h j =
+    let a = accepted-pages input e in
+    let ps = pagesRead input .pages in
+    subst (λ (bs : List ℕ). FrameOf formats (length ps) d bs (lineAt format (pageAt ps d) k)) (a .bytes) (frame-stands formats (length ps) d k ps refl (whole-allowed ps (a .whole)) h j)
 
 pub carried-frame-refused : CarriedFrameRefused
 carried-frame-refused n c d input line front rest e y x ne l = from-other n d input line e y c front rest x ne l

@@ -12,15 +12,15 @@ use Rattle.base_refusal.specs.declared.Reply.the-variants.{Done, Refused}
 use Rattle.sheet_lines.specs.declared.Header.{Header}
 use Rattle.sheet_lines.specs.declared.Frame.{Frame}
 use Rattle.sheet_lines.specs.Format.{Formats, formatFrom, format, formats}
-use Rattle.sheet_lines.specs.Lines.{headerLine, frameDigits}
+use Rattle.sheet_lines.specs.Lines.{headerLine}
 use Rattle.sheet_pages.specs.declared.Readout.{Readout}
 use Rattle.sheet_pages.specs.Pages.{readSheets}
 use Rattle.sheet_pages.specs.Allowed.{Fewer, nextVerdict, shortBytes}
-use Rattle.sheet_pages.specs.Due.{HeaderDue, FrameDue, Stops}
+use Rattle.sheet_pages.specs.Due.{HeaderDue, FrameDue, FrameOf, lineAt, Stops}
 use Rattle.sheet_pages.specs.Walk.{noReadout, layPages}
-use Rattle.sheet_pages.specs.Ring.{pageOf}
+use Rattle.sheet_pages.specs.Ring.{pageOf, pageAt}
 use Rattle.sheet_page_writer.specs.declared.Written.the-variants.{Length}
-use Rattle.sheet_readout.specs.Joint.{readoutOf}
+use Rattle.sheet_readout.specs.Joint.{pagesRead, readoutOf}
 use Rattle.sheet_reader.specs.Single.{sheetReadOf}
 use Rattle.sheet_writer.specs.Single.{wrote}
 
@@ -118,20 +118,21 @@ FewerReadoutRefused =
 
 -- ---- document 02, wish 4: "A line belongs to its sheet."
 
--- a frame line of card d in a read-out of n cards: it stands where a frame of that card is due
-pub record FrameOf (n d : ℕ) (input line : List ℕ) : Type 0 where
-  pub front : List ℕ
-  pub behind : List ℕ
-  pub bytes : input ≡ front ++ (line ++ behind)
-  pub due : FrameDue formats n d front
-  pub long : length line ≡ frameDigits format n + 5
+-- Every frame of an accepted read-out is a frame line of its card in it.
+abbrev pub FramesStand : Type 0
+FramesStand =
+    (input : List ℕ) (d k : ℕ) →
+    readoutOf input .verdict ≡ Done →
+    d < length (pagesRead input .pages) →
+    k < length (pageAt (pagesRead input .pages) d .frames) →
+    FrameOf formats (length (pagesRead input .pages)) d input (lineAt format (pageAt (pagesRead input .pages) d) k)
 
 -- "Where a frame is due and no line before it is at fault, a frame carried unaltered from the sheet of another card of the same read-out, accepted until then, is always refused with 6": in any read-out of as many cards, whatever stands behind it, and nothing of that read-out is used.
 abbrev pub CarriedFrameRefused : Type 0
 CarriedFrameRefused =
     (n c d : ℕ) (input line front rest : List ℕ) →
     readoutOf input .verdict ≡ Done →
-    FrameOf n d input line →
+    FrameOf formats n d input line →
     FrameDue formats n c front →
     (c ≡ d → ⊥) →
     length (front ++ (line ++ rest)) ≤ longestInput →
@@ -142,7 +143,7 @@ abbrev pub CarriedFramePutIn : Type 0
 CarriedFramePutIn =
     (n c d : ℕ) (input line front rest : List ℕ) →
     readoutOf input .verdict ≡ Done →
-    FrameOf n d input line →
+    FrameOf formats n d input line →
     FrameDue formats n c front →
     input ≡ front ++ rest →
     (c ≡ d → ⊥) →
@@ -153,8 +154,8 @@ abbrev pub CarriedFrameInPlace : Type 0
 CarriedFrameInPlace =
     (n c d : ℕ) (input line old : List ℕ) →
     readoutOf input .verdict ≡ Done →
-    FrameOf n d input line →
-    (o : FrameOf n c input old) →
+    FrameOf formats n d input line →
+    (o : FrameOf formats n c input old) →
     (c ≡ d → ⊥) →
     readoutOf (o .front ++ (line ++ o .behind)) ≡ record { readout = noReadout; verdict = Refused BadCheck }
 
@@ -163,7 +164,7 @@ abbrev pub OtherSessionRefused : Type 0
 OtherSessionRefused =
     (n c d : ℕ) (input line front rest : List ℕ) →
     readoutOf input .verdict ≡ Done →
-    (y : FrameOf n d input line) (x : FrameDue formats n c front) →
+    (y : FrameOf formats n d input line) (x : FrameDue formats n c front) →
     (x .header .session % 2 ^ 8 ≡ y .due .header .session % 2 ^ 8 → ⊥) →
     length (front ++ (line ++ rest)) ≤ longestInput →
     readoutOf (front ++ (line ++ rest)) ≡ record { readout = noReadout; verdict = Refused BadCheck }
@@ -173,7 +174,7 @@ abbrev pub CarriedIntoSheetRefused : Type 0
 CarriedIntoSheetRefused =
     (d : ℕ) (input line : List ℕ) (card : ℕ) (h : Header) (frs : List Frame) (rest : List ℕ) →
     readoutOf input .verdict ≡ Done →
-    FrameOf (h .cards) d input line →
+    FrameOf formats (h .cards) d input line →
     Fewer format card 0 h frs →
     (card ≡ d → ⊥) →
     length (shortBytes format h frs (line ++ rest)) ≤ longestInput →
@@ -184,7 +185,7 @@ abbrev pub FrameForHeaderRefused : Type 0
 FrameForHeaderRefused =
     (n c d : ℕ) (input line front rest : List ℕ) →
     readoutOf input .verdict ≡ Done →
-    FrameOf n d input line →
+    FrameOf formats n d input line →
     HeaderDue formats n c front →
     (c ≡ d → ⊥) →
     (r : Refusal) × (readoutOf (front ++ (line ++ rest)) ≡ record { readout = noReadout; verdict = Refused r })
