@@ -21,6 +21,7 @@ CLAIMS = [
     ("sheet_round", "Claims", "AlteredReadoutRefused"),
     ("sheet_round", "Claims", "FewerReadoutRefused"),
     ("sheet_round", "Claims", "StopsWhereDue"),
+    ("sheet_round", "Claims", "FramesStand"),
     ("sheet_round", "Claims", "CarriedFrameRefused"),
     ("sheet_round", "Claims", "OtherSessionRefused"),
     ("sheet_round", "Claims", "FrameForHeaderRefused"),
