@@ -1,11 +1,14 @@
 -- Places where a line is due, in a read-out with no line before them at fault: what stands there decides. For any format. Assumes nothing.
 use Prim.Native.Nat.{ℕ, suc, _+_, _-_, _%_, _^_, _<_}
 use mathlib.Core.Path.{_≡_, refl, sym, _∙_, ap, subst}
-use mathlib.Core.Bool.{true, cond}
+use mathlib.Core.Bool.{true, cond, _||_}
 use mathlib.Core.List.{List, [], _∷_, _++_, append-assoc}
 use mathlib.Core.Logic.{_⊎_, inl, inr, ⊎-elim}
 use native.Mathlib.Omega.{arith}
+use lib.Dec.{eqb}
 use lib.ListN.{length, take, drop}
+use borrow.Author.Tests.{eq-eqb}
+use Rattle.base_laws.proofs.Logic.{or-right}
 use Rattle.base_refusal.specs.declared.Refusal.{Refusal}
 use Rattle.base_refusal.specs.declared.Refusal.the-variants.{BadCheck}
 use Rattle.base_refusal.specs.declared.Reply.the-variants.{Done, Refused}
@@ -24,6 +27,22 @@ use Rattle.sheet_pages.proofs.Walk.{accepts-or}
 use Rattle.sheet_pages.proofs.Round.{AllValid, sheet-back, with-both}
 use Rattle.sheet_pages.proofs.Short.{sheet-short}
 use Rattle.sheet_pages.proofs.Whole.{cards-agree}
+
+-- ---- beside another first sheet
+
+-- whether a first sheet of so many cards goes with a header, or none was before it
+abbrev Agrees : Format → Header → ℕ → Type 0
+Agrees f h first = (eqb first 0 || eqb (cardsOf f h) first) ≡ true
+
+-- one of as many cards does
+pub agrees-itself : (f : Format) (h : Header) → (eqb (cardsOf f h) 0 || eqb (cardsOf f h) (cardsOf f h)) ≡ true
+agrees-itself f h = or-right (eqb (cardsOf f h) 0) (eq-eqb (cardsOf f h) (cardsOf f h) refl)
+
+pub allowed-beside : (f : Format) (due first other : ℕ) (p : Page) → Agrees f (p .header) other → Allowed f due first p → Allowed f due other p
+allowed-beside f due first other p g a = record { header = header-beside f due first other (p .header) (a .header) g; session = a .session; count = a .count; formed = a .formed; frames = a .frames }
+
+pub fewer-beside : (f : Format) (due first other : ℕ) (h : Header) (frs : List Frame) → Agrees f h other → Fewer f due first h frs → Fewer f due other h frs
+fewer-beside f due first other h frs g x = record { header = header-beside f due first other h (x .header) g; session = x .session; count = x .count; formed = x .formed; frames = x .frames }
 
 -- ---- where a header is due
 
@@ -56,7 +75,7 @@ behind-sheets F s n (p ∷ ps) l a =
     record { first = n; known = inr refl; next = λ cards rest. moreSheets F (n - 2 - length ps) (suc (length ps) + 1) n rest; goes-on = λ input. from-first (n - 2 - length ps) input (omega arith) }
   where
     as-first : Allowed (formatFor F (p .header)) 0 0 p
-    as-first = record { header = header-beside (formatFor F (p .header)) 0 n 0 (p .header) (a .0 .header) refl; session = a .0 .session; count = a .0 .count; formed = a .0 .formed; frames = a .0 .frames }
+    as-first = allowed-beside (formatFor F (p .header)) 0 n 0 p refl (a .0)
 
     cards-are : cardsOf (formatFor F (p .header)) (p .header) ≡ n
     cards-are = cards-agree n (cardsOf (formatFor F (p .header)) (p .header)) (λ (z : n ≡ 0). absurd (omega arith)) (header-limits (formatFor F (p .header)) 0 n (p .header) (a .0 .header) .agrees)
@@ -76,8 +95,7 @@ header-reached F s n c front d =
 
 -- fewer frames than declared beside a first sheet, or in the first
 fewer-of : (f : Format) (due first n : ℕ) (h : Header) (frs : List Frame) → (first ≡ 0) ⊎ (first ≡ n) → Fewer f due n h frs → Fewer f due first h frs
-fewer-of f due first n h frs (inl e) x =
-    subst (λ (k : ℕ). Fewer f due k h frs) (sym e) (record { header = header-beside f due n 0 h (x .header) refl; session = x .session; count = x .count; formed = x .formed; frames = x .frames })
+fewer-of f due first n h frs (inl e) x = subst (λ (k : ℕ). Fewer f due k h frs) (sym e) (fewer-beside f due n 0 h frs refl x)
 fewer-of f due first n h frs (inr e) x = subst (λ (k : ℕ). Fewer f due k h frs) (sym e) x
 
 module _ (F : Formats) (s : AllValid F) (n c : ℕ) (front : List ℕ) (d : FrameDue F n c front) where

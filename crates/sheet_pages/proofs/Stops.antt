@@ -1,14 +1,13 @@
 -- Wherever the reading of a read-out stops, a header or a frame is due there, or the last sheet is behind it; for any format. Assumes nothing.
 use Prim.Native.Nat.{ℕ, zero, suc, _+_, _-_, _<_}
 use mathlib.Core.Path.{_≡_, refl, sym, _∙_, ap, subst}
-use mathlib.Core.Bool.{true, cond, _||_}
+use mathlib.Core.Bool.{true, cond}
 use mathlib.Core.List.{List, [], _∷_, _++_, append-assoc}
 use native.Mathlib.Nat.{add-zero}
 use native.Mathlib.Omega.{arith}
-use lib.Dec.{eqb, eqb·suc-zero}
+use lib.Dec.{eqb·suc-zero}
 use lib.ListN.{length, drop}
-use borrow.Author.Tests.{eq-eqb}
-use Rattle.base_laws.proofs.Logic.{and-intro, or-right}
+use Rattle.base_laws.proofs.Logic.{and-intro}
 use Rattle.base_refusal.specs.declared.Refusal.{Refusal}
 use Rattle.base_refusal.specs.declared.Reply.{Reply}
 use Rattle.base_refusal.specs.declared.Reply.the-variants.{Done, Refused}
@@ -17,7 +16,7 @@ use Rattle.sheet_lines.specs.declared.Header.{Header}
 use Rattle.sheet_lines.specs.declared.Frame.{Frame}
 use Rattle.sheet_lines.specs.Format.{Format, Formats}
 use Rattle.sheet_lines.specs.Lines.{cardsOf, formatIn, formatFor, startOf, headerDigits, headerLine, headerIn, headerVerdict, frameDigits, frameLine, frameIn, frameVerdict, noFrame}
-use Rattle.sheet_lines.proofs.Passed.{header-limits, header-passed, header-beside}
+use Rattle.sheet_lines.proofs.Passed.{header-limits, header-passed}
 use Rattle.sheet_line_round.proofs.Round.{told-again, header-again, frame-again, entries-all, change-fits, session-fits, state-is}
 use Rattle.sheet_pages.specs.Pages.{Page, framesBytes, bytesIn, pageBytes, pagesBytes, Frames, withFrame, readFrames, framesOf, Sheets, withSheet, readSheet, ended, moreSheets, readSheets}
 use Rattle.sheet_pages.specs.Allowed.{framesAllowed, Formed, Allowed, AllAllowed, lastOf, Fewer, nextVerdict, shortBytes}
@@ -25,6 +24,7 @@ use Rattle.sheet_pages.specs.Due.{HeaderDue, FrameDue, firstCards, Stops
 use Rattle.sheet_pages.proofs.Read.{page-read}
 use Rattle.sheet_pages.proofs.Round.{frames-again}
 use Rattle.sheet_pages.proofs.Whole.{cards-agree}
+use Rattle.sheet_pages.proofs.Due.{agrees-itself, allowed-beside, fewer-beside}
 
 -- ---- within a sheet
 
@@ -137,10 +137,6 @@ more-stopped F (suc k) due first input r e = on (sheet-stopped F due first (λ c
 
 -- ---- of the whole read-out
 
--- a header beside a first sheet of as many cards
-beside : (f : Format) (h : Header) → (eqb (cardsOf f h) 0 || eqb (cardsOf f h) (cardsOf f h)) ≡ true
-beside f h = or-right (eqb (cardsOf f h) 0) (eq-eqb (cardsOf f h) (cardsOf f h) refl)
-
 module _ (F : Formats) (n : ℕ) (ps : List Page) (h : Header) (frs : List Frame) (rest : List ℕ) (a : AllAllowed F 0 n ps) (x : Fewer (formatFor F h) (length ps) n h frs) (q : cardsOf (formatFor F h) h ≡ n) where
   here : HeaderDue F n (length ps) (pagesBytes F ps)
   here =
@@ -179,11 +175,11 @@ stops F input r e = on (sheet-stopped F 0 0 (λ cards rest. moreSheets F (cond t
     on (in-header v) = at-header 1 0 [] input (record { sheets = []; bytes = refl; as-many = refl; more = omega arith; allowed = tt }) refl v
     on (in-frames h frs rest x b v) =
         let n = cardsOf (formatFor F h) h in
-        let y : Fewer (formatFor F h) 0 n h frs = record { header = header-beside (formatFor F h) 0 0 n h (x .header) (beside (formatFor F h) h); session = x .session; count = x .count; formed = x .formed; frames = x .frames } in
+        let y : Fewer (formatFor F h) 0 n h frs = fewer-beside (formatFor F h) 0 0 n h frs (agrees-itself (formatFor F h) h) x in
         at-frame n 0 (shortBytes (formatFor F h) h frs []) rest (frame-here F n [] h frs rest tt y refl) (frame-bytes F n [] h frs rest tt y refl ∙ b) v
     on (behind p rest a b v) =
         let f = formatFor F (p .header) in
         let n = cardsOf f (p .header) in
         let l = header-limits f 0 0 (p .header) (a .header) in
-        push p n rest refl (record { header = header-beside f 0 0 n (p .header) (a .header) (beside f (p .header)); session = a .session; count = a .count; formed = a .formed; frames = a .frames }) (omega (arith, l .below)) b
+        push p n rest refl (allowed-beside f 0 0 n p (agrees-itself f (p .header)) a) (omega (arith, l .below)) b
         (more-stopped F (n - 1) 1 n rest r v)
