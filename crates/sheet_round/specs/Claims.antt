@@ -130,24 +130,24 @@ FramesStand =
 -- "Where a frame is due and no line before it is at fault, a frame carried unaltered from the sheet of another card of the same read-out, accepted until then, is always refused with 6": in any read-out of as many cards, whatever stands behind it, and nothing of that read-out is used.
 abbrev pub CarriedFrameRefused : Type 0
 CarriedFrameRefused =
-    (n c d : ℕ) (input line front rest : List ℕ) →
+    (n c d : ℕ) (input line place rest : List ℕ) →
     readoutOf input .verdict ≡ Done →
     FrameOf formats n d input line →
-    FrameDue formats n c front →
+    FrameDue formats n c place →
     (c ≡ d → ⊥) →
-    length (front ++ (line ++ rest)) ≤ longestInput →
-    readoutOf (front ++ (line ++ rest)) ≡ record { readout = noReadout; verdict = Refused BadCheck }
+    length (place ++ (line ++ rest)) ≤ longestInput →
+    readoutOf (place ++ (line ++ rest)) ≡ record { readout = noReadout; verdict = Refused BadCheck }
 
 -- So where it is put into its own read-out: the input is never too long.
 abbrev pub CarriedFramePutIn : Type 0
 CarriedFramePutIn =
-    (n c d : ℕ) (input line front rest : List ℕ) →
+    (n c d : ℕ) (input line front after : List ℕ) →
     readoutOf input .verdict ≡ Done →
     FrameOf formats n d input line →
     FrameDue formats n c front →
-    input ≡ front ++ rest →
+    input ≡ front ++ after →
     (c ≡ d → ⊥) →
-    readoutOf (front ++ (line ++ rest)) ≡ record { readout = noReadout; verdict = Refused BadCheck }
+    readoutOf (front ++ (line ++ after)) ≡ record { readout = noReadout; verdict = Refused BadCheck }
 
 -- So where it stands in place of a frame of another card.
 abbrev pub CarriedFrameInPlace : Type 0
