@@ -13,6 +13,8 @@ extern "C" {
     fn bench_take(cards: u32, states: u32, reads: bool, at: u32) -> u32;
     fn bench_withdraw(cards: u32, states: u32, reads: bool, at: u32) -> u32;
     fn bench_store(cards: u32, states: u32, reads: bool, at: u32) -> u32;
+    fn bench_begin(cards: u32, states: u32, reads: bool, at: u32) -> u32;
+    fn bench_end(cards: u32, states: u32, reads: bool, at: u32) -> u32;
     fn bench_trim(cards: u32, states: u32, reads: bool, at: u32) -> u32;
     fn bench_safe(cards: u32, states: u32, change: u32, at: u32) -> u32;
     fn bench_lose(cards: u32, states: u32, reads: bool, at: u32) -> u32;
@@ -50,6 +52,8 @@ fn main() {
     call!("take", bench_take, port_take, lent_take);
     call!("withdraw", bench_withdraw, port_withdraw, lent_withdraw);
     call!("store", bench_store, port_store, lent_store);
+    call!("begin", bench_begin, port_begin, lent_begin);
+    call!("end", bench_end, port_end, lent_end);
     call!("trim", bench_trim, port_trim, lent_trim);
     call!("lose", bench_lose, port_lose, lent_lose);
     call!("roll", bench_roll, port_roll, lent_roll);

@@ -3,7 +3,7 @@ import re
 import sys
 
 OUT = sys.argv[1]
-CALLS = "fresh open vote take withdraw store trim safe lose fix roll sheet restart".split()
+CALLS = "fresh open vote take withdraw store begin end trim safe lose fix roll sheet restart".split()
 
 
 COPY = 55256

@@ -27,6 +27,10 @@ CLAIMS = [
     ("sheet_round", "Claims", "FrameForHeaderRefused"),
     ("sheet_round", "Claims", "OlderReadoutRefused"),
     ("demands_valid", "Restart", "RefusedReadouts"),
+    ("theory_protocol", "Writes", "RefusedWhileWriting"),
+    ("theory_protocol", "Writes", "Unhindered"),
+    ("theory_codec", "Claims", "SheetsUnseen"),
+    ("demands_lists", "Claims", "Unhindered16"),
 ]
 HEAD = re.compile(r"^(?:(?:abbrev|unfoldable) )?(?:pub )?(?:(record|data) )?([^\s:(]+)(?= [:(])")
 TOKEN = re.compile(r"[^\s(){};,.\[\]]+")

@@ -80,7 +80,9 @@ pub fn show(cabinet: &Cabinet) -> String {
     };
     let mut text = format!("session {} {} cards {}\n", cabinet.session, phase, cabinet.cards.len());
     for (number, card) in cabinet.cards.iter().enumerate() {
-        text += &format!("{} {} {} {} {}\n", number, card.base, card.stored, card.held, card.reached);
+        text += &format!("{} {} {} {} {}", number, card.base, card.stored, card.held, card.reached);
+        text += &card.writing.map_or(String::new(), |up_to| format!(" writing {up_to}"));
+        text += "\n";
     }
     text
 }

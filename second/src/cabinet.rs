@@ -1,4 +1,4 @@
-//! The cabinet and the calls of document 01.
+//! The cabinet and the calls of document 01, with the long writes of wish 5.
 
 use crate::cards::{all, has, members, one, CardSet};
 use crate::history::{Decided, History};
@@ -6,19 +6,21 @@ use crate::limits::*;
 use crate::refusal::Refusal;
 use crate::sheet::{write_sheet, Frame, Sheet};
 
-/// The four state numbers of a card.
+/// The four state numbers of a card, and its running write.
 #[derive(Clone, Copy, PartialEq, Eq, Debug)]
 pub struct Card {
     pub base: u32,
     pub stored: u32,
     pub held: u32,
     pub reached: u32,
+    /// While a write runs: the state s that it goes up to.
+    pub writing: Option<u32>,
 }
 
 impl Card {
-    /// A card whose four numbers are the same.
+    /// A card whose four numbers are the same; no write runs.
     pub fn at(state: u32) -> Card {
-        Card { base: state, stored: state, held: state, reached: state }
+        Card { base: state, stored: state, held: state, reached: state, writing: None }
     }
 }
 
@@ -98,11 +100,11 @@ impl Cabinet {
         if !(1..=MOST_CARDS as u32).contains(&cards) {
             return Err(Refusal::CardCount);
         }
-        Ok(Cabinet::begin(1, vec![0; cards as usize]))
+        Ok(Cabinet::session_start(1, vec![0; cards as usize]))
     }
 
-    /// A session's beginning: phase up, history empty.
-    fn begin(session: u32, start: Vec<u32>) -> Cabinet {
+    /// A session's beginning: phase up, history empty, no write running.
+    fn session_start(session: u32, start: Vec<u32>) -> Cabinet {
         Cabinet {
             session,
             phase: Phase::Up,
@@ -242,15 +244,50 @@ impl Cabinet {
         Ok(())
     }
 
-    /// Call 5.
-    pub fn store(&mut self, card: u32, state: u32) -> Result<(), Refusal> {
+    /// The card of a store, a beginning or an end: all three are of the phases
+    /// of call 5.
+    fn stored_card(&mut self, card: u32) -> Result<&mut Card, Refusal> {
         let card = self.card_of(card)?;
         self.in_phase(&[Phase::Up, Phase::Down])?;
-        let card = &mut self.cards[card];
+        Ok(&mut self.cards[card])
+    }
+
+    /// The card that a store or a beginning may have this number for.
+    fn card_to_store(&mut self, card: u32, state: u32) -> Result<&mut Card, Refusal> {
+        let card = self.stored_card(card)?;
         if !(card.stored..=card.held).contains(&state) {
             return Err(Refusal::StoreOutside);
         }
+        if card.writing.is_some() {
+            return Err(Refusal::WriteRunning);
+        }
+        Ok(card)
+    }
+
+    /// Call 5.
+    pub fn store(&mut self, card: u32, state: u32) -> Result<(), Refusal> {
+        self.card_to_store(card, state)?.stored = state;
+        Ok(())
+    }
+
+    /// Wish 5, the beginning: a write of the card up to a state runs from now.
+    pub fn begin(&mut self, card: u32, state: u32) -> Result<(), Refusal> {
+        self.card_to_store(card, state)?.writing = Some(state);
+        Ok(())
+    }
+
+    /// Wish 5, the end: the state is the number that the running write reached.
+    pub fn end(&mut self, card: u32, state: u32) -> Result<(), Refusal> {
+        let card = self.stored_card(card)?;
+        let Some(up_to) = card.writing else {
+            return Err(Refusal::NoSuchEnd);
+        };
+        if !(card.stored..=up_to).contains(&state) {
+            return Err(Refusal::NoSuchEnd);
+        }
         card.stored = state;
+        card.held = card.held.max(state);
+        card.writing = None;
         Ok(())
     }
 
@@ -285,7 +322,7 @@ impl Cabinet {
         })
     }
 
-    /// Call 8.
+    /// Call 8. A running write goes on: its end tells what it reached.
     pub fn lose(&mut self, set: u32) -> Result<(), Refusal> {
         let set = set_of(set, self.cards.len())?;
         for card in members(set) {
@@ -309,6 +346,9 @@ impl Cabinet {
         self.in_phase(&[Phase::Down])?;
         if self.session == LAST_NUMBER {
             return Err(Refusal::NumbersUsedUp);
+        }
+        if self.cards.iter().any(|card| card.writing.is_some()) {
+            return Err(Refusal::WriteUnreported);
         }
         let lost = self.lost_now();
         if records < self.cards.len() || numbers < lost.len() {
@@ -337,7 +377,7 @@ impl Cabinet {
         self.cards[card] = Card::at(self.line[card]);
         self.rolled |= one(card);
         if self.rolled == all(self.cards.len()) {
-            *self = Cabinet::begin(self.session + 1, self.line.clone());
+            *self = Cabinet::session_start(self.session + 1, self.line.clone());
         }
         Ok(())
     }

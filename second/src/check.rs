@@ -1,7 +1,8 @@
 //! The property checks over random lists and read-outs: the setter's book,
-//! vectors by both ways, lines by both ways, sheets, refusals.
+//! vectors by both ways, lines by both ways, sheets, long writes, refusals.
 
 mod bound;
+mod writes;
 
 use crate::answer::Answer;
 use crate::cabinet::{Cabinet, Past, Phase, Record};
@@ -18,6 +19,7 @@ use crate::sheet::{read_sheet, read_sheets, write_sheet};
 use crate::takes::Takes;
 use bound::demand_bound;
 use std::collections::{BTreeMap, BTreeSet};
+use writes::*;
 
 /// What the checks saw.
 #[derive(Default, Debug)]
@@ -41,7 +43,7 @@ struct Follower {
     place: Place,
     journal: Journal,
     takes: Takes,
-    /// What a cut would leave on each card: its last accepted store or roll.
+    /// What a cut would leave on each card: its last accepted store, end or roll.
     left: Vec<u32>,
     random: Random,
 }
@@ -79,10 +81,14 @@ impl Follower {
         let before = self.place.cabinet.clone();
         let answer = self.place.answer(call);
         self.demand_refusal_due(&call, &answer, before.as_ref())?;
+        if let (Some(before), Some(after)) = (&before, &self.place.cabinet) {
+            demand_unmoved(&call, &answer, before, after, counts)?;
+        }
         if let Answer::Refused(refusal) = answer {
             counts.add(&format!("refused {:02}", refusal.number()));
             count_barred(&call, refusal, before.as_ref(), counts);
             count_short(&call, refusal, before.as_ref(), counts);
+            count_refused(&call, refusal, before.as_ref(), counts);
             return demand(before == self.place.cabinet, "a refusal changed the cabinet");
         }
         if answer == Answer::NoCabinet {
@@ -96,6 +102,8 @@ impl Follower {
         self.demand_sheets(&joined, counts)?;
         demand_altered_refused(&joined, &mut self.random, counts)?;
         demand_bound(&joined, 1, &mut self.random, counts)?;
+        self.demand_any_end(counts)?;
+        self.demand_any_cut(counts)?;
         self.demand_cut(counts)
     }
 
@@ -139,6 +147,13 @@ impl Follower {
             (Call::Vote { change, .. } | Call::Withdraw { change }, _) => self.takes.end(change),
             (Call::Take { change, card }, _) => self.follow_take(change, card as usize, counts)?,
             (Call::Store { card, state }, _) => self.left[card as usize] = state,
+            (Call::Begin { card, state }, _) => {
+                demand_begun(card as usize, state, before, self.cabinet()?, counts)?;
+            }
+            (Call::End { card, state }, _) => {
+                demand_ended(card as usize, state, before, self.cabinet()?, counts)?;
+                self.left[card as usize] = state;
+            }
             (Call::Lose { set }, _) => self.follow_loss(set as CardSet, before, counts)?,
             (Call::Trim, _) => self.demand_trim(counts)?,
             (Call::Fix { .. }, Answer::Fixed { records, lost }) => {
@@ -212,7 +227,7 @@ impl Follower {
         for card in members(set) {
             demand(
                 cabinet.cards[card].stored == self.left[card],
-                "a cut left another state than the last store or roll",
+                "a cut left another state than the last store, end or roll",
             )?;
             demand(cabinet.cards[card].held == self.left[card], "a lost card holds more than it stored")?;
         }
@@ -221,6 +236,9 @@ impl Follower {
             let half = |open: &&crate::cabinet::Open| open.decided() && open.taken != 0;
             if before.phase == Phase::Up && before.open.iter().any(|open| half(&open)) {
                 counts.add("losses with a half-taken change");
+            }
+            if members(set).any(|card| before.cards[card].writing.is_some()) {
+                counts.add("losses of a card whose write runs");
             }
         }
         Ok(())
@@ -235,14 +253,16 @@ impl Follower {
         demand(cabinet.line_by_hits() == bases, "a second trim would move a base")
     }
 
-    /// Were every card lost right here, the fix that follows would list the
-    /// change exactly if it is not safe; by the book it is then on none of its
-    /// cards, else on all.
+    /// Were every card lost right here, with the present stored numbers reported
+    /// of running writes, the fix that follows would list the change exactly if
+    /// it is not safe; by the book it is then on none of its cards, else on all.
     fn demand_safe(&self, change: u32, safe: bool, counts: &mut Counts) -> Result<(), String> {
         let cabinet = self.cabinet()?.clone();
         let set = u32::from(all(cabinet.cards.len()));
+        let ends = ends_at_stored(&cabinet);
         let mut place = Place { cabinet: Some(cabinet) };
         place.answer(Call::Lose { set });
+        report(&mut place, &mut self.journal.clone(), &ends)?;
         let Answer::Fixed { records, lost } = place.answer(Call::Fix { records: 16, numbers: 776 }) else {
             return Err("a fix after a loss of all cards is refused".to_string());
         };
@@ -332,8 +352,9 @@ impl Follower {
         }
     }
 
-    /// Cards lost right here: the fix that follows holds, and so do the rolls
-    /// after it, with the engine's memory gone before each.
+    /// Cards lost right here, and running writes reported, some before the loss
+    /// and some after it: the fix that follows holds, and so do the rolls after
+    /// it, with the engine's memory gone before each.
     fn demand_cut(&mut self, counts: &mut Counts) -> Result<(), String> {
         let cabinet = self.cabinet()?.clone();
         let long = self.journal.history.len() > 30;
@@ -342,13 +363,24 @@ impl Follower {
         }
         let cards = cabinet.cards.len();
         let mut place = Place { cabinet: Some(cabinet) };
+        let mut journal = self.journal.clone();
+        let ends = self.some_ends()?;
+        let (early, late) = ends.split_at(self.random.place(ends.len() + 1));
         let set = self.random.bits() as u32 & u32::from(all(cards));
+        let fix = Call::Fix { records: 16, numbers: 776 };
+        report(&mut place, &mut journal, early)?;
         place.answer(Call::Lose { set });
-        let Answer::Fixed { records, lost } = place.answer(Call::Fix { records: 16, numbers: 776 }) else {
+        if !late.is_empty() {
+            counts.add("cuts with a write running tried");
+            let refused = Answer::Refused(Refusal::WriteUnreported);
+            demand(place.answer(fix) == refused, "a fix with a write unreported is not refused")?;
+        }
+        report(&mut place, &mut journal, late)?;
+        let Answer::Fixed { records, lost } = place.answer(fix) else {
             return Err("a fix after a cut is refused".to_string());
         };
         counts.add("cuts tried");
-        self.journal.demand_at_fix(&records, &lost)?;
+        journal.demand_at_fix(&records, &lost)?;
         let first = self.random.place(cards);
         for step in 0..cards {
             place.answer(Call::Restart);
@@ -368,7 +400,7 @@ impl Follower {
             let rising = card.base <= card.stored && card.stored <= card.held && card.held <= card.reached;
             let limited = card.reached <= card.base + MOST_IN_HAND && card.reached <= HIGHEST_STATE;
             demand(rising && limited, &format!("card {number} is out of its limits: {card:?}"))?;
-            demand(card.stored == self.left[number], "stored is not the last accepted store or roll")?;
+            demand(card.stored == self.left[number], "stored is not the last accepted store, end or roll")?;
             let rolled = self.journal.noted.as_ref().is_some_and(|noted| has(noted.rolled, number));
             demand(rolled || card.stored == self.journal.stored[number], "stored is not the book's")?;
             demand(
@@ -376,6 +408,7 @@ impl Follower {
                 "in phase up held is not reached",
             )?;
         }
+        demand_writes(cabinet)?;
         demand(cabinet.open.len() <= MOST_OPEN, "more than eight changes are open")
     }
 

@@ -16,10 +16,11 @@ pub struct Data {
 }
 
 /// Lists by hand, one call a line; a line that begins with `#` is a comment.
-const BY_HAND: [&str; 3] = [
+const BY_HAND: [&str; 4] = [
     include_str!("../lists/calls.txt"),
     include_str!("../lists/samples.txt"),
     include_str!("../lists/refusals.txt"),
+    include_str!("../lists/writes.txt"),
 ];
 
 /// The random lists, in turn: style, calls, and the cards of the cabinet.
@@ -29,11 +30,11 @@ const KINDS: [(Style, usize, u32); 16] = [
     (Style::Wide, 150, 8),
     (Style::Roll, 180, 3),
     (Style::Small, 120, 1),
-    (Style::Half, 200, 2),
+    (Style::Long, 200, 3),
     (Style::Roll, 200, 5),
     (Style::Mixed, 220, 4),
     (Style::Deep, 200, 1),
-    (Style::Roll, 180, 2),
+    (Style::Long, 200, 2),
     (Style::Half, 200, 4),
     (Style::Wide, 150, 5),
     (Style::Small, 120, 3),

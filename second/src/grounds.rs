@@ -1,7 +1,7 @@
 //! The grounds of a refusal, for the checks: whether the cabinet that a call
-//! was refused on is one that document 01's table names.
+//! was refused on is one that the tables name, with wish 5's 31 to 33 after 30.
 
-use crate::cabinet::{Cabinet, Open, Phase};
+use crate::cabinet::{Cabinet, Card, Open, Phase};
 use crate::call::Call;
 use crate::cards::{has, CardSet};
 use crate::limits::*;
@@ -24,6 +24,8 @@ fn named(call: &Call) -> u64 {
         Call::Vote { card, .. }
         | Call::Take { card, .. }
         | Call::Store { card, .. }
+        | Call::Begin { card, .. }
+        | Call::End { card, .. }
         | Call::Roll { card }
         | Call::Frames { card }
         | Call::Sheet { card, .. } => one(card),
@@ -34,7 +36,7 @@ fn named(call: &Call) -> u64 {
 /// The phases of a call.
 fn phases(call: &Call) -> &'static [Phase] {
     match call {
-        Call::Store { .. } => &[Phase::Up, Phase::Down],
+        Call::Store { .. } | Call::Begin { .. } | Call::End { .. } => &[Phase::Up, Phase::Down],
         Call::Fix { .. } => &[Phase::Down],
         Call::Roll { .. } => &[Phase::Rolling],
         Call::Lose { .. }
@@ -100,6 +102,17 @@ fn has_frame(cabinet: &Cabinet, change: u32) -> bool {
     })
 }
 
+/// The cards whose write is running.
+fn writing(cabinet: &Cabinet) -> CardSet {
+    let cards = cabinet.cards.iter().enumerate();
+    cards.filter(|(_, numbers)| numbers.writing.is_some()).fold(0, |set, (card, _)| set | 1 << card)
+}
+
+/// A write runs on the card, and the number is one from stored to its s.
+fn may_end(card: &Card, state: u32) -> bool {
+    card.writing.is_some_and(|up_to| card.stored <= state && state <= up_to)
+}
+
 /// The lowest card that an opening touches and finds barred: 21 is looked for apart, as it names one.
 fn lowest_barred(call: &Call, cabinet: &Cabinet) -> Option<usize> {
     (0..cabinet.cards.len()).find(|card| is_barred(call, cabinet, *card))
@@ -130,7 +143,7 @@ fn holds(refusal: Refusal, call: &Call, cabinet: &Cabinet) -> bool {
         Refusal::NotAwaited => not_awaited(call, cabinet),
         Refusal::AlreadyDecided => change_of(call, cabinet).is_some_and(all_yes),
         Refusal::StoreOutside => match *call {
-            Call::Store { card, state } => {
+            Call::Store { card, state } | Call::Begin { card, state } => {
                 let numbers = cabinet.cards[card as usize];
                 state < numbers.stored || state > numbers.held
             }
@@ -138,12 +151,21 @@ fn holds(refusal: Refusal, call: &Call, cabinet: &Cabinet) -> bool {
         },
         Refusal::NotDecided => change_of(call, cabinet).is_some_and(|open| !all_yes(open)),
         Refusal::AlreadyRolled => matches!(*call, Call::Roll { card } if has(cabinet.rolled, card as usize)),
+        Refusal::WriteRunning => match *call {
+            Call::Store { card, .. } | Call::Begin { card, .. } => has(writing(cabinet), card as usize),
+            _ => false,
+        },
+        Refusal::NoSuchEnd => match *call {
+            Call::End { card, state } => !may_end(&cabinet.cards[card as usize], state),
+            _ => false,
+        },
+        Refusal::WriteUnreported => matches!(call, Call::Fix { .. }) && writing(cabinet) != 0,
         _ => false,
     }
 }
 
 /// The refusals that a call may give, in the order they are looked for.
-const IN_ORDER: [Refusal; 14] = [
+const IN_ORDER: [Refusal; 17] = [
     Refusal::CardCount,
     Refusal::NoSuchCard,
     Refusal::EmptySets,
@@ -156,6 +178,9 @@ const IN_ORDER: [Refusal; 14] = [
     Refusal::NotAwaited,
     Refusal::StoreOutside,
     Refusal::AlreadyRolled,
+    Refusal::WriteRunning,
+    Refusal::NoSuchEnd,
+    Refusal::WriteUnreported,
     Refusal::TooShort,
     Refusal::TooLong,
 ];

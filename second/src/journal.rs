@@ -54,7 +54,8 @@ impl Journal {
         self.start.len()
     }
 
-    /// Notes an accepted call.
+    /// Notes an accepted call. Of a write its beginning notes nothing, its end
+    /// what a store would.
     pub fn note(&mut self, call: &Call, answer: &Answer) {
         match (*call, answer) {
             (_, Answer::Refused(_)) => {}
@@ -67,7 +68,9 @@ impl Journal {
             (Call::Vote { change, .. } | Call::Withdraw { change }, _) => {
                 self.undecided.retain(|entered| entered.number != change);
             }
-            (Call::Store { card, state }, _) => self.stored[card as usize] = state,
+            (Call::Store { card, state } | Call::End { card, state }, _) => {
+                self.stored[card as usize] = state;
+            }
             (Call::Lose { .. }, _) => self.undecided.clear(),
             (Call::Fix { .. }, Answer::Fixed { records, .. }) => {
                 self.note_line(records.iter().map(|record| record.line).collect());

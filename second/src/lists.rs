@@ -118,6 +118,8 @@ impl Maker {
             Call::Open { reads: 0, writes: 1 },
             Call::Restart,
             Call::Trim,
+            Call::Begin { card: 0, state: 0 },
+            Call::End { card: 0, state: 0 },
             Call::Fix { records: 16, numbers: 776 },
         ]);
         self.call(call);
@@ -161,20 +163,23 @@ impl Maker {
             return self.empty_hand();
         }
         let w = weights(self.style);
-        let order = [w.open, w.vote, w.take, w.store, w.trim, w.safe, w.withdraw, w.lose, w.look, w.restart];
-        match self.random.weighted(&order) {
+        let changes = [w.open, w.vote, w.take, w.withdraw, w.safe];
+        let numbers = [w.store, w.begin, w.end, w.trim, w.lose, w.look, w.restart];
+        match self.random.weighted(&[&changes[..], &numbers[..]].concat()) {
             0 => self.open(),
             1 => self.vote(),
             2 => self.take(),
-            3 => self.store(),
-            4 => {
+            3 => self.withdraw(),
+            4 => self.safe(),
+            5 => self.store(),
+            6 => self.begin_write(),
+            7 => self.end_write(),
+            8 => {
                 self.call(Call::Trim);
                 self.show_at(200);
             }
-            5 => self.safe(),
-            6 => self.withdraw(),
-            7 => self.lose(),
-            8 => self.look(),
+            9 => self.lose(),
+            10 => self.look(),
             _ => {
                 self.call(Call::Restart);
                 self.show_at(350);
@@ -183,7 +188,8 @@ impl Maker {
     }
 
     fn step_down(&mut self) {
-        match self.random.weighted(&[4, 2, 8, 2, 1, 1]) {
+        let ends = if self.running().is_empty() { 1 } else { 5 };
+        match self.random.weighted(&[4, 2, 8, 2, 1, 2, ends, 1]) {
             0 => self.store(),
             1 => self.lose(),
             2 => self.fix(),
@@ -192,6 +198,8 @@ impl Maker {
                 self.call(Call::Restart);
                 self.show_at(350);
             }
+            5 => self.begin_write(),
+            6 => self.end_write(),
             _ => self.out_of_phase(),
         }
     }
@@ -308,29 +316,139 @@ impl Maker {
         let soon = match self.style {
             Style::Half => 600,
             Style::Full => 0,
+            Style::Long => 20,
             _ => 100,
         };
         if has(writes, card) && self.random.chance(soon) {
+            self.store_soon(card);
+        }
+    }
+
+    /// Stores all that a card holds, or begins to.
+    fn store_soon(&mut self, card: usize) {
+        if self.random.chance(250) {
+            let state = self.cabinet().cards[card].held;
+            self.call(Call::Begin { card: card as u32, state });
+        } else {
             self.store_all(card);
         }
     }
 
-    /// Stores all that a card holds.
+    /// Stores all that a card holds, mostly with its running write ended before.
     fn store_all(&mut self, card: usize) {
+        if self.cabinet().cards[card].writing.is_some() && self.random.chance(900) {
+            self.report(card);
+        }
         let state = self.cabinet().cards[card].held;
         self.call(Call::Store { card: card as u32, state });
     }
 
     fn store(&mut self) {
         let card = self.any_card();
+        let state = self.number_to_store(card);
+        self.call(Call::Store { card, state });
+    }
+
+    /// For a store or a beginning, mostly from stored to held.
+    fn number_to_store(&mut self, card: u32) -> u32 {
         let numbers = self.cabinet().cards[card as usize];
-        let state = match self.random.below(10) {
+        match self.random.below(10) {
             0 => numbers.held + 1,
             1 => numbers.stored.saturating_sub(1),
             2..=5 => numbers.held,
             _ => self.random.from_to(numbers.stored, numbers.held),
+        }
+    }
+
+    /// The cards whose write is running.
+    fn running(&self) -> Vec<usize> {
+        let cards = &self.cabinet().cards;
+        (0..cards.len()).filter(|card| cards[*card].writing.is_some()).collect()
+    }
+
+    /// How many states a card has to store, no write running; 0 with one.
+    fn to_store(&self, card: usize) -> u32 {
+        let numbers = self.cabinet().cards[card];
+        numbers.writing.map_or(numbers.held - numbers.stored, |_| 0)
+    }
+
+    /// A beginning, mostly on a card with something to store and no write, often
+    /// on the one with most.
+    fn begin_write(&mut self) {
+        let cards = 0..self.cards();
+        let least = if self.style == Style::Long { 2 } else { 1 };
+        let fitting: Vec<usize> = cards.filter(|card| self.to_store(*card) >= least).collect();
+        if fitting.is_empty() && self.cabinet().phase != Phase::Rolling && self.random.chance(850) {
+            return self.instead_of_a_write();
+        }
+        let most = fitting.iter().copied().max_by_key(|card| self.to_store(*card));
+        let card = match (most, self.random.below(8)) {
+            (None, _) | (_, 0) => self.any_card(),
+            (Some(most), 1..=4) => most as u32,
+            _ => self.random.pick(&fitting) as u32,
         };
-        self.call(Call::Store { card, state });
+        let state = self.number_to_store(card);
+        self.call(Call::Begin { card, state });
+        self.show_at(80);
+    }
+
+    /// What brings something to store, or the roll-back.
+    fn instead_of_a_write(&mut self) {
+        match self.cabinet().phase {
+            Phase::Up => self.vote(),
+            _ => self.fix(),
+        }
+    }
+
+    /// An end, mostly of a running write.
+    fn end_write(&mut self) {
+        let running = self.running();
+        if running.is_empty() && self.random.chance(850) {
+            return self.begin_write();
+        }
+        let card = if running.is_empty() || self.random.chance(60) {
+            self.any_card()
+        } else {
+            self.random.pick(&running) as u32
+        };
+        let state = self.number_to_report(card);
+        self.call(Call::End { card, state });
+        self.show_at(150);
+    }
+
+    /// For an end, mostly from stored to the state that the write goes up to.
+    fn number_to_report(&mut self, card: u32) -> u32 {
+        let numbers = self.cabinet().cards[card as usize];
+        let up_to = numbers.writing.unwrap_or(numbers.held);
+        match self.random.below(12) {
+            0 => up_to + 1,
+            1 => numbers.stored.saturating_sub(1),
+            2 => numbers.reached,
+            3 | 4 => numbers.stored,
+            5..=7 => up_to,
+            _ => self.random.from_to(numbers.stored, up_to),
+        }
+    }
+
+    /// Ends a running write with a number that it may have reached; for a full
+    /// cabinet with the old one, so that all is lost.
+    fn report(&mut self, card: usize) {
+        let numbers = self.cabinet().cards[card];
+        let up_to = if self.style == Style::Full { None } else { numbers.writing };
+        let up_to = up_to.unwrap_or(numbers.stored);
+        let state = match self.random.below(4) {
+            0 => numbers.stored,
+            1 => up_to,
+            _ => self.random.from_to(numbers.stored, up_to),
+        };
+        self.call(Call::End { card: card as u32, state });
+    }
+
+    /// Ends all running writes.
+    fn report_all(&mut self) {
+        for card in self.running() {
+            self.report(card);
+        }
     }
 
     /// Asks of a number near the last one given, or of the change that made
@@ -374,7 +492,16 @@ impl Maker {
         self.show_at(100);
     }
 
+    /// A fix, mostly with all writes reported before, now and then with one.
     fn fix(&mut self) {
+        let running = self.running();
+        if self.cabinet().phase == Phase::Down && !running.is_empty() {
+            match self.random.below(10) {
+                0 | 1 => {}
+                2 => self.report(running[0]),
+                _ => self.report_all(),
+            }
+        }
         let cards = self.cards() as u32;
         let lost = match self.cabinet().phase {
             Phase::Down => self.cabinet().lost_now().len() as u32,
@@ -432,7 +559,7 @@ impl Maker {
     }
 
     fn out_of_phase(&mut self) {
-        match self.random.below(9) {
+        match self.random.below(11) {
             0 => self.open(),
             1 | 2 => self.any_vote_or_take(),
             3 => self.store(),
@@ -442,6 +569,8 @@ impl Maker {
             }
             6 => self.fix(),
             7 => self.withdraw(),
+            8 => self.begin_write(),
+            9 => self.end_write(),
             _ => {
                 let card = self.any_card();
                 self.call(Call::Roll { card });
@@ -484,13 +613,14 @@ impl Maker {
         self.look();
     }
 
-    /// From any phase by loss, fix and rolls to phase up.
+    /// From any phase by loss, ends, fix and rolls to phase up.
     fn recover(&mut self) {
         if self.cabinet().phase == Phase::Up {
             let set = all(self.cards()).into();
             self.call(Call::Lose { set });
         }
         if self.cabinet().phase == Phase::Down {
+            self.report_all();
             self.call(Call::Fix { records: 16, numbers: 776 });
         }
         while self.cabinet().phase == Phase::Rolling {

@@ -1,4 +1,4 @@
-//! The refusals of document 01, each with its number.
+//! The refusals of document 01 and of wish 5, each with its number.
 
 #[derive(Clone, Copy, PartialEq, Eq, Debug)]
 pub enum Refusal {
@@ -40,16 +40,22 @@ pub enum Refusal {
     NotAwaited,
     /// 26: vote on, or withdrawal of, a decided change.
     AlreadyDecided,
-    /// 27: store outside stored to held.
+    /// 27: store or beginning outside stored to held.
     StoreOutside,
     /// 29: take before the decision.
     NotDecided,
     /// 30: card already rolled.
     AlreadyRolled,
+    /// 31: a store or beginning on a card whose write is running.
+    WriteRunning,
+    /// 32: an end without a beginning, or outside stored to s.
+    NoSuchEnd,
+    /// 33: a fix while a write is unreported.
+    WriteUnreported,
 }
 
 impl Refusal {
-    /// Document 01's number of the refusal.
+    /// The documents' number of the refusal.
     pub fn number(self) -> u32 {
         match self {
             Refusal::CardCount => 1,
@@ -74,6 +80,9 @@ impl Refusal {
             Refusal::StoreOutside => 27,
             Refusal::NotDecided => 29,
             Refusal::AlreadyRolled => 30,
+            Refusal::WriteRunning => 31,
+            Refusal::NoSuchEnd => 32,
+            Refusal::WriteUnreported => 33,
         }
     }
 }

@@ -59,6 +59,8 @@ fn run(cabinet: &mut Cabinet, call: Call) -> Result<Answer, Refusal> {
         Call::Take { change, card } => cabinet.take(change, card).map(done),
         Call::Withdraw { change } => cabinet.withdraw(change).map(done),
         Call::Store { card, state } => cabinet.store(card, state).map(done),
+        Call::Begin { card, state } => cabinet.begin(card, state).map(done),
+        Call::End { card, state } => cabinet.end(card, state).map(done),
         Call::Trim => cabinet.trim().map(done),
         Call::Safe { change } => cabinet.safe(change).map(Answer::Safe),
         Call::Lose { set } => cabinet.lose(set).map(done),

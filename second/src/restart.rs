@@ -41,8 +41,8 @@ fn card_from(sheet: &Sheet) -> Card {
     Card { base: sheet.base, ..Card::at(sheet.stored()) }
 }
 
-/// The cabinet that accepted sheets give. No change is open and the last
-/// change number is 0.
+/// The cabinet that accepted sheets give. No change is open, no write runs and
+/// the last change number is 0.
 fn rolling(sheets: Vec<Sheet>, lowest: u32) -> Cabinet {
     let rolled: CardSet =
         sheets.iter().filter(|sheet| sheet.session > lowest).fold(0, |set, sheet| set | one(sheet.card));

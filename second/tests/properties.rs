@@ -14,7 +14,9 @@ fn random_lists() {
     for seed in 0..700 {
         check_list(&list(seed), &mut counts).unwrap_or_else(|error| panic!("seed {seed}: {error}"));
     }
-    for number in ["01", "02", "03", "04", "20", "21", "22", "23", "25", "26", "27", "29", "30"] {
+    let numbers =
+        ["01", "02", "03", "04", "20", "21", "22", "23", "25", "26", "27", "29", "30", "31", "32", "33"];
+    for number in numbers {
         assert!(counts.numbers.contains_key(&format!("refused {number}")), "refusal {number} never came");
     }
     for name in [
@@ -28,6 +30,40 @@ fn random_lists() {
         assert!(counts.numbers.contains_key(name), "{name} never came");
     }
     demand_carried(&counts);
+    demand_writes(&counts);
+}
+
+/// What wish 5 speaks of came.
+fn demand_writes(counts: &Counts) {
+    for name in [
+        "beginnings in phase Up",
+        "beginnings in phase Down",
+        "beginnings up to the stored number",
+        "ends in phase Up",
+        "ends in phase Down",
+        "ends at the old number",
+        "ends between",
+        "ends at s",
+        "ends that raise a fallen held",
+        "losses of a card whose write runs",
+        "refused 27 though the write runs",
+        "refused 31 a store",
+        "refused 31 a beginning",
+        "refused 32 without a beginning",
+        "refused 32 below the old number",
+        "refused 32 above s",
+        "refused 33 before 04",
+        "refused 33 for two writes",
+        "refused 33 with a writer's held fallen",
+        "refused 33 with no writer's held fallen",
+        "numbers that a cut may leave, fixed",
+    ] {
+        assert!(counts.numbers.contains_key(name), "{name} never came");
+    }
+    for word in ["open", "vote", "take", "withdraw", "trim", "safe", "lose", "sheet", "frames", "restart"] {
+        let name = format!("beside a running write: accepted {word}");
+        assert!(counts.numbers.contains_key(&name), "{name} never came");
+    }
 }
 
 /// Each way of carrying a line came.

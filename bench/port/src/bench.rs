@@ -41,7 +41,8 @@ fn entry(cabinet: &Cabinet, at: u32, refused: bool) -> u32 {
     let frames = cabinet.entries[at % cabinet.entries.len()] ^ cabinet.makers[at % cabinet.makers.len()];
     let vectors = cabinet.last[card][card] ^ cabinet.pending[card][card] ^ place.vector[card];
     let sets = place.reads ^ place.writes ^ place.yes ^ place.taken ^ cabinet.rolled;
-    let numbers = [cabinet.base, cabinet.stored, cabinet.held, cabinet.reached, cabinet.line];
+    let numbers =
+        [cabinet.base, cabinet.stored, cabinet.held, cabinet.reached, cabinet.line, cabinet.writing];
     let numbers = numbers.iter().fold(cabinet.ended[at % PLACES], |sum, list| sum ^ list[card]);
     let head = cabinet.head.session ^ cabinet.head.cards ^ cabinet.head.count ^ cabinet.head.phase as u32;
     frames ^ vectors ^ u32::from(sets) ^ numbers ^ place.number ^ head
@@ -127,6 +128,34 @@ pub fn port_store(cards: u32, states: u32, _: bool, at: u32) -> u32 {
 pub fn lent_store(cards: u32, states: u32, _: bool, at: u32) -> u32 {
     let mut c = forged(cards, states, 0, FREE, Phase::Up);
     let refused = c.store_on(0, 0).is_err();
+    entry(&c, at, refused)
+}
+
+#[inline(never)]
+pub fn port_begin(cards: u32, states: u32, _: bool, at: u32) -> u32 {
+    let c = forged(cards, states, 0, FREE, Phase::Up);
+    seen(c.begin(0, states), at)
+}
+
+#[inline(never)]
+pub fn lent_begin(cards: u32, states: u32, _: bool, at: u32) -> u32 {
+    let mut c = forged(cards, states, 0, FREE, Phase::Up);
+    let refused = c.begin_on(0, states).is_err();
+    entry(&c, at, refused)
+}
+
+#[inline(never)]
+pub fn port_end(cards: u32, states: u32, _: bool, at: u32) -> u32 {
+    let mut c = forged(cards, states, 0, FREE, Phase::Up);
+    c.writing[0] = states + 1;
+    seen(c.end(0, states), at)
+}
+
+#[inline(never)]
+pub fn lent_end(cards: u32, states: u32, _: bool, at: u32) -> u32 {
+    let mut c = forged(cards, states, 0, FREE, Phase::Up);
+    c.writing[0] = states + 1;
+    let refused = c.end_on(0, states).is_err();
     entry(&c, at, refused)
 }
 

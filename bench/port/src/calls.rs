@@ -1,4 +1,4 @@
-//! Calls 1 to 5, 7 and 8, by value.
+//! Calls 1 to 5, 7 and 8, and the long writes of wish 5, by value.
 
 use crate::{all_below, has, place_in_ring, within};
 use crate::{Answer, Cabinet, Phase, Place, Refusal, Vector, FREE, GREATEST_STATE, IN_HAND, WIDTH};
@@ -166,13 +166,50 @@ impl Cabinet {
         Answer { cabinet: self, reply }
     }
 
-    pub fn store_on(&mut self, card: u32, state: u32) -> Result<(), Refusal> {
+    /// Store and beginning are refused alike.
+    fn store_verdict(&self, card: u32, state: u32) -> Result<usize, Refusal> {
         refuse(!self.sound(), 28)?;
         refuse(!self.there(card), 2)?;
         refuse(self.head.phase == Phase::Rolling, 20)?;
         let c = card as usize;
         refuse(state < self.stored[c] || self.held[c] < state, 27)?;
+        refuse(self.writing[c] != 0, 31)?;
+        Ok(c)
+    }
+
+    pub fn store_on(&mut self, card: u32, state: u32) -> Result<(), Refusal> {
+        let c = self.store_verdict(card, state)?;
         self.stored[c] = state;
+        Ok(())
+    }
+
+    #[inline(never)]
+    pub fn begin(mut self, card: u32, state: u32) -> Answer<()> {
+        let reply = self.begin_on(card, state);
+        Answer { cabinet: self, reply }
+    }
+
+    pub fn begin_on(&mut self, card: u32, state: u32) -> Result<(), Refusal> {
+        let c = self.store_verdict(card, state)?;
+        self.writing[c] = state + 1;
+        Ok(())
+    }
+
+    #[inline(never)]
+    pub fn end(mut self, card: u32, state: u32) -> Answer<()> {
+        let reply = self.end_on(card, state);
+        Answer { cabinet: self, reply }
+    }
+
+    pub fn end_on(&mut self, card: u32, state: u32) -> Result<(), Refusal> {
+        refuse(!self.sound(), 28)?;
+        refuse(!self.there(card), 2)?;
+        refuse(self.head.phase == Phase::Rolling, 20)?;
+        let c = card as usize;
+        refuse(state < self.stored[c] || self.writing[c] <= state, 32)?;
+        self.stored[c] = state;
+        self.held[c] = self.held[c].max(state);
+        self.writing[c] = 0;
         Ok(())
     }
 

@@ -87,6 +87,8 @@ pub struct Cabinet {
     pub held: [u32; WIDTH],
     pub reached: [u32; WIDTH],
     pub line: [u32; WIDTH],
+    /// Of a running write the state that it goes up to, plus one; 0: none runs.
+    pub writing: [u32; WIDTH],
     pub ended: [u32; PLACES],
     pub rolled: u16,
     pub head: Head,
@@ -132,6 +134,7 @@ impl Cabinet {
             held: [0; WIDTH],
             reached: [0; WIDTH],
             line: [0; WIDTH],
+            writing: [0; WIDTH],
             ended: [0; PLACES],
             rolled: 0,
             head,

@@ -103,6 +103,11 @@ impl Cabinet {
         lines(&self.entries, self.head.cards, &self.base, &self.stored, &self.reached)
     }
 
+    /// Some card's write is running.
+    fn unreported(&self) -> bool {
+        self.writing[..self.head.cards as usize].iter().any(|writing| *writing != 0)
+    }
+
     #[inline(never)]
     pub fn trim(mut self) -> Answer<()> {
         let reply = self.trim_on();
@@ -126,6 +131,7 @@ impl Cabinet {
         refuse(!self.sound(), 28)?;
         refuse(self.head.phase != Phase::Down, 20)?;
         refuse(self.head.session == u32::MAX, 24)?;
+        refuse(self.unreported(), 33)?;
         let line = self.lines();
         let lost = each_lost(self, &line, |_, _| ());
         refuse(places < self.head.cards as usize || list.len() < lost, 4)?;

@@ -212,6 +212,7 @@ fn restarted(readout: Readout) -> Cabinet {
         stored,
         held: stored,
         reached: stored,
+        writing: [0; WIDTH],
         ended: [0; PLACES],
         rolled,
         head: Head { session: low, cards: readout.cards, count: 0, phase: Phase::Rolling },

@@ -39,7 +39,17 @@ impl Cabinet {
             && u64::from(reached) <= u64::from(base) + IN_HAND as u64
             && reached <= GREATEST_STATE
             && (self.head.phase != Phase::Rolling || (base <= line && line <= stored))
+            && self.writing_sound(card)
             && (base..reached).all(|state| self.frame_sound(card, state + 1, state == base))
+    }
+
+    /// A running write is within stored to reached, and none runs in phase rolling.
+    fn writing_sound(&self, card: usize) -> bool {
+        let writing = self.writing[card];
+        writing == 0
+            || (self.head.phase != Phase::Rolling
+                && self.stored[card] < writing
+                && writing - 1 <= self.reached[card])
     }
 
     fn frame_sound(&self, card: usize, state: u32, first: bool) -> bool {

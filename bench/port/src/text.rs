@@ -23,7 +23,7 @@ fn read(line: &[u8]) -> Option<(&str, Vec<u32>)> {
     let count = match name {
         "trim" | "restart" | "show" => 0,
         "fresh" | "withdraw" | "safe" | "lose" | "roll" | "frames" => 1,
-        "open" | "take" | "store" | "fix" | "sheet" => 2,
+        "open" | "take" | "store" | "begin" | "end" | "fix" | "sheet" => 2,
         "vote" => 3,
         _ => return None,
     };
@@ -66,7 +66,11 @@ fn show(cabinet: &Cabinet) -> String {
     let mut text = format!("session {} {phase} cards {}\n", cabinet.head.session, cabinet.head.cards);
     for c in 0..cabinet.head.cards as usize {
         let (base, stored) = (cabinet.base[c], cabinet.stored[c]);
-        let _ = writeln!(text, "{c} {base} {stored} {} {}", cabinet.held[c], cabinet.reached[c]);
+        let _ = write!(text, "{c} {base} {stored} {} {}", cabinet.held[c], cabinet.reached[c]);
+        if let Some(state) = cabinet.writing[c].checked_sub(1) {
+            let _ = write!(text, " writing {state}");
+        }
+        text.push('\n');
     }
     text
 }
@@ -116,6 +120,8 @@ fn ask(cabinet: Cabinet, name: &str, n: &[u32]) -> (Cabinet, String) {
         "take" => told(cabinet.take(n[0], n[1]), ok),
         "withdraw" => told(cabinet.withdraw(n[0]), ok),
         "store" => told(cabinet.store(n[0], n[1]), ok),
+        "begin" => told(cabinet.begin(n[0], n[1]), ok),
+        "end" => told(cabinet.end(n[0], n[1]), ok),
         "trim" => told(cabinet.trim(), ok),
         "safe" => told(cabinet.safe(n[0]), |safe| (if safe { "safe\n" } else { "unsafe\n" }).to_string()),
         "lose" => match set(n[0]) {

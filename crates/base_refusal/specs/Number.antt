@@ -1,16 +1,16 @@
--- Document 01's number of each refusal: the rows of its two tables, "Refused for what was handed in" and "Refused for where the cabinet stands".
+-- Document 01's number of each refusal: the rows of its two tables, "Refused for what was handed in" and "Refused for where the cabinet stands", and of document 02 what is added to them: "all follow 30 in the second table".
 use Prim.Native.Nat.{ℕ}
 use mathlib.Core.Path.{_≡_, refl}
 use mathlib.Core.Bool.{true, _&&_, _||_}
 use lib.Dec.{leb}
 use Rattle.base_refusal.specs.declared.Refusal.{Refusal}
-use Rattle.base_refusal.specs.declared.Refusal.the-variants.{CardCount, NoSuchCard, BothSetsEmpty, TooShort, BadLine, BadCheck, BadHeader, EndOrMore, BadFrame, TwoVectors, SessionsApart, TooLong, WrongPhase, Barred, NoSlot, InHandFull, LimitReached, NotAwaited, AlreadyDecided, StoreOutside, BadCabinet, NotDecided, AlreadyRolled}
+use Rattle.base_refusal.specs.declared.Refusal.the-variants.{CardCount, NoSuchCard, BothSetsEmpty, TooShort, BadLine, BadCheck, BadHeader, EndOrMore, BadFrame, TwoVectors, SessionsApart, TooLong, WrongPhase, Barred, NoSlot, InHandFull, LimitReached, NotAwaited, AlreadyDecided, StoreOutside, BadCabinet, NotDecided, AlreadyRolled, WriteRunning, EndOutside, WriteUnreported}
 use Rattle.base_refusal.specs.declared.Told.{Told}
 use Rattle.base_refusal.specs.declared.Told.the-variants.{Alone, Card}
 
 -- a number of the two tables
 abbrev pub Listed : ℕ → Type 0
-Listed k = (leb 1 k && leb k 12) || (leb 20 k && leb k 30) ≡ true
+Listed k = (leb 1 k && leb k 12) || (leb 20 k && leb k 33) ≡ true
 
 abbrev pub toldNumber : Told → ℕ
 toldNumber (Alone k) = k
@@ -72,6 +72,12 @@ rowOf BadCabinet = row (Alone 28) refl
 rowOf NotDecided = row (Alone 29) refl
 -- card already rolled
 rowOf AlreadyRolled = row (Alone 30) refl
+-- store or beginning on a card whose write is running
+rowOf WriteRunning = row (Alone 31) refl
+-- end outside stored to the running s, or without a beginning
+rowOf EndOutside = row (Alone 32) refl
+-- fix while a write is unreported
+rowOf WriteUnreported = row (Alone 33) refl
 
 abbrev pub toldOf : Refusal → Told
 toldOf r = rowOf r .told

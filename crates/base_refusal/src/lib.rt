@@ -29,6 +29,10 @@ pub enum Refusal {
     BadCabinet,
     NotDecided,
     AlreadyRolled,
+    // document 02, wish 5
+    WriteRunning,
+    EndOutside,
+    WriteUnreported,
 }
 
 // What is said of a line, a sheet or a read-out, and the answer of a call that answers nothing but that it was accepted.
@@ -71,6 +75,9 @@ pub fn tell(r: Refusal) -> Told
         Refusal::BadCabinet => Told::Alone(28),
         Refusal::NotDecided => Told::Alone(29),
         Refusal::AlreadyRolled => Told::Alone(30),
+        Refusal::WriteRunning => Told::Alone(31),
+        Refusal::EndOutside => Told::Alone(32),
+        Refusal::WriteUnreported => Told::Alone(33),
     }
 }
 

@@ -132,7 +132,8 @@ fn looked(c: Cabinet, at: u32) -> u32 {
         ^ core.held[i]
         ^ core.reached[i]
         ^ core.line[i]
-        ^ core.ended[k];
+        ^ core.ended[k]
+        ^ core.writing[i];
     let head = h.session ^ h.cards ^ h.latest ^ phase_number(phase);
     frames ^ vectors ^ sets ^ numbers ^ o.number ^ head
 }
@@ -248,6 +249,40 @@ pub extern "C" fn bench_withdraw(cards: u32, states: u32, reads: bool, at: u32) 
 pub extern "C" fn bench_store(cards: u32, states: u32, reads: bool, at: u32) -> u32 {
     let c = forged(cards, states, 0, cabinet_layout::free_slot(), Phase::Up);
     let a = c.store(card(at), 0);
+    let r = a.reply;
+    let c = a.cabinet;
+    let e = looked(c, at);
+    seen(e, done(r))
+}
+
+// A write up to the state reached begins.
+#[no_mangle]
+pub extern "C" fn bench_begin(cards: u32, states: u32, reads: bool, at: u32) -> u32 {
+    let c = forged(cards, states, 0, cabinet_layout::free_slot(), Phase::Up);
+    let a = c.begin(card(at), states);
+    let r = a.reply;
+    let c = a.cabinet;
+    let e = looked(c, at);
+    seen(e, done(r))
+}
+
+// A write up to that state, as a cabinet holds it.
+fn up_to(state: u32) -> u32 {
+    if state < Limits::GREATEST_NUMBER {
+        state + 1
+    } else {
+        0
+    }
+}
+
+// The write up to the state reached ends with it.
+#[no_mangle]
+pub extern "C" fn bench_end(cards: u32, states: u32, reads: bool, at: u32) -> u32 {
+    let mut c = forged(cards, states, 0, cabinet_layout::free_slot(), Phase::Up);
+    let mut core = c.core;
+    core.writing[0] = up_to(states);
+    c.core = core;
+    let a = c.end(card(at), states);
     let r = a.reply;
     let c = a.cabinet;
     let e = looked(c, at);

@@ -1,5 +1,5 @@
 -- The law of each edit: on a cabinet whose lists have their lengths, the view of what was applied is the edited view. Assumes nothing.
-use Prim.Native.Nat.{ℕ, suc, _≤_, _<_}
+use Prim.Native.Nat.{ℕ, suc, max, _≤_, _<_}
 use mathlib.Core.Path.{_≡_, refl, sym, _∙_, ap}
 use mathlib.Core.Bool.{Bool, true, false, cond}
 use mathlib.Core.List.{List, []}
@@ -48,6 +48,22 @@ at-set l i v h = shown-set 0 (λ x. x) l i v h
 -- ---- the laws
 pub keep-law : (s : Cabinet) (c x : ℕ) → c < length (s .core .stored) → view (apply (edit.keep c x) s) ≡ edited limits16 (edit.keep c x) (view s)
 keep-law s c x h = ap (λ (f : Numbers). edit.withNumbers (view s) (record { base = at (s .core .base); stored = f; held = at (s .core .held); reached = at (s .core .reached) }) (view s .memory)) (at-set (s .core .stored) c x h)
+
+pub begin-law : (s : Cabinet) (c x : ℕ) → c < length (s .core .writing) → view (apply (edit.begin c x) s) ≡ edited limits16 (edit.begin c x) (view s)
+begin-law s c x h = ap (λ (f : Numbers). edit.withWriting (view s) f) (at-set (s .core .writing) c (suc x) h)
+
+pub end-law : (s : Cabinet) (c x : ℕ) → c < length (s .core .stored) → c < length (s .core .held) → c < length (s .core .writing) → view (apply (edit.end c x) s) ≡ edited limits16 (edit.end c x) (view s)
+end-law s c x hs hh hw =
+    λ i. edit.withWriting
+    (edit.withNumbers (view s)
+    (record {
+      base = at (s .core .base);
+      stored = at-set (s .core .stored) c x hs i;
+      held = at-set (s .core .held) c (max (at (s .core .held) c) x) hh i;
+      reached = at (s .core .reached);
+    })
+    (view s .memory))
+    (at-set (s .core .writing) c 0 hw i)
 
 pub count-law : (s : Cabinet) (k : ℕ) → view (apply (edit.latest k) s) ≡ edited limits16 (edit.latest k) (view s)
 count-law s k = refl

@@ -1,4 +1,4 @@
-// The cabinet of 16 cards: its struct, and calls 1 to 10 as methods that hand it back, in the modules below.
+// The cabinet of 16 cards: its struct, and its calls as methods that hand it back, in the modules below.
 ghost use mathlib.Core.List.{[], _∷_};
 ghost use mathlib.Core.Path.{_≡_};
 ghost use Rattle.base_limits.specs.Document.{mostCards, mostInHand, mostOpen, lastState};
@@ -46,7 +46,7 @@ pub struct Answer {
     pub reply: Reply,
 }
 
-// All state numbers 0, all entries none, every slot free.
+// All state numbers 0, all entries none, every slot free, no write running.
 pub fn zeros(head: Head) -> Cabinet
     ensures { λ r. ⌜ r ≡ zeroCabinet head ⌝ }
 {
@@ -66,6 +66,7 @@ pub fn zeros(head: Head) -> Cabinet
         line: none,
         ended: [0u32; Limits::SLOTS],
         rolled: 0,
+        writing: none,
     };
     Cabinet {
         entries: [0u32; Limits::ENTRIES],

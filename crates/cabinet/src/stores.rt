@@ -1,6 +1,6 @@
-// Calls 5, 7 and 8 as methods: store, safe, lose.
+// Calls 5, 7 and 8 as methods: store, its beginning and its end, safe, lose.
 ghost use Rattle.base_bits.specs.Member.{member};
-ghost use Rattle.theory_protocol.specs.Calls.{storePlan, safePlan, losePlan};
+ghost use Rattle.theory_protocol.specs.Calls.{storePlan, beginPlan, endPlan, safePlan, losePlan};
 ghost use Rattle.cabinet_layout.specs.Shape.{limits16};
 ghost use Rattle.cabinet_layout.specs.Answers.{replyOf, safeReplyOf};
 ghost use Rattle.cabinet.specs.View.{view};
@@ -17,6 +17,38 @@ impl Cabinet {
         let core = self.core;
         let valid = cabinet_valid::cabinet_valid(&self.entries, &self.changes, core);
         let out = cabinet_storing::store(valid, core, card, state);
+        let r = out.reply;
+        let next = out.core;
+        self.core = next;
+        Answer {
+            cabinet: self,
+            reply: r,
+        }
+    }
+
+    // The beginning of a store (document 02, wish 5): a write up to that state runs.
+    pub fn begin(mut self, card: u32, state: u32) -> Answer
+        ensures { λ r. ⌜ Carried self (beginPlan limits16 (view self) card state) (replyOf (r .reply)) (r .cabinet) ⌝ }
+    {
+        let core = self.core;
+        let valid = cabinet_valid::cabinet_valid(&self.entries, &self.changes, core);
+        let out = cabinet_storing::begin(valid, core, card, state);
+        let r = out.reply;
+        let next = out.core;
+        self.core = next;
+        Answer {
+            cabinet: self,
+            reply: r,
+        }
+    }
+
+    // The end of a store: the card reports that state.
+    pub fn end(mut self, card: u32, state: u32) -> Answer
+        ensures { λ r. ⌜ Carried self (endPlan limits16 (view self) card state) (replyOf (r .reply)) (r .cabinet) ⌝ }
+    {
+        let core = self.core;
+        let valid = cabinet_valid::cabinet_valid(&self.entries, &self.changes, core);
+        let out = cabinet_storing::end(valid, core, card, state);
         let r = out.reply;
         let next = out.core;
         self.core = next;

@@ -12,13 +12,13 @@ use Rattle.base_laws.specs.Below.{selected, tabulate}
 use Rattle.base_laws.proofs.Logic.{and-intro, cond-true, cond-case}
 use Rattle.base_laws.proofs.Below.{selected-first, count-first}
 use Rattle.base_refusal.specs.declared.Refusal.{Refusal}
-use Rattle.base_refusal.specs.declared.Refusal.the-variants.{BadCabinet, WrongPhase, TooShort, LimitReached}
+use Rattle.base_refusal.specs.declared.Refusal.the-variants.{BadCabinet, WrongPhase, TooShort, LimitReached, WriteUnreported}
 use Rattle.theory_protocol.specs.Model.{Model, isDown}
 use Rattle.theory_protocol.specs.Edit.{Edit, fix}
 use Rattle.theory_protocol.specs.Plan.{CardRow, Answer, fixed, Check, _⇒_, Plan, checked, accepted}
 use Rattle.theory_protocol.specs.Plan as plan
 use Rattle.theory_protocol.specs.Valid.{valid}
-use Rattle.theory_protocol.specs.Calls.{lines, cardRows, lostNumbers, fixChecks, fixPlan}
+use Rattle.theory_protocol.specs.Calls.{someWriting, lines, cardRows, lostNumbers, fixChecks, fixPlan}
 use Rattle.cabinet_layout.specs.declared.Core.{Core}
 use Rattle.cabinet_layout.specs.Shape.{limits16, at, presentOf, modelOf}
 use Rattle.cabinet_layout.specs.Answers.{firstFailing}
@@ -122,17 +122,20 @@ module _ (entries changes : List ℕ) (s : Core) (records : List CardRecord) (li
     abbrev late : Bool
     late = leb (limits16 .greatestNumber) (m .session)
 
+    abbrev unreported : Bool
+    unreported = someWriting limits16 m
+
     abbrev short : Bool
     short = ltb (length records) (length (cardRows limits16 m))
 
     abbrev missing : Bool
     missing = ltb (length list) (length (lostNumbers limits16 m))
 
-    whole : Passes (not (valid limits16 m)) (wrong ⇒ WrongPhase ∷ late ⇒ LimitReached ∷ (short || missing) ⇒ TooShort ∷ [])
-    whole = passes (not (valid limits16 m)) BadCabinet (wrong ⇒ WrongPhase ∷ late ⇒ LimitReached ∷ (short || missing) ⇒ TooShort ∷ []) off
+    whole : Passes (not (valid limits16 m)) (wrong ⇒ WrongPhase ∷ late ⇒ LimitReached ∷ unreported ⇒ WriteUnreported ∷ (short || missing) ⇒ TooShort ∷ [])
+    whole = passes (not (valid limits16 m)) BadCabinet (wrong ⇒ WrongPhase ∷ late ⇒ LimitReached ∷ unreported ⇒ WriteUnreported ∷ (short || missing) ⇒ TooShort ∷ []) off
 
     enough : Passes (short || missing) []
-    enough = passes (short || missing) TooShort [] (passes late LimitReached ((short || missing) ⇒ TooShort ∷ []) (passes wrong WrongPhase (late ⇒ LimitReached ∷ (short || missing) ⇒ TooShort ∷ []) (whole .after) .after) .after)
+    enough = passes (short || missing) TooShort [] (passes unreported WriteUnreported ((short || missing) ⇒ TooShort ∷ []) (passes late LimitReached (unreported ⇒ WriteUnreported ∷ (short || missing) ⇒ TooShort ∷ []) (passes wrong WrongPhase (late ⇒ LimitReached ∷ unreported ⇒ WriteUnreported ∷ (short || missing) ⇒ TooShort ∷ []) (whole .after) .after) .after) .after)
 
     -- the cabinet has at most 16 cards, and the list a place for each
     few : n ≤ limits16 .width

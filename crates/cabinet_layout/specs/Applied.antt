@@ -1,5 +1,5 @@
 -- What each edit does to a core: every list of it, unused slots included, whatever core it is.
-use Prim.Native.Nat.{ℕ, suc, _*_}
+use Prim.Native.Nat.{ℕ, suc, max, _*_}
 use mathlib.Core.Path.{_≡_}
 use mathlib.Core.Bool.{cond}
 use mathlib.Core.List.{List, [], _∷_}
@@ -18,7 +18,7 @@ use Rattle.theory_protocol.specs.Plan.{Plan, Reply}
 use Rattle.cabinet_layout.specs.declared.Phase.the-variants.{Up, Down, Rolling}
 use Rattle.cabinet_layout.specs.declared.Head.{Head}
 use Rattle.cabinet_layout.specs.declared.Core.{Core}
-use Rattle.cabinet_layout.specs.Shape.{limits16, at, vectorAt, openAt, setOf, listOf, vectorFor, slotFor, headOf, inPhase, counted, withHead, withVectors, withSlots, withNumbers, withLine}
+use Rattle.cabinet_layout.specs.Shape.{limits16, at, vectorAt, openAt, setOf, listOf, vectorFor, slotFor, headOf, inPhase, counted, withHead, withVectors, withSlots, withNumbers, withLine, withWriting}
 
 -- the head of the next session
 abbrev pub nextHead : Head → Head
@@ -34,6 +34,9 @@ applied (edit.grow c k v) s =
     (set (s .pending) c (vectorFor v))
 applied (edit.raise c v) s = withVectors s (s .last) (set (s .pending) c (vectorFor (joined (vectorAt (s .pending) c) v)))
 applied (edit.keep c x) s = withNumbers s (s .base) (set (s .stored) c x) (s .held) (s .reached)
+applied (edit.begin c x) s = withWriting s (set (s .writing) c (suc x))
+applied (edit.end c x) s =
+    withWriting (withNumbers s (s .base) (set (s .stored) c x) (set (s .held) c (max (at (s .held) c) x)) (s .reached)) (set (s .writing) c 0)
 applied (edit.rebase bases) s = withNumbers s (listOf bases) (s .stored) (s .held) (s .reached)
 applied (edit.fall cards) s =
     withNumbers s (s .base) (s .stored) (listOf (λ c. cond (cards c) (at (s .stored) c) (at (s .held) c))) (s .reached)
@@ -64,6 +67,8 @@ made (edit.latest k) none f = none
 made (edit.grow c k v) none f = f c k v
 made (edit.raise c v) none f = none
 made (edit.keep c x) none f = none
+made (edit.begin c x) none f = none
+made (edit.end c x) none f = none
 made (edit.rebase bases) none f = none
 made (edit.fall cards) none f = none
 made edit.halt none f = none

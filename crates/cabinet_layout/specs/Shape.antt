@@ -126,8 +126,8 @@ counted h k = record { session = h .session; cards = h .cards; latest = k; phase
 
 -- ---- the groups of fields of a core, each set by itself
 -- a core anew; the one place that writes a changed core out
-abbrev remade : Core → Head → (last pending : List Vector) → List Slot → (base stored held reached line ended : List ℕ) → (rolled : ℕ) → Core
-remade s head last pending slots base stored held reached line ended rolled =
+abbrev remade : Core → Head → (last pending : List Vector) → List Slot → (base stored held reached line ended : List ℕ) → (rolled : ℕ) → (writing : List ℕ) → Core
+remade s head last pending slots base stored held reached line ended rolled writing =
     record {
       head = head;
       last = last;
@@ -140,22 +140,26 @@ remade s head last pending slots base stored held reached line ended rolled =
       line = line;
       ended = ended;
       rolled = rolled;
+      writing = writing;
     }
 
 abbrev pub withHead : Core → Head → Core
-withHead s h = remade s h (s .last) (s .pending) (s .slots) (s .base) (s .stored) (s .held) (s .reached) (s .line) (s .ended) (s .rolled)
+withHead s h = remade s h (s .last) (s .pending) (s .slots) (s .base) (s .stored) (s .held) (s .reached) (s .line) (s .ended) (s .rolled) (s .writing)
 
 abbrev pub withVectors : Core → (last pending : List Vector) → Core
-withVectors s last pending = remade s (s .head) last pending (s .slots) (s .base) (s .stored) (s .held) (s .reached) (s .line) (s .ended) (s .rolled)
+withVectors s last pending = remade s (s .head) last pending (s .slots) (s .base) (s .stored) (s .held) (s .reached) (s .line) (s .ended) (s .rolled) (s .writing)
 
 abbrev pub withSlots : Core → List Slot → (ended : List ℕ) → Core
-withSlots s slots ended = remade s (s .head) (s .last) (s .pending) slots (s .base) (s .stored) (s .held) (s .reached) (s .line) ended (s .rolled)
+withSlots s slots ended = remade s (s .head) (s .last) (s .pending) slots (s .base) (s .stored) (s .held) (s .reached) (s .line) ended (s .rolled) (s .writing)
 
 abbrev pub withNumbers : Core → (base stored held reached : List ℕ) → Core
-withNumbers s base stored held reached = remade s (s .head) (s .last) (s .pending) (s .slots) base stored held reached (s .line) (s .ended) (s .rolled)
+withNumbers s base stored held reached = remade s (s .head) (s .last) (s .pending) (s .slots) base stored held reached (s .line) (s .ended) (s .rolled) (s .writing)
 
 abbrev pub withLine : Core → (line : List ℕ) (rolled : ℕ) → Core
-withLine s line rolled = remade s (s .head) (s .last) (s .pending) (s .slots) (s .base) (s .stored) (s .held) (s .reached) line (s .ended) rolled
+withLine s line rolled = remade s (s .head) (s .last) (s .pending) (s .slots) (s .base) (s .stored) (s .held) (s .reached) line (s .ended) rolled (s .writing)
+
+abbrev pub withWriting : Core → (writing : List ℕ) → Core
+withWriting s writing = remade s (s .head) (s .last) (s .pending) (s .slots) (s .base) (s .stored) (s .held) (s .reached) (s .line) (s .ended) (s .rolled) writing
 
 -- a core of which only the head is there
 abbrev pub bare : Head → Core
@@ -172,14 +176,15 @@ bare h =
       line = [];
       ended = [];
       rolled = 0;
+      writing = [];
     }
 
--- "all state numbers 0, all entries none", every slot free
+-- "all state numbers 0, all entries none", every slot free, no write running
 abbrev pub blankCore : Head → Core
 blankCore h =
     let none : List ℕ = replicate mostCards 0 in
     let vectors : List Vector = replicate mostCards (record { entries = none }) in
-    withLine (withSlots (withNumbers (withVectors (bare h) vectors vectors) none none none none) (replicate mostOpen (slotFor freeSlot)) (replicate mostOpen 0)) none 0
+    withWriting (withLine (withSlots (withNumbers (withVectors (bare h) vectors vectors) none none none none) (replicate mostOpen (slotFor freeSlot)) (replicate mostOpen 0)) none 0) none
 
 -- the model of a cabinet of these frames and this core
 abbrev pub modelOf : (entries changes : List ℕ) → Core → Model
@@ -200,14 +205,19 @@ modelOf entries changes s =
       ended = at (s .ended);
       line = at (s .line);
       rolled = member (s .rolled);
+      writing = at (s .writing);
     }
 
--- the parts of a cabinet that a verdict looks at: the head; numbers by card; the slots
+-- the parts of a cabinet that a verdict looks at: the head; numbers by card; the writes that run; the slots
 abbrev pub headModel : Head → Model
 headModel h = modelOf [] [] (bare h)
 
 abbrev pub numbersModel : Head → (base stored held reached : List ℕ) → Model
 numbersModel h base stored held reached = modelOf [] [] (withNumbers (bare h) base stored held reached)
+
+-- numbers by card, and the writes that run
+abbrev pub writesModel : Head → (stored held reached writing : List ℕ) → Model
+writesModel h stored held reached writing = modelOf [] [] (withWriting (withNumbers (bare h) [] stored held reached) writing)
 
 abbrev pub slotsModel : Head → List Slot → (base reached : List ℕ) → Model
 slotsModel h slots base reached = modelOf [] [] (withSlots (withNumbers (bare h) base [] [] reached) slots [])

@@ -66,6 +66,8 @@ pub struct Core {
     pub ended: [u32; Limits::SLOTS],
     // while rolling: the cards already rolled
     pub rolled: u16,
+    // by card, the write running: 0 for none, and the state up to which it goes plus one otherwise
+    pub writing: [u32; Limits::CARDS],
 }
 
 // What a call on the core that answers nothing but acceptance hands back.
@@ -130,7 +132,7 @@ pub fn no_vectors() -> [Vector; Limits::CARDS]
     [none; Limits::CARDS]
 }
 
-// All state numbers 0, all entries none, every slot free.
+// All state numbers 0, all entries none, every slot free, no write running.
 pub fn blank(head: Head) -> Core
     ensures { λ r. ⌜ r ≡ blankCore head ⌝ }
 {
@@ -150,6 +152,7 @@ pub fn blank(head: Head) -> Core
         line: none,
         ended: [0u32; Limits::SLOTS],
         rolled: 0,
+        writing: none,
     }
 }
 

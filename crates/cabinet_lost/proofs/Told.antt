@@ -21,7 +21,7 @@ use Rattle.theory_protocol.proofs.Listed.{lost-below}
 use Rattle.cabinet_layout.specs.declared.Core.{Core}
 use Rattle.base_refusal.specs.declared.Reply.{Reply}
 use Rattle.base_refusal.specs.declared.Reply.the-variants.{Done, Refused}
-use Rattle.cabinet_layout.specs.Shape.{limits16, at, listOf, presentOf, headModel}
+use Rattle.cabinet_layout.specs.Shape.{limits16, at, listOf, presentOf, writesModel}
 use Rattle.cabinet_layout.specs.Answers.{firstFailing, after28, next}
 use Rattle.cabinet_layout.proofs.Limits.{width16}
 use Rattle.cabinet_layout.proofs.Checks.{done-plan, refused-plan}
@@ -142,8 +142,8 @@ module _ (entries changes : List ℕ) (core : Core) where
         }
 
     -- the checks before the last, by what the check for 28 found
-    pub first-told : (whole : Bool) (r : Reply) → whole ≡ valid limits16 found → r ≡ firstFailing (butLast (after28 (not whole) (fixChecks limits16 (headModel (core .head)) 0 0))) → first ≡ r
-    first-told whole r ew e = sym (e ∙ ap (λ (b : Bool). firstFailing (butLast (after28 (not b) (fixChecks limits16 (headModel (core .head)) 0 0)))) ew)
+    pub first-told : (whole : Bool) (r : Reply) → whole ≡ valid limits16 found → r ≡ firstFailing (butLast (after28 (not whole) (fixChecks limits16 (writesModel (core .head) [] [] [] (core .writing)) 0 0))) → first ≡ r
+    first-told whole r ew e = sym (e ∙ ap (λ (b : Bool). firstFailing (butLast (after28 (not b) (fixChecks limits16 (writesModel (core .head) [] [] [] (core .writing)) 0 0)))) ew)
 
     -- a cabinet that they let pass is valid
     valid-known : first ≡ Done → valid limits16 found ≡ true

@@ -39,9 +39,10 @@ pub fn fix<'a, 'b>(
     let stored = core.stored;
     let reached = core.reached;
     let ended = core.ended;
+    let writing = core.writing;
     let head = core.head;
     let valid = cabinet_valid::cabinet_valid(entries, changes, core);
-    let first = fix_verdict(valid, head);
+    let first = fix_verdict(valid, head, writing);
     match first {
         Reply::Done => {
             let lines = cabinet_recovery::lines(entries, head, base, stored, reached);

@@ -10,7 +10,7 @@ use Rattle.base_laws.proofs.Logic.{test, clash, and-left, and-right, and-intro,
 use Rattle.base_laws.proofs.Below.{all-at, any-intro}
 use Rattle.theory_protocol.specs.Model.{Model, OpenChange, isOpen, isRolling, toWrite, strays}
 use Rattle.theory_protocol.specs.Valid.{valid, sessionValid, cardsValid, cardValid, slotValid, entriesValid, roomToWrite}
-use Rattle.theory_protocol.proofs.Passed.{CardPassed, passed}
+use Rattle.theory_protocol.proofs.Passed.{CardPassed, passed, cards-pass, others-pass}
 use Rattle.theory_history.specs.Change.{touches}
 use Rattle.cabinet_layout.specs.Shape.{limits16}
 use Rattle.cabinet_layout.proofs.Limits.{width16, slots8, greatest60000, greatestNumber32}
@@ -26,7 +26,7 @@ valid-card m e c h p = passed limits16 m e c (omega (arith, width16)) p
 pub valid-slots : (m : Model) → valid limits16 m ≡ true → (p : ℕ) → p < 8 → slotValid limits16 m (m .slot p) ≡ true
 valid-slots m e p h =
     all-at (limits16 .slots) (λ p. slotValid limits16 m (m .slot p))
-    (and-right (sessionValid limits16 m && cardsValid limits16 m && allBelow (limits16 .width) (cardValid limits16 m)) (allBelow (limits16 .slots) (λ p. slotValid limits16 m (m .slot p))) e)
+    (and-right (sessionValid limits16 m && cardsValid limits16 m && allBelow (limits16 .width) (cardValid limits16 m)) (allBelow (limits16 .slots) (λ p. slotValid limits16 m (m .slot p))) (others-pass limits16 m e))
     p (omega (arith, slots8))
 
 -- a card that an open change has yet to write has room
@@ -59,8 +59,7 @@ written-there m o e op c h w =
 -- the session and the number of cards
 valid-head : (m : Model) → valid limits16 m ≡ true → sessionValid limits16 m && cardsValid limits16 m ≡ true
 valid-head m e =
-    and-left (sessionValid limits16 m && cardsValid limits16 m) (allBelow (limits16 .width) (cardValid limits16 m))
-    (and-left (sessionValid limits16 m && cardsValid limits16 m && allBelow (limits16 .width) (cardValid limits16 m)) (allBelow (limits16 .slots) (λ p. slotValid limits16 m (m .slot p))) e)
+    and-left (sessionValid limits16 m && cardsValid limits16 m) (allBelow (limits16 .width) (cardValid limits16 m)) (cards-pass limits16 m e)
 
 -- the session of a cabinet that is valid while rolling is not the greatest
 pub session-room : (m : Model) → valid limits16 m ≡ true → isRolling (m .phase) ≡ true → m .session ≡ 4294967295 → ⊥

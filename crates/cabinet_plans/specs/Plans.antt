@@ -11,9 +11,9 @@ use Rattle.base_limits.specs.Document.{mostCards, mostFrames}
 use Rattle.theory_history.specs.Change.{CardSet}
 use Rattle.theory_protocol.specs.Model.{Model, freeSlot, withCard, isUp, slotOf, freeAt}
 use Rattle.theory_protocol.specs.Valid.{valid}
-use Rattle.theory_protocol.specs.Edit.{Edit, place, latest, keep, fall, halt, lower, renew}
+use Rattle.theory_protocol.specs.Edit.{Edit, place, latest, keep, begin, end, fall, halt, lower, renew}
 use Rattle.theory_protocol.specs.Plan.{Answer, done, opened, Check, Plan, Reply, checked}
-use Rattle.theory_protocol.specs.Calls.{takeChecks, shareEdit, tookShare, storeChecks, loseChecks, rollChecks, allRolled, voteChecks, voted, withdrawChecks, openChecks, openedChange}
+use Rattle.theory_protocol.specs.Calls.{takeChecks, shareEdit, tookShare, storeChecks, endChecks, loseChecks, rollChecks, allRolled, voteChecks, voted, withdrawChecks, openChecks, openedChange}
 use Rattle.cabinet_layout.specs.Answers.{after28}
 use Rattle.cabinet_layout.specs.declared.Core.{Core}
 use Rattle.cabinet_layout.specs.Shape.{limits16, at, listOf, modelOf}
@@ -35,6 +35,12 @@ alone s = modelOf [] [] s
 
 abbrev pub storeOn : Bool → Core → (card state : ℕ) → Plan
 storeOn whole s c x = judged whole (storeChecks limits16 (alone s) c x) done (keep c x ∷ [])
+
+abbrev pub beginOn : Bool → Core → (card state : ℕ) → Plan
+beginOn whole s c x = judged whole (storeChecks limits16 (alone s) c x) done (begin c x ∷ [])
+
+abbrev pub endOn : Bool → Core → (card state : ℕ) → Plan
+endOn whole s c x = judged whole (endChecks limits16 (alone s) c x) done (end c x ∷ [])
 
 abbrev pub loseOn : Bool → Core → CardSet → Plan
 loseOn whole s cards = judged whole (loseChecks limits16 (alone s) cards) done (fall cards ∷ cond (isUp (alone s .phase)) (halt ∷ []) [])

@@ -25,6 +25,7 @@ use Rattle.sheet_pages.specs.Pages.{Page}
 use Rattle.sheet_pages.specs.Ring.{noPage, pageAt}
 use Rattle.sheet_pages.specs.Whole.{Whole}
 use Rattle.sheet_readout.specs.Joint.{lowestSession, jointVerdict, pagesRead}
+use Rattle.theory_protocol.proofs.Writes.{none-writes, writes-valid}
 use Rattle.theory_codec.specs.Sheets.{pageStored, isOn, changeOn, vectorOn, storedOn, restarted}
 use Rattle.cabinet_layout.specs.Shape.{limits16}
 use Rattle.cabinet_layout.proofs.Limits.{width16, inHand48, greatest60000, greatestNumber32}
@@ -180,8 +181,10 @@ module _ (ps : List Page) (w : Whole formats ps) (joint : jointVerdict ps ≡ Do
 
   passes-28 : valid limits16 m ≡ true
   passes-28 =
-      and-intro (and-intro (and-intro session-passes cards-pass) (all-intro (limits16 .width) (cardValid limits16 m) (λ c h. card-passes c)))
-      (all-intro (limits16 .slots) (λ p. slotValid limits16 m (m .slot p)) (λ p h. refl))
+      and-intro
+      (and-intro (and-intro (and-intro session-passes cards-pass) (all-intro (limits16 .width) (cardValid limits16 m) (λ c h. card-passes c)))
+      (all-intro (limits16 .slots) (λ p. slotValid limits16 m (m .slot p)) (λ p h. refl)))
+      (writes-valid limits16 m (none-writes limits16 m (λ c l here. refl)))
 
 pub never-refused-28 : NeverRefused28
 never-refused-28 bytes e = let t : AcceptedPages bytes (pagesRead bytes .pages) = accepted-pages bytes e in passes-28 (pagesRead bytes .pages) (t .whole) (t .joint)

@@ -41,7 +41,7 @@ use Rattle.cabinet_layout.specs.declared.Phase.the-variants.{Rolling}
 use Rattle.cabinet_layout.specs.declared.Head.{Head}
 use Rattle.cabinet_layout.specs.declared.Vector.{Vector}
 use Rattle.cabinet_layout.specs.declared.Core.{Core}
-use Rattle.cabinet_layout.specs.Shape.{limits16, at, vectorAt, listOf, setOf, openOf, vectorFor, slotFor, ringChange, ringFrame, truncate, bare, withVectors, withSlots, withNumbers, withLine, headOf, blankCore, modelOf, emptySlot}
+use Rattle.cabinet_layout.specs.Shape.{limits16, at, vectorAt, listOf, setOf, openOf, vectorFor, slotFor, ringChange, ringFrame, truncate, bare, withVectors, withSlots, withNumbers, withLine, withWriting, headOf, blankCore, modelOf, emptySlot}
 use Rattle.sheet_vectors.specs.Heads.{storedNumbers}
 use Rattle.cabinet_layout.proofs.Limits.{width16}
 use Rattle.cabinet_layout.proofs.Held.{list-known, list-same, at-list, at-list-all, member-set, open-back, free-fits, no-slot}
@@ -147,7 +147,8 @@ module _ (r : Readout) (z : Sized r) where
 
   ring-view : view ringCabinet ≡ ringModel r
   ring-view =
-      λ i. edit.withLine
+      λ i. edit.withWriting
+      (edit.withLine
       (edit.withSlots
       (edit.withNumbers (edit.withHead (freshModel (λ c. ltb c (r .cards))) low model.rolling 0)
       (record { base = base-fn i; stored = stored-fn i; held = stored-fn i; reached = stored-fn i })
@@ -155,7 +156,8 @@ module _ (r : Readout) (z : Sized r) where
       (slots-by emptySlot openOf (λ p. slotFor freeSlot) (λ p. freeSlot) (λ p l. open-back freeSlot free-fits) (λ p l. no-slot) i)
       (slots-by 0 (λ (x : ℕ). x) (λ p. 0) (λ p. 0) (λ p l. refl) (λ p l. refl) i))
       (line-fn i)
-      (member-set (λ c. ltb low (getD (r .sessions) c 0)) (λ k h. le-ltb low (getD (r .sessions) k 0) (let x : getD (r .sessions) k 0 ≡ 0 = beyond (r .sessions) k (z .sessions) h in omega (arith, x))) i)
+      (member-set (λ c. ltb low (getD (r .sessions) c 0)) (λ k h. le-ltb low (getD (r .sessions) k 0) (let x : getD (r .sessions) k 0 ≡ 0 = beyond (r .sessions) k (z .sessions) h in omega (arith, x))) i))
+      (at-list-all (λ c. 0) (λ k h. refl) i)
 
   -- ---- the lists that the code makes
   last-list : (s : List ℕ) (vs : List Vector) → s ≡ listOf (storedIn r)
@@ -196,6 +198,10 @@ free-listed : replicate 8 (slotFor freeSlot) ≡ tabulate (limits16 .slots) (λ 
 unfolding limits16
 free-listed = refl
 
+none-running : replicate 16 0 ≡ listOf (λ c. 0)
+unfolding limits16
+none-running = refl
+
 -- the cabinet that the code makes
 pub restarted-is : (r : Readout) → Sized r → Within r → (s line : List ℕ) (vs : List Vector) (head : Head) (core : Core) (low rolled : ℕ)
     → s ≡ storedNumbers (r .bases) (r .counts)
@@ -213,16 +219,18 @@ restarted-is r z w s line vs head core low rolled q el er ev eh en ec =
     let head-is : core .head ≡ headOf (lowestTo (λ i. getD (r .sessions) i 0) (r .cards - 1)) (r .cards) Rolling = ap (λ (x : Core). x .head) ec ∙ eh ∙ ap (λ (n : ℕ). headOf n (r .cards) Rolling) el in
     let places-are : core .slots ≡ tabulate (limits16 .slots) (λ p. slotFor freeSlot) = ap (λ (x : Core). x .slots) ec ∙ free-listed in
     let ended-is : core .ended ≡ tabulate (limits16 .slots) (λ p. 0) = ap (λ (x : Core). x .ended) ec ∙ none-ended in
+    let writing-is : core .writing ≡ listOf (λ c. 0) = ap (λ (x : Core). x .writing) ec ∙ none-running in
     (λ i. record {
       entries = r .entries;
       changes = r .changes;
-      core = withVectors
+      core = withWriting (withVectors
           (withSlots
           (withNumbers
           (withLine (bare (head-is i)) (line-list r z s line here (w .no-count) es line-is i) ((er ∙ ap (λ (x : ℕ). setOf (λ c. ltb x (at (r .sessions) c))) el) i))
           (list-known (r .bases) (z .bases) i) (es i) (es i) (es i))
           (places-are i) (ended-is i))
-          (last-list r z s vs es ev i) (last-list r z s vs es ev i);
+          (last-list r z s vs es ev i) (last-list r z s vs es ev i))
+          (writing-is i);
     })
     ∙ ap (cabinetOf (r .entries) (r .changes) (r .cards)) (ring-law r w)
 

@@ -20,7 +20,7 @@ use Rattle.theory_protocol.specs.Valid.{valid}
 use Rattle.theory_codec.specs.Sheets.{joinedSheets, restarted, restartReply, restartedFrom}
 use Rattle.cabinet_layout.specs.declared.Phase.{Phase}
 use Rattle.cabinet_layout.specs.declared.Phase.the-variants.{Up, Down, Rolling}
-use Rattle.cabinet_layout.specs.Shape.{limits16, at, listOf, setOf, vectorFor, slotFor, headOf, counted, bare, withVectors, withNumbers, withSlots, withLine}
+use Rattle.cabinet_layout.specs.Shape.{limits16, at, listOf, setOf, vectorFor, slotFor, headOf, counted, bare, withVectors, withNumbers, withSlots, withLine, withWriting}
 use Rattle.cabinet_layout.specs.declared.Vector.{Vector}
 use Rattle.cabinet_layout.specs.declared.Core.{Core}
 use Rattle.cabinet.specs.declared.Cabinet.{Cabinet}
@@ -39,7 +39,7 @@ coreOf n m =
     let headed : Core = bare (counted (headOf (m .session) n (phaseFor (m .phase))) (m .latest)) in
     let numbered : Core = withNumbers headed (listOf (m .numbers .base)) (listOf (m .numbers .stored)) (listOf (m .numbers .held)) (listOf (m .numbers .reached)) in
     let placed : Core = withSlots numbered (tabulate (limits16 .slots) (λ p. slotFor (m .slot p))) (tabulate (limits16 .slots) (m .ended)) in
-    withLine (withVectors placed (vectors (m .memory .last)) (vectors (m .memory .pending))) (listOf (m .line)) (setOf (m .rolled))
+    withWriting (withLine (withVectors placed (vectors (m .memory .last)) (vectors (m .memory .pending))) (listOf (m .line)) (setOf (m .rolled))) (listOf (m .writing))
 
 abbrev pub cabinetOf : (entries changes : List ℕ) (n : ℕ) → Model → Cabinet
 cabinetOf entries changes n m = record { entries = entries; changes = changes; core = coreOf n m }

@@ -1,11 +1,17 @@
--- What an accepted store shows, and what a loss leaves is what its edits leave. Assumes nothing.
-use Prim.Native.Nat.{ℕ, _<_}
+-- What an accepted store, beginning or end shows, and what a loss leaves is what its edits leave. Assumes nothing.
+use Prim.Native.Nat.{ℕ, _≤_, _<_}
 use mathlib.Core.Path.{_≡_, sym, _∙_, ap}
-use mathlib.Core.Bool.{Bool, true, false, not, cond}
+use mathlib.Core.Bool.{Bool, true, false, not, _&&_, cond}
 use mathlib.Core.List.{List, [], _∷_}
-use Rattle.theory_protocol.specs.Model.{Model, isCard, freeSlot}
-use Rattle.theory_protocol.specs.Calls.{storeChecks}
-use Rattle.base_refusal.specs.declared.Refusal.the-variants.{BadCabinet, NoSuchCard}
+use native.Mathlib.Omega.{arith}
+use lib.Dec.{leb, ltb}
+use borrow.Author.Tests.{leb-true, not-false}
+use Rattle.base_laws.proofs.Logic.{and-right}
+use Rattle.theory_protocol.specs.Model.{Model, isCard, isRolling, freeSlot}
+use Rattle.theory_protocol.specs.Valid.{valid}
+use Rattle.theory_protocol.proofs.Passed.{CardPassed}
+use Rattle.theory_protocol.specs.Calls.{storeChecks, endChecks}
+use Rattle.base_refusal.specs.declared.Refusal.the-variants.{BadCabinet, NoSuchCard, WrongPhase, StoreOutside}
 use Rattle.theory_protocol.specs.Edit.{Edit, remembered}
 use Rattle.base_refusal.specs.declared.Reply.the-variants.{Done}
 use Rattle.cabinet_layout.specs.Answers.{firstFailing, rest, after28}
@@ -18,10 +24,29 @@ use Rattle.theory_protocol.specs.Edit as edit
 use Rattle.cabinet_layout.specs.declared.Head.{Head}
 use Rattle.cabinet_layout.specs.declared.Slot.{Slot}
 use Rattle.cabinet_layout.specs.declared.Phase.the-variants.{Down}
-use Rattle.cabinet_plans.proofs.Call.{card-below, second-passes}
+use Rattle.theory_protocol.specs.Plan.{Check}
+use Rattle.cabinet_plans.proofs.Known.{valid-card, valid-reached}
+use Rattle.cabinet_plans.proofs.Call.{card-below, first-passes, second-passes, two-pass}
 
 pub store-below : (whole : Bool) (m : Model) (c x : ℕ) → firstFailing (after28 (not whole) (storeChecks limits16 m c x)) ≡ Done → c < 16
 store-below whole m c x e = card-below m c (second-passes (not whole) BadCabinet (not (isCard limits16 m c)) NoSuchCard (rest (rest (storeChecks limits16 m c x))) e)
+
+pub end-below : (whole : Bool) (m : Model) (c x : ℕ) → firstFailing (after28 (not whole) (endChecks limits16 m c x)) ≡ Done → c < 16
+end-below whole m c x e = card-below m c (second-passes (not whole) BadCabinet (not (isCard limits16 m c)) NoSuchCard (rest (rest (endChecks limits16 m c x))) e)
+
+-- a write goes up to a state that the card holds
+pub begin-room : (m : Model) (c x : ℕ) → firstFailing (storeChecks limits16 m c x) ≡ Done → x ≤ 60000
+begin-room m c x e =
+    let cs : List Check = rest (rest (storeChecks limits16 m c x)) in
+    let s : valid limits16 m ≡ true = not-false (valid limits16 m) (first-passes (not (valid limits16 m)) BadCabinet (not (isCard limits16 m c)) NoSuchCard cs e) in
+    let i : not (isCard limits16 m c) ≡ false = second-passes (not (valid limits16 m)) BadCabinet (not (isCard limits16 m c)) NoSuchCard cs e in
+    let two : firstFailing cs ≡ Done = two-pass (not (valid limits16 m)) BadCabinet (not (isCard limits16 m c)) NoSuchCard cs e in
+    let inside : leb (m .numbers .stored c) x && leb x (m .numbers .held c) ≡ true =
+    not-false (leb (m .numbers .stored c) x && leb x (m .numbers .held c)) (second-passes (isRolling (m .phase)) WrongPhase (not (leb (m .numbers .stored c) x && leb x (m .numbers .held c))) StoreOutside (rest (rest cs)) two) in
+    let there : m .present c ≡ true = and-right (ltb c (limits16 .width)) (m .present c) (not-false (isCard limits16 m c) i) in
+    let high : x ≤ m .numbers .held c = leb-true x (m .numbers .held c) (and-right (leb (m .numbers .stored c) x) (leb x (m .numbers .held c)) inside) in
+    let card : CardPassed limits16 m c = valid-card m s c (card-below m c i) there in
+    omega (arith, card .numbers .held-reached, valid-reached m s c (card-below m c i) there)
 
 -- the edits of a loss, from phase up or not
 abbrev pub lossEdits : CardSet → Bool → List Edit

@@ -13,6 +13,7 @@ use cabinet_layout::Phase;
 use cabinet_layout::is_rolling;
 use cabinet_valid_frames::frames_valid;
 use cabinet_valid_slots::all_slots_valid;
+use cabinet_writes::writes_valid;
 
 // "while rolling a fixed line outside base to stored"
 fn line_valid(phase: Phase, base: u32, stored: u32, line: u32) -> bool
@@ -133,11 +134,14 @@ pub fn cabinet_valid<'a>(
 {
     let slots = core.slots;
     let base = core.base;
+    let stored = core.stored;
     let reached = core.reached;
+    let writing = core.writing;
     let head = core.head;
     let session = cabinet_numbers::session_valid(head);
     let number = cabinet_numbers::cards_valid(head);
     let cards = all_cards_valid(entries, changes, core);
     let open = all_slots_valid(slots, base, reached, head);
-    session & number & cards & open
+    let writes = writes_valid(head, stored, reached, writing);
+    session & number & cards & open & writes
 }

@@ -9,7 +9,7 @@ use base_limits::Limits;
 use cabinet_layout::Slot;
 use cabinet_layout::Vector;
 
-fn greater(a: u32, b: u32) -> u32
+pub fn greater(a: u32, b: u32) -> u32
     ensures { λ r. ⌜ r ≡ max a b ⌝ }
 {
     if a < b { b } else { a }

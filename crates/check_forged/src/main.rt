@@ -11,18 +11,19 @@ mod lent;
 mod lists;
 mod pages;
 mod summit;
+mod writes;
 
-const LAST: u32 = Limits::GREATEST_NUMBER;
+pub const LAST: u32 = Limits::GREATEST_NUMBER;
 
 const HIGHEST: u32 = Limits::GREATEST_STATE;
 
 // Two cards, with a last change number.
-fn head(session: u32, phase: Phase, last_change: u32) -> Head {
+pub fn head(session: u32, phase: Phase, last_change: u32) -> Head {
     cabinet_layout::counted(cabinet_layout::head_of(session, 2, phase), last_change)
 }
 
 // Two cards, in that session and phase.
-fn headed(h: Head) -> Cabinet {
+pub fn headed(h: Head) -> Cabinet {
     let a = Cabinet::fresh(2);
     let mut c = a.cabinet;
     let mut core = c.core;
@@ -32,7 +33,7 @@ fn headed(h: Head) -> Cabinet {
 }
 
 // Card 0 has reached state 1, by change 1, in that phase.
-fn one_frame(phase: Phase) -> Cabinet {
+pub fn one_frame(phase: Phase) -> Cabinet {
     let mut c = headed(head(1, phase, 1));
     c.changes[1] = 1;
     c.entries[Limits::CARDS] = 1;
@@ -165,10 +166,10 @@ fn of_kind(k: u32) -> Cabinet {
 }
 
 // Each call, refused with 28, and what the cabinet is after them.
-fn all_calls(cabinet: Cabinet) {
+pub fn all_calls(cabinet: Cabinet) {
     run(
         cabinet,
-        b"open 0 1\nvote 1 0 1\ntake 1 0\nwithdraw 1\nstore 0 0\ntrim\nsafe 1\nlose 0\nfix 16 776\nroll 0\nsheet 0 65536\nrestart\n",
+        b"open 0 1\nvote 1 0 1\ntake 1 0\nwithdraw 1\nstore 0 0\nbegin 0 0\nend 0 0\ntrim\nsafe 1\nlose 0\nfix 16 776\nroll 0\nsheet 0 65536\nrestart\n",
     );
 }
 
@@ -206,6 +207,7 @@ fn main() {
     let a = Cabinet::fresh(0);
     all_calls(a.cabinet);
     at_limits();
+    writes::check();
     lent::check();
     pages::check();
     summit::check();

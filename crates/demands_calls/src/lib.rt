@@ -6,7 +6,7 @@ ghost use Rattle.cabinet_layout.specs.Answers.{replyOf, openReplyOf, safeReplyO
 ghost use Rattle.cabinet_recovery.specs.Fix.{fixReplyOf};
 ghost use Rattle.cabinet_sheet.specs.Card.{sheetReplyOf};
 ghost use Rattle.cabinet.specs.Fresh.{Freshly};
-ghost use Rattle.theory_protocol.specs.Run.{voteCall, takeCall, withdrawCall, storeCall, trimCall, safeCall, rollCall};
+ghost use Rattle.theory_protocol.specs.Run.{voteCall, takeCall, withdrawCall, storeCall, beginCall, endCall, trimCall, safeCall, rollCall};
 ghost use Rattle.demands_lists.specs.Lists.{opening, plain, lose, fix, sheet, restart, nothingLent, Answered};
 use base_limits::Limits;
 use cabinet::Answer;
@@ -57,6 +57,20 @@ pub fn store(c: Cabinet, card: u32, state: u32) -> Answer
     ensures { λ r. ⌜ Answered c (plain (storeCall card state)) (replyOf (r .reply)) (r .cabinet) nothingLent ⌝ }
 {
     c.store(card, state)
+}
+
+// The beginning of a store (document 02, wish 5).
+pub fn begin(c: Cabinet, card: u32, state: u32) -> Answer
+    ensures { λ r. ⌜ Answered c (plain (beginCall card state)) (replyOf (r .reply)) (r .cabinet) nothingLent ⌝ }
+{
+    c.begin(card, state)
+}
+
+// The end of a store.
+pub fn end(c: Cabinet, card: u32, state: u32) -> Answer
+    ensures { λ r. ⌜ Answered c (plain (endCall card state)) (replyOf (r .reply)) (r .cabinet) nothingLent ⌝ }
+{
+    c.end(card, state)
 }
 
 // 6. trim

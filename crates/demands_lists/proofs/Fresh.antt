@@ -27,7 +27,7 @@ replicated n a d f b h g i =
     by-cases (decLt i n) (λ l. ap f (getD-replicate n i a d l) ∙ h)
     (λ l. ap f (List·getD-eq-default (replicate n a) d (omega (arith, l, length-replicate n a))) ∙ g)
 
-zeros : (n i : ℕ) → at (replicate n 0) i ≡ 0
+pub zeros : (n i : ℕ) → at (replicate n 0) i ≡ 0
 zeros n i = replicated n 0 0 (λ x. x) 0 refl refl i
 
 vectors : vectorAt (replicate 16 (record { entries = replicate 16 0 })) ≡ (λ c. noEntries)
@@ -48,13 +48,15 @@ frames base reached = λ i c x. either-none (inHand base reached c x) (λ j. con
 
 fresh-view : (n : ℕ) → view (zeroCabinet (freshHead n)) ≡ freshModel (λ c. ltb c n)
 fresh-view n =
-    λ i. edit.withLine
+    λ i. edit.withWriting
+    (edit.withLine
     (edit.withSlots
     (edit.withNumbers (freshModel (λ c. ltb c n))
     (record { base = λ c. zeros 16 c i; stored = λ c. zeros 16 c i; held = λ c. zeros 16 c i; reached = λ c. zeros 16 c i })
     (record { last = vectors i; pending = vectors i; change = changes (replicate 16 0) (replicate 16 0) i; frame = frames (replicate 16 0) (replicate 16 0) i }))
     (slots i) (λ p. zeros 8 p i))
-    (λ c. zeros 16 c i) (no-members i)
+    (λ c. zeros 16 c i) (no-members i))
+    (λ c. zeros 16 c i)
 
 pub fresh-shows : (n : ℕ) → Shows (freshModel (λ c. ltb c n)) (zeroCabinet (freshHead n))
 fresh-shows n =

@@ -11,7 +11,7 @@ use Rattle.cabinet.specs.declared.Cabinet.{Cabinet}
 use Rattle.cabinet.specs.View.{view}
 use Rattle.cabinet.specs.Apply.{apply, applyAll}
 use Rattle.cabinet_layout.proofs.Held.{Fits}
-use Rattle.cabinet.proofs.Laws.{keep-law, count-law, place-law, raise-law, fall-law, halt-law, fix-law, renew-law}
+use Rattle.cabinet.proofs.Laws.{keep-law, begin-law, end-law, count-law, place-law, raise-law, fall-law, halt-law, fix-law, renew-law}
 use Rattle.cabinet.proofs.Grow.{grow-law}
 use Rattle.cabinet.proofs.Bases.{rebase-law, lower-law}
 use Rattle.demands_lists.specs.Lists.{Sized}
@@ -25,6 +25,8 @@ EditFits s (edit.latest k) = Unit {0}
 EditFits s (edit.grow c k v) = (c < 16) × (at (s .core .base) c ≤ at (s .core .reached) c) × (at (s .core .reached) c < at (s .core .base) c + 48) × Short v
 EditFits s (edit.raise c v) = (c < 16) × Short v
 EditFits s (edit.keep c x) = c < 16
+EditFits s (edit.begin c x) = c < 16
+EditFits s (edit.end c x) = c < 16
 EditFits s (edit.rebase bases) = ((k : ℕ) → 16 ≤ k → bases k ≡ 0) × ((c : ℕ) → at (s .core .base) c ≤ bases c)
 EditFits s (edit.fall cards) = Unit {0}
 EditFits s edit.halt = Unit {0}
@@ -38,6 +40,8 @@ brings s (edit.latest k) f = tt
 brings s (edit.grow c k v) f = f .3
 brings s (edit.raise c v) f = f .1
 brings s (edit.keep c x) f = tt
+brings s (edit.begin c x) f = tt
+brings s (edit.end c x) f = tt
 brings s (edit.rebase bases) f = tt
 brings s (edit.fall cards) f = tt
 brings s edit.halt f = tt
@@ -53,6 +57,8 @@ law s z w (edit.grow c k v) f =
     (record { card = f .0; entries = z .entries; changes = z .changes; last = z .core .last; pending = z .core .pending; held = z .core .held; reached = z .core .reached; low = f .1; room = f .2; vector = f .3 })
 law s z w (edit.raise c v) f = raise-law s c v (omega (arith, z .core .pending, f .0)) (joined-short (vectorAt (s .core .pending) c) v (w .pending c) (f .1))
 law s z w (edit.keep c x) f = keep-law s c x (omega (arith, z .core .stored, f))
+law s z w (edit.begin c x) f = begin-law s c x (omega (arith, z .core .writing, f))
+law s z w (edit.end c x) f = end-law s c x (omega (arith, z .core .stored, f)) (omega (arith, z .core .held, f)) (omega (arith, z .core .writing, f))
 law s z w (edit.rebase bases) f = rebase-law s bases (f .0) (f .1)
 law s z w (edit.fall cards) f = fall-law s cards (z .core .stored) (z .core .held)
 law s z w edit.halt f = halt-law s (z .core .slots)

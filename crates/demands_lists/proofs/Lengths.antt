@@ -14,7 +14,7 @@ use Rattle.theory_history.specs.Change.{CardSet}
 use Rattle.theory_protocol.specs.Model.{freeSlot}
 use Rattle.theory_protocol.specs.Edit.{Edit}
 use Rattle.theory_protocol.specs.Edit as edit
-use Rattle.cabinet_layout.specs.Shape.{limits16, at, listOf, setOf, slotFor, withHead, withVectors, withSlots, withNumbers, withLine}
+use Rattle.cabinet_layout.specs.Shape.{limits16, at, listOf, setOf, slotFor, withHead, withVectors, withSlots, withNumbers, withLine, withWriting}
 use Rattle.cabinet_layout.specs.Applied.{applied, entriesAfter, changesAfter}
 use Rattle.cabinet_layout.proofs.Limits.{width16, slots8}
 use Rattle.cabinet_layout.proofs.Made.{made-by}
@@ -52,6 +52,7 @@ zero-sized h =
         line = length-replicate {A = ℕ} 16 0;
         ended = length-replicate {A = ℕ} 8 0;
         rolled = lit< tt;
+        writing = length-replicate {A = ℕ} 16 0;
       };
     }
   where
@@ -64,19 +65,22 @@ zero-sized h =
 -- ---- each group of fields, set to lists of their lengths
 module _ (s : Core) (z : SizedCore s) where
   head-sized : (h : Head) → SizedCore (withHead s h)
-  head-sized h = record { last = z .last; pending = z .pending; slots = z .slots; base = z .base; stored = z .stored; held = z .held; reached = z .reached; line = z .line; ended = z .ended; rolled = z .rolled }
+  head-sized h = record { last = z .last; pending = z .pending; slots = z .slots; base = z .base; stored = z .stored; held = z .held; reached = z .reached; line = z .line; ended = z .ended; rolled = z .rolled; writing = z .writing }
 
   vectors-sized : (last pending : List Vector) → length last ≡ 16 → length pending ≡ 16 → SizedCore (withVectors s last pending)
-  vectors-sized last pending el ep = record { last = el; pending = ep; slots = z .slots; base = z .base; stored = z .stored; held = z .held; reached = z .reached; line = z .line; ended = z .ended; rolled = z .rolled }
+  vectors-sized last pending el ep = record { last = el; pending = ep; slots = z .slots; base = z .base; stored = z .stored; held = z .held; reached = z .reached; line = z .line; ended = z .ended; rolled = z .rolled; writing = z .writing }
 
   slots-sized : (slots : List Slot) (ended : List ℕ) → length slots ≡ 8 → length ended ≡ 8 → SizedCore (withSlots s slots ended)
-  slots-sized slots ended ep ee = record { last = z .last; pending = z .pending; slots = ep; base = z .base; stored = z .stored; held = z .held; reached = z .reached; line = z .line; ended = ee; rolled = z .rolled }
+  slots-sized slots ended ep ee = record { last = z .last; pending = z .pending; slots = ep; base = z .base; stored = z .stored; held = z .held; reached = z .reached; line = z .line; ended = ee; rolled = z .rolled; writing = z .writing }
 
   numbers-sized : (base stored kept reached : List ℕ) → length base ≡ 16 → length stored ≡ 16 → length kept ≡ 16 → length reached ≡ 16 → SizedCore (withNumbers s base stored kept reached)
-  numbers-sized base stored kept reached eb es eh er = record { last = z .last; pending = z .pending; slots = z .slots; base = eb; stored = es; held = eh; reached = er; line = z .line; ended = z .ended; rolled = z .rolled }
+  numbers-sized base stored kept reached eb es eh er = record { last = z .last; pending = z .pending; slots = z .slots; base = eb; stored = es; held = eh; reached = er; line = z .line; ended = z .ended; rolled = z .rolled; writing = z .writing }
 
   line-sized : (line : List ℕ) (rolled : ℕ) → length line ≡ 16 → rolled < 65536 → SizedCore (withLine s line rolled)
-  line-sized line rolled el er = record { last = z .last; pending = z .pending; slots = z .slots; base = z .base; stored = z .stored; held = z .held; reached = z .reached; line = el; ended = z .ended; rolled = er }
+  line-sized line rolled el er = record { last = z .last; pending = z .pending; slots = z .slots; base = z .base; stored = z .stored; held = z .held; reached = z .reached; line = el; ended = z .ended; rolled = er; writing = z .writing }
+
+  writing-sized : (writing : List ℕ) → length writing ≡ 16 → SizedCore (withWriting s writing)
+  writing-sized writing ew = record { last = z .last; pending = z .pending; slots = z .slots; base = z .base; stored = z .stored; held = z .held; reached = z .reached; line = z .line; ended = z .ended; rolled = z .rolled; writing = ew }
 
 -- what an edit leaves of a core
 core-sized : (e : Edit) (s : Core) → SizedCore s → SizedCore (applied e s)
@@ -86,6 +90,9 @@ core-sized (edit.grow c k v) s z =
     vectors-sized _ (numbers-sized s z _ _ _ _ (z .base) (z .stored) (length-set (s .held) _ _ ∙ z .held) (length-set (s .reached) _ _ ∙ z .reached)) _ _ (length-set (s .last) _ _ ∙ z .last) (length-set (s .pending) _ _ ∙ z .pending)
 core-sized (edit.raise c v) s z = vectors-sized s z _ _ (z .last) (length-set (s .pending) _ _ ∙ z .pending)
 core-sized (edit.keep c x) s z = numbers-sized s z _ _ _ _ (z .base) (length-set (s .stored) _ _ ∙ z .stored) (z .held) (z .reached)
+core-sized (edit.begin c x) s z = writing-sized s z _ (length-set (s .writing) _ _ ∙ z .writing)
+core-sized (edit.end c x) s z =
+    writing-sized _ (numbers-sized s z _ _ _ _ (z .base) (length-set (s .stored) _ _ ∙ z .stored) (length-set (s .held) _ _ ∙ z .held) (z .reached)) _ (length-set (s .writing) _ _ ∙ z .writing)
 core-sized (edit.rebase bases) s z = numbers-sized s z _ _ _ _ (by-card bases) (z .stored) (z .held) (z .reached)
 core-sized (edit.fall cards) s z = numbers-sized s z _ _ _ _ (z .base) (z .stored) (by-card _) (z .reached)
 core-sized edit.halt s z = head-sized _ (slots-sized s z _ _ (by-slot _) (by-slot _)) _

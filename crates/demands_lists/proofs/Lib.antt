@@ -7,3 +7,4 @@ pub mod Some
 pub mod Refusing
 pub mod Whole
 pub mod Agreement
+pub mod Unseen

@@ -30,6 +30,8 @@ Brings (edit.latest k) = Unit {0}
 Brings (edit.grow c k v) = Short v
 Brings (edit.raise c v) = Short v
 Brings (edit.keep c x) = Unit {0}
+Brings (edit.begin c x) = Unit {0}
+Brings (edit.end c x) = Unit {0}
 Brings (edit.rebase bases) = Unit {0}
 Brings (edit.fall cards) = Unit {0}
 Brings edit.halt = Unit {0}
@@ -54,6 +56,8 @@ edit-narrow (edit.grow c k v) m w b = record { slots = w .slots; last = put-each
 edit-narrow (edit.raise c v) m w b =
     record { slots = w .slots; last = w .last; pending = put-each Short (m .memory .pending) c (joined (m .memory .pending c) v) (w .pending) (joined-short (m .memory .pending c) v (w .pending c) b) }
 edit-narrow (edit.keep c x) m w b = record { slots = w .slots; last = w .last; pending = w .pending }
+edit-narrow (edit.begin c x) m w b = record { slots = w .slots; last = w .last; pending = w .pending }
+edit-narrow (edit.end c x) m w b = record { slots = w .slots; last = w .last; pending = w .pending }
 edit-narrow (edit.rebase bases) m w b = record { slots = w .slots; last = w .last; pending = w .pending }
 edit-narrow (edit.fall cards) m w b = record { slots = w .slots; last = w .last; pending = w .pending }
 edit-narrow edit.halt m w b = record { slots = λ p. free-fits; last = w .last; pending = w .pending }

@@ -19,8 +19,8 @@ use Rattle.theory_protocol.specs.Valid.{valid, roomToWrite}
 use Rattle.theory_protocol.proofs.Passed.{NumbersPassed}
 use Rattle.theory_protocol.specs.Edit as edit
 use Rattle.theory_protocol.specs.Plan.{Plan, Passed}
-use Rattle.theory_protocol.specs.Run.{Plain, voteCall, takeCall, withdrawCall, storeCall, trimCall, safeCall, rollCall, plainPlan}
-use Rattle.theory_protocol.specs.Calls.{openChecks, openPlan, voted, voteChecks, votePlan, tookShare, shareEdit, takeChecks, takePlan, withdrawChecks, withdrawPlan, storeChecks, storePlan, recoveryLine, lines, safeChecks, safePlan, trimChecks, trimPlan, loseChecks, losePlan, fixChecks, fixPlan, rollChecks, rollPlan, allRolled}
+use Rattle.theory_protocol.specs.Run.{Plain, voteCall, takeCall, withdrawCall, storeCall, beginCall, endCall, trimCall, safeCall, rollCall, plainPlan}
+use Rattle.theory_protocol.specs.Calls.{openChecks, openPlan, voted, voteChecks, votePlan, tookShare, shareEdit, takeChecks, takePlan, withdrawChecks, withdrawPlan, storeChecks, storePlan, beginPlan, endChecks, endPlan, recoveryLine, lines, safeChecks, safePlan, trimChecks, trimPlan, loseChecks, losePlan, fixChecks, fixPlan, rollChecks, rollPlan, allRolled}
 use Rattle.theory_protocol.proofs.Steps.{checked-case, not-not, card-below, known-slot}
 use Rattle.cabinet_layout.specs.Shape.{limits16, at}
 use Rattle.cabinet_layout.proofs.Limits.{width16, inHand48, slots8}
@@ -144,6 +144,12 @@ module _ (s : Cabinet) (z : Sized s) (w : Narrow (view s)) where
   store-fits : (c x : ℕ) → PlanFits (storePlan limits16 m c x)
   store-fits c x = checked-case PlanFits (storeChecks limits16 m c x) _ _ (λ r. tt) (λ ps. (card16 m c (ps .1 .0), tt))
 
+  begin-fits : (c x : ℕ) → PlanFits (beginPlan limits16 m c x)
+  begin-fits c x = checked-case PlanFits (storeChecks limits16 m c x) _ _ (λ r. tt) (λ ps. (card16 m c (ps .1 .0), tt))
+
+  end-fits : (c x : ℕ) → PlanFits (endPlan limits16 m c x)
+  end-fits c x = checked-case PlanFits (endChecks limits16 m c x) _ _ (λ r. tt) (λ ps. (card16 m c (ps .1 .0), tt))
+
   trim-fits : PlanFits (trimPlan limits16 m)
   trim-fits = checked-case PlanFits (trimChecks limits16 m) _ _ (λ r. tt) (λ ps. ((lines-beyond s z, lines-above m), tt))
 
@@ -168,6 +174,8 @@ module _ (s : Cabinet) (z : Sized s) (w : Narrow (view s)) where
   plain-fits (takeCall k c) = take-fits k c
   plain-fits (withdrawCall k) = withdraw-fits k
   plain-fits (storeCall c x) = store-fits c x
+  plain-fits (beginCall c x) = begin-fits c x
+  plain-fits (endCall c x) = end-fits c x
   plain-fits trimCall = trim-fits
   plain-fits (safeCall k) = safe-fits k
   plain-fits (rollCall c) = roll-fits c

@@ -114,7 +114,7 @@ module _ (s : Cabinet) (records : List CardRecord) (list : List ℕ) where
       short : length lost ≤ length list
       short =
           ltb-false (length list) (length lost)
-          (fails (ltb (length list) (length lost)) (λ z. clash (or-right (ltb (length records) (length (cardRows limits16 (view s)))) z) (ps .1 .1 .1 .0)))
+          (fails (ltb (length list) (length lost)) (λ z. clash (or-right (ltb (length records) (length (cardRows limits16 (view s)))) z) (ps .1 .1 .1 .1 .0)))
 
       reply-same : accepted (fixed (rowsOf (s .core .head .cards) (s .core .stored) (listOf (lines limits16 (view s)))) (take (length lost) (sets list 0 lost))) ≡ plan .reply
       reply-same = ap₂ (λ (rows : List CardRow) (ls : List ℕ). accepted (fixed rows ls)) rows-same (front lost list short) ∙ sym (ap (λ (p : Plan). p .reply) e)

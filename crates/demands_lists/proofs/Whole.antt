@@ -108,6 +108,7 @@ restarted-sized r z =
         line = by-card _;
         ended = by-slot _;
         rolled = set-small _;
+        writing = by-card _;
       };
     }
 
@@ -208,7 +209,7 @@ restart-gives n few s line g reply handed told =
         ap view (told .cabinet ∙ ap (λ (v : refusal.Reply). cabinetFor v (readoutOf (joinedSheets formats limits16 (view s)) .readout)) (g .accepted-so))
         ∙ restarts.restarted-shows (joinedSheets formats limits16 (view s)) (g .accepted-so)
 
-cabinet-right : (n : ℕ) {cs : Calls} {s : Cabinet} → Joined n cs s → CabinetRight16 n cs s
+pub cabinet-right : (n : ℕ) {cs : Calls} {s : Cabinet} → Joined n cs s → CabinetRight16 n cs s
 cabinet-right n {cs} {s} j =
     record { right = r; sheets-give-line = λ line marked e. restart-gives n (j .few) s line (r .sheets-give-line line marked e) }
   where

@@ -1,9 +1,12 @@
--- Demands 1, 2 and 3 of the 16-card cabinet, and document 02's wishes. Statements alone: the proofs are in proofs/Refusing.antt, proofs/Whole.antt and proofs/Agreement.antt.
+-- Demands 1, 2 and 3 of the 16-card cabinet, and document 02's wishes. Statements alone: the proofs are in proofs/Refusing.antt, proofs/Whole.antt, proofs/Agreement.antt and proofs/Unseen.antt.
 use Prim.Native.Nat.{ℕ, _<_}
 use mathlib.Core.Path.{_≡_}
+use mathlib.Core.Bool.{true}
 use mathlib.Core.List.{List}
 use lib.Dec.{ltb}
+use lib.ListN.{replicate}
 use lib.Seq.{sets}
+use Rattle.base_limits.specs.Document.{mostCards}
 use Rattle.base_refusal.specs.declared.Refusal.{Refusal}
 use Rattle.base_refusal.specs.declared.Refusal.the-variants.{Barred}
 use Rattle.base_refusal.specs.Number.{Listed, numberOf}
@@ -12,13 +15,15 @@ use Rattle.sheet_lines.specs.Format.{formats}
 use Rattle.theory_history.specs.Change.{CardSet, Numbers}
 use Rattle.theory_codec.specs.Sheets.{joinedSheets, codec}
 use Rattle.theory_protocol.specs.Plan.{CardRow, Answer, done, fixed, Reply, accepted, refused, Check, Passed, Due}
+use Rattle.theory_protocol.specs.Valid.{valid}
 use Rattle.theory_protocol.specs.Journal.{fixing}
-use Rattle.theory_protocol.specs.Run.{safeCall, checksOf, Calls, none, further, journal}
+use Rattle.theory_protocol.specs.Run.{Plain, voteCall, takeCall, withdrawCall, storeCall, beginCall, endCall, trimCall, safeCall, rollCall, checksOf, Calls, none, further, journal}
 use Rattle.theory_protocol.specs.Demands.{NamedRight, ListedRight, CallRight, CabinetRight}
 use Rattle.theory_protocol.specs.Agreement.{Agrees}
-use Rattle.cabinet_layout.specs.Shape.{limits16}
+use Rattle.cabinet_layout.specs.Shape.{limits16, withWriting}
 use Rattle.cabinet.specs.declared.Cabinet.{Cabinet}
 use Rattle.cabinet.specs.View.{view}
+use Rattle.cabinet.specs.Apply.{withCore}
 use Rattle.cabinet_records.specs.declared.CardRecord.{CardRecord}
 use Rattle.cabinet_restart.specs.Restart.{Restarted}
 use Rattle.demands_lists.specs.Lists.{Asked, opening, plain, lose, fix, sheet, restart, callOf, Lent, lent, Sized, Answered, List16, start, next}
@@ -115,3 +120,42 @@ SafeAgreesWithFix16 = (s : Cabinet) → Sized s → AgreesFrom s
 -- of every cabinet that a list leads to
 abbrev pub AgreesInLists16 : Type 0
 AgreesInLists16 = (n : ℕ) (cs : Calls) (s : Cabinet) → List16 n cs s → AgreesFrom s
+
+-- ---- Document 02, wish 5: "Between them the cabinet accepts openings, votes, takes and trim"
+-- the cabinet with no write running
+abbrev pub unwritten : Cabinet → Cabinet
+unwritten s = withCore s (withWriting (s .core) (replicate mostCards 0))
+
+-- the calls that go by no running write: these four, and withdrawals, safe questions, losses and sheets
+abbrev pub PlainSeesNone : Plain → Type 0
+PlainSeesNone (voteCall k c agrees) = Unit {0}
+PlainSeesNone (takeCall k c) = Unit {0}
+PlainSeesNone (withdrawCall k) = Unit {0}
+PlainSeesNone (storeCall c x) = ⊥
+PlainSeesNone (beginCall c x) = ⊥
+PlainSeesNone (endCall c x) = ⊥
+PlainSeesNone trimCall = Unit {0}
+PlainSeesNone (safeCall k) = Unit {0}
+PlainSeesNone (rollCall c) = ⊥
+
+abbrev pub SeesNone : Asked → Type 0
+SeesNone (opening reads writes) = Unit {0}
+SeesNone (plain q) = PlainSeesNone q
+SeesNone (lose cards) = Unit {0}
+SeesNone (fix records list) = ⊥
+SeesNone (sheet c buffer) = Unit {0}
+SeesNone restart = ⊥
+
+-- what such a call of the cabinet s answers, it answers with no write running too, and does the same; the writes that run go on
+abbrev pub UnhinderedFrom : Cabinet → Type 0
+UnhinderedFrom s =
+    (asked : Asked) → SeesNone asked → (reply : Reply) (t : Cabinet) (after : Lent) → Answered s asked reply t after
+    → Answered (unwritten s) asked reply (unwritten t) after × (t .core .writing ≡ s .core .writing)
+
+-- of any cabinet that 28 lets pass, a forged one too
+abbrev pub Unhindered16 : Type 0
+Unhindered16 = (s : Cabinet) → valid limits16 (view s) ≡ true → UnhinderedFrom s
+
+-- of every cabinet that a list leads to
+abbrev pub UnhinderedInLists16 : Type 0
+UnhinderedInLists16 = (n : ℕ) (cs : Calls) (s : Cabinet) → List16 n cs s → UnhinderedFrom s

@@ -81,6 +81,7 @@ pub record SizedCore (s : Core) : Type 0 where
   pub line : length (s .line) ≡ mostCards
   pub ended : length (s .ended) ≡ 8
   pub rolled : s .rolled < 65536
+  pub writing : length (s .writing) ≡ mostCards
 
 pub record Sized (s : Cabinet) : Type 0 where
   pub entries : length (s .entries) ≡ mostEntries

@@ -16,7 +16,7 @@ use Rattle.base_refusal.specs.Number.{rowOf}
 use Rattle.base_refusal.specs.declared.Refusal.the-variants.{CardCount, NoSuchCard}
 use Rattle.base_bits.specs.Member.{member}
 use Rattle.theory_protocol.specs.Plan.{done, Plan, accepted, refused, _⇒_}
-use Rattle.theory_protocol.specs.Calls.{freshRefused, openPlan, votePlan, takePlan, withdrawPlan, storePlan, trimPlan, safePlan, losePlan, fixPlan, rollPlan}
+use Rattle.theory_protocol.specs.Calls.{freshRefused, openPlan, votePlan, takePlan, withdrawPlan, storePlan, beginPlan, endPlan, trimPlan, safePlan, losePlan, fixPlan, rollPlan}
 use Rattle.theory_protocol.specs.Codec.{sheetPlan}
 use Rattle.theory_protocol.proofs.Claims.{not-both}
 use Rattle.theory_codec.specs.Sheets.{restartReply, codec}
@@ -34,7 +34,7 @@ use Rattle.base_text.specs.Put.{placeAfter, wholeAfter, Whole}
 use Rattle.list_commands.specs.declared.Command.{Command}
 use Rattle.list_commands.specs.declared.Command.the-variants.{Fresh, Asks, Unreadable}
 use Rattle.list_commands.specs.declared.Request.{Request}
-use Rattle.list_commands.specs.declared.Request.the-variants.{Open, Vote, Take, Withdraw, Store, Trim, Safe, Lose, Fix, Roll, Sheet, Restart, Show, Frames}
+use Rattle.list_commands.specs.declared.Request.the-variants.{Open, Vote, Take, Withdraw, Store, Begin, End, Trim, Safe, Lose, Fix, Roll, Sheet, Restart, Show, Frames}
 use Rattle.list_parse.specs.declared.Token.{Token}
 use Rattle.list_parse.specs.declared.Token.the-variants.{Line, End}
 use Rattle.list_parse.specs.Lines.{tokenAt}
@@ -74,6 +74,8 @@ tells c (Vote change card agrees) = by-plan c (votePlan limits16 (view c) change
 tells c (Take change card) = by-plan c (takePlan limits16 (view c) change card)
 tells c (Withdraw change) = by-plan c (withdrawPlan limits16 (view c) change)
 tells c (Store card state) = by-plan c (storePlan limits16 (view c) card state)
+tells c (Begin card state) = by-plan c (beginPlan limits16 (view c) card state)
+tells c (End card state) = by-plan c (endPlan limits16 (view c) card state)
 tells c Trim = by-plan c (trimPlan limits16 (view c))
 tells c (Safe change) = by-plan c (safePlan limits16 (view c) change)
 tells c (Lose cards) =

@@ -15,15 +15,15 @@ use Rattle.cabinet.specs.View.{view}
 use Rattle.cabinet.specs.Apply.{Carried}
 use Rattle.list_commands.specs.declared.Command.the-variants.{Asks}
 use Rattle.list_commands.specs.declared.Request.{Request}
-use Rattle.list_commands.specs.declared.Request.the-variants.{Open, Vote, Take, Withdraw, Store, Trim, Safe, Lose, Fix, Roll, Sheet, Restart, Show, Frames}
+use Rattle.list_commands.specs.declared.Request.the-variants.{Open, Vote, Take, Withdraw, Store, Begin, End, Trim, Safe, Lose, Fix, Roll, Sheet, Restart, Show, Frames}
 use Rattle.list_answers.specs.Texts.{replyText}
 use Rattle.list_results.specs.Result.{Planned, OpenResult, readsBeyond, writesBeyond, openWithin, LoseResult, setBeyond, lostWithin, Result}
-use Rattle.theory_protocol.specs.Run.{voteCall, takeCall, withdrawCall, storeCall, trimCall, safeCall, rollCall}
+use Rattle.theory_protocol.specs.Run.{voteCall, takeCall, withdrawCall, storeCall, beginCall, endCall, trimCall, safeCall, rollCall}
 use Rattle.demands_lists.specs.Lists.{Asked, opening, plain, lose, fix, sheet, restart, Typed, Lent, nothingLent, Answered}
 use Rattle.demands_lists.specs.Claims.{Reached}
 use Rattle.demands_lists.proofs.Some.{some}
 use Rattle.demands_lists.proofs.Refusing.{fix-carried, sheet-carried}
-use Rattle.demands_whole.specs.Texts.{Makes, opens, votes, takes, withdraws, stores, trims, asks-safe, loses, fixes, rolls, writes-sheet, restarts, NoCall, beyond-reads, beyond-writes, beyond-lost, looks, looks-at}
+use Rattle.demands_whole.specs.Texts.{Makes, opens, votes, takes, withdraws, stores, begins, ends, trims, asks-safe, loses, fixes, rolls, writes-sheet, restarts, NoCall, beyond-reads, beyond-writes, beyond-lost, looks, looks-at}
 
 -- a call, answered as its contract says, or none
 pub data Meant (c : Cabinet) (q : Request) (new : Cabinet) (u : List ℕ) : Type 0 where
@@ -56,6 +56,8 @@ module _ (c : Cabinet) (new : Cabinet) (u : List ℕ) where
   meant (Take change card) o = planned (Take change card) (plain (takeCall change card)) (takes change card) tt _ o (record { answer = refl; cabinet = o .cabinet }, refl)
   meant (Withdraw change) o = planned (Withdraw change) (plain (withdrawCall change)) (withdraws change) tt _ o (record { answer = refl; cabinet = o .cabinet }, refl)
   meant (Store card state) o = planned (Store card state) (plain (storeCall card state)) (stores card state) tt _ o (record { answer = refl; cabinet = o .cabinet }, refl)
+  meant (Begin card state) o = planned (Begin card state) (plain (beginCall card state)) (begins card state) tt _ o (record { answer = refl; cabinet = o .cabinet }, refl)
+  meant (End card state) o = planned (End card state) (plain (endCall card state)) (ends card state) tt _ o (record { answer = refl; cabinet = o .cabinet }, refl)
   meant Trim o = planned Trim (plain trimCall) trims tt _ o (record { answer = refl; cabinet = o .cabinet }, refl)
   meant (Safe change) o = planned (Safe change) (plain (safeCall change)) (asks-safe change) tt _ o (record { answer = refl; cabinet = o .cabinet }, refl)
   meant (Lose cards) o = losing o

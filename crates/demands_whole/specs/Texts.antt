@@ -5,14 +5,14 @@ use mathlib.Core.Bool.{Bool, true}
 use mathlib.Core.List.{List, _++_}
 use lib.ListN.{length}
 use Rattle.theory_protocol.specs.Plan.{Reply, accepted, done}
-use Rattle.theory_protocol.specs.Run.{voteCall, takeCall, withdrawCall, storeCall, trimCall, safeCall, rollCall, Calls, none, further}
+use Rattle.theory_protocol.specs.Run.{voteCall, takeCall, withdrawCall, storeCall, beginCall, endCall, trimCall, safeCall, rollCall, Calls, none, further}
 use Rattle.theory_protocol.specs.Calls.{freshRefused}
 use Rattle.cabinet_layout.specs.Shape.{limits16}
 use Rattle.cabinet_records.specs.declared.CardRecord.{CardRecord}
 use Rattle.cabinet.specs.Fresh.{Freshly}
 use Rattle.list_commands.specs.declared.Command.{Command}
 use Rattle.list_commands.specs.declared.Command.the-variants.{Fresh, Asks, Unreadable}
-use Rattle.list_commands.specs.declared.Request.the-variants.{Open, Vote, Take, Withdraw, Store, Trim, Safe, Lose, Fix, Roll, Sheet, Restart, Show, Frames}
+use Rattle.list_commands.specs.declared.Request.the-variants.{Open, Vote, Take, Withdraw, Store, Begin, End, Trim, Safe, Lose, Fix, Roll, Sheet, Restart, Show, Frames}
 use Rattle.list_parse.specs.declared.Token.the-variants.{Line}
 use Rattle.list_parse.specs.Lines.{tokenAt}
 use Rattle.list_answers.specs.Texts.{replyText}
@@ -30,6 +30,8 @@ pub data Makes : Command → Asked → Type 0 where
   takes : (change card : ℕ) → Makes (Asks (Take change card)) (plain (takeCall change card))
   withdraws : (change : ℕ) → Makes (Asks (Withdraw change)) (plain (withdrawCall change))
   stores : (card state : ℕ) → Makes (Asks (Store card state)) (plain (storeCall card state))
+  begins : (card state : ℕ) → Makes (Asks (Begin card state)) (plain (beginCall card state))
+  ends : (card state : ℕ) → Makes (Asks (End card state)) (plain (endCall card state))
   trims : Makes (Asks Trim) (plain trimCall)
   asks-safe : (change : ℕ) → Makes (Asks (Safe change)) (plain (safeCall change))
   loses : (cards : ℕ) → cards ≤ 65535 → Makes (Asks (Lose cards)) (lose cards)

@@ -1,5 +1,5 @@
 // Calls on the present cabinet that name no set and lend nothing, each with its answer written.
-ghost use Rattle.theory_protocol.specs.Calls.{storePlan, takePlan, votePlan, withdrawPlan, safePlan, trimPlan, rollPlan};
+ghost use Rattle.theory_protocol.specs.Calls.{storePlan, beginPlan, endPlan, takePlan, votePlan, withdrawPlan, safePlan, trimPlan, rollPlan};
 ghost use Rattle.cabinet_layout.specs.Shape.{limits16};
 ghost use Rattle.cabinet.specs.View.{view};
 ghost use Rattle.list_results.specs.Result.{Planned, Written, Continuing};
@@ -58,6 +58,36 @@ pub fn store(c: Cabinet, card: u32, state: u32, b: &mut [u8], w: Progress) -> St
     ensures { λ r. ⌜ Written (Continuing (Planned c (storePlan limits16 (view c) card state)) (r .replay)) (now (b .entry)) w (r .written) (now (b .exit)) ⌝ }
 {
     let a = c.store(card, state);
+    let r = a.reply;
+    let written = list_whole::put_reply(b, w, r);
+    let cabinet = a.cabinet;
+    let replay = Replay {
+        cabinet,
+        begun: true,
+    };
+    Stepped { replay, written }
+}
+
+// The beginning of a store (document 02, wish 5).
+pub fn begin(c: Cabinet, card: u32, state: u32, b: &mut [u8], w: Progress) -> Stepped
+    ensures { λ r. ⌜ Written (Continuing (Planned c (beginPlan limits16 (view c) card state)) (r .replay)) (now (b .entry)) w (r .written) (now (b .exit)) ⌝ }
+{
+    let a = c.begin(card, state);
+    let r = a.reply;
+    let written = list_whole::put_reply(b, w, r);
+    let cabinet = a.cabinet;
+    let replay = Replay {
+        cabinet,
+        begun: true,
+    };
+    Stepped { replay, written }
+}
+
+// The end of a store.
+pub fn end(c: Cabinet, card: u32, state: u32, b: &mut [u8], w: Progress) -> Stepped
+    ensures { λ r. ⌜ Written (Continuing (Planned c (endPlan limits16 (view c) card state)) (r .replay)) (now (b .entry)) w (r .written) (now (b .exit)) ⌝ }
+{
+    let a = c.end(card, state);
     let r = a.reply;
     let written = list_whole::put_reply(b, w, r);
     let cabinet = a.cabinet;

@@ -26,7 +26,7 @@ pub fn restart(c: Cabinet, b: &mut [u8], w: Progress) -> Stepped
 
 // What the cabinet is.
 pub fn show(c: Cabinet, b: &mut [u8], w: Progress) -> Stepped
-    ensures { λ r. ⌜ Written (Continuing (Kept c (showText (c .core .head) (c .core .base) (c .core .stored) (c .core .held) (c .core .reached))) (r .replay)) (now (b .entry)) w (r .written) (now (b .exit)) ⌝ }
+    ensures { λ r. ⌜ Written (Continuing (Kept c (showText (c .core .head) (c .core .base) (c .core .stored) (c .core .held) (c .core .reached) (c .core .writing))) (r .replay)) (now (b .entry)) w (r .written) (now (b .exit)) ⌝ }
 {
     let core = c.core;
     let head = core.head;
@@ -34,7 +34,8 @@ pub fn show(c: Cabinet, b: &mut [u8], w: Progress) -> Stepped
     let stored = core.stored;
     let held = core.held;
     let reached = core.reached;
-    let written = list_whole_lent::put_show(b, w, head, base, stored, held, reached);
+    let writing = core.writing;
+    let written = list_whole_lent::put_show(b, w, head, base, stored, held, reached, writing);
     let replay = Replay {
         cabinet: c,
         begun: true,

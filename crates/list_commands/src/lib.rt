@@ -23,6 +23,14 @@ pub enum Request {
         card: u32,
         state: u32,
     },
+    Begin {
+        card: u32,
+        state: u32,
+    },
+    End {
+        card: u32,
+        state: u32,
+    },
     Trim,
     Safe(u32),
     Lose(u32),

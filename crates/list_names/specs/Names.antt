@@ -4,7 +4,7 @@ use mathlib.Core.Bool.{cond}
 use mathlib.Core.List.{List, [], _∷_}
 use Rattle.list_commands.specs.declared.Command.{Command}
 use Rattle.list_commands.specs.declared.Command.the-variants.{Fresh, Asks, Unreadable}
-use Rattle.list_commands.specs.declared.Request.the-variants.{Open, Take, Withdraw, Store, Trim, Safe, Lose, Roll, Restart, Show, Frames}
+use Rattle.list_commands.specs.declared.Request.the-variants.{Open, Take, Withdraw, Store, Begin, End, Trim, Safe, Lose, Roll, Restart, Show, Frames}
 use Rattle.list_commands.specs.Calls.{asFix, asSheet, asVote}
 use Rattle.list_words.specs.declared.Figures.{Figures}
 use Rattle.list_words.specs.declared.Figures.the-variants.{Zero, One, Two, Three, Malformed}
@@ -29,6 +29,12 @@ withdrawName = 119 ∷ 105 ∷ 116 ∷ 104 ∷ 100 ∷ 114 ∷ 97 ∷ 119 ∷ []
 
 abbrev pub storeName : List ℕ
 storeName = 115 ∷ 116 ∷ 111 ∷ 114 ∷ 101 ∷ []
+
+abbrev pub beginName : List ℕ
+beginName = 98 ∷ 101 ∷ 103 ∷ 105 ∷ 110 ∷ []
+
+abbrev pub endName : List ℕ
+endName = 101 ∷ 110 ∷ 100 ∷ []
 
 abbrev pub trimName : List ℕ
 trimName = 116 ∷ 114 ∷ 105 ∷ 109 ∷ []
@@ -76,8 +82,10 @@ parseTwo w a b =
     cond (same w openName) (Asks (Open a b))
     (cond (same w takeName) (Asks (Take a b))
     (cond (same w storeName) (Asks (Store a b))
+    (cond (same w beginName) (Asks (Begin a b))
+    (cond (same w endName) (Asks (End a b))
     (cond (same w fixName) (asFix a b)
-    (cond (same w sheetName) (asSheet a b) Unreadable))))
+    (cond (same w sheetName) (asSheet a b) Unreadable))))))
 
 abbrev pub parseThree : List ℕ → (a b c : ℕ) → Command
 parseThree w a b c = cond (same w voteName) (asVote a b c) Unreadable

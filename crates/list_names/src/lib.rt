@@ -62,6 +62,12 @@ fn say_two(word: &[u8], a: u32, b: u32) -> Command
     if base_search::is_same(word, b"store") {
         return Command::Asks(Request::Store { card: a, state: b });
     }
+    if base_search::is_same(word, b"begin") {
+        return Command::Asks(Request::Begin { card: a, state: b });
+    }
+    if base_search::is_same(word, b"end") {
+        return Command::Asks(Request::End { card: a, state: b });
+    }
     if base_search::is_same(word, b"fix") {
         return list_commands::as_fix(a, b);
     }

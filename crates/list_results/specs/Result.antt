@@ -8,7 +8,7 @@ use Rattle.base_bits.specs.Member.{member}
 use Rattle.base_refusal.specs.declared.Refusal.the-variants.{NoSuchCard}
 use Rattle.base_text.specs.declared.Progress.{Progress}
 use Rattle.theory_protocol.specs.Plan.{Plan, Reply}
-use Rattle.theory_protocol.specs.Calls.{openPlan, storePlan, takePlan, votePlan, withdrawPlan, safePlan, trimPlan, rollPlan, losePlan, fixPlan}
+use Rattle.theory_protocol.specs.Calls.{openPlan, storePlan, beginPlan, endPlan, takePlan, votePlan, withdrawPlan, safePlan, trimPlan, rollPlan, losePlan, fixPlan}
 use Rattle.theory_protocol.specs.Codec.{sheetPlan}
 use Rattle.theory_codec.specs.Sheets.{codec}
 use Rattle.cabinet_layout.specs.Shape.{limits16}
@@ -18,7 +18,7 @@ use Rattle.list_results.specs.declared.Replay.{Replay}
 use Rattle.cabinet.specs.Apply.{applyAll}
 use Rattle.cabinet_joined.specs.Joined.{FromOwnSheets}
 use Rattle.list_commands.specs.declared.Request.{Request}
-use Rattle.list_commands.specs.declared.Request.the-variants.{Open, Vote, Take, Withdraw, Store, Trim, Safe, Lose, Fix, Roll, Sheet, Restart, Show, Frames}
+use Rattle.list_commands.specs.declared.Request.the-variants.{Open, Vote, Take, Withdraw, Store, Begin, End, Trim, Safe, Lose, Fix, Roll, Sheet, Restart, Show, Frames}
 use Rattle.base_text.specs.Put.{Whole}
 use Rattle.list_answer_words.specs.Words.{refusedText}
 use Rattle.list_answers.specs.Texts.{replyText}
@@ -71,6 +71,8 @@ Result c (Vote change card agrees) next text = Planned c (votePlan limits16 (vie
 Result c (Take change card) next text = Planned c (takePlan limits16 (view c) change card) next text
 Result c (Withdraw change) next text = Planned c (withdrawPlan limits16 (view c) change) next text
 Result c (Store card state) next text = Planned c (storePlan limits16 (view c) card state) next text
+Result c (Begin card state) next text = Planned c (beginPlan limits16 (view c) card state) next text
+Result c (End card state) next text = Planned c (endPlan limits16 (view c) card state) next text
 Result c Trim next text = Planned c (trimPlan limits16 (view c)) next text
 Result c (Safe change) next text = Planned c (safePlan limits16 (view c) change) next text
 Result c (Lose cards) next text = LoseResult c cards next text
@@ -80,5 +82,5 @@ Result c (Roll card) next text = Planned c (rollPlan limits16 (view c) card) nex
 -- a readable line lends 65,536 bytes at most
 Result c (Sheet card bytes) next text = Planned c (sheetPlan codec limits16 (view c) card (min bytes longestInput)) next text
 Result c Restart next text = RestartResult c next text
-Result c Show next text = Kept c (showText (c .core .head) (c .core .base) (c .core .stored) (c .core .held) (c .core .reached)) next text
+Result c Show next text = Kept c (showText (c .core .head) (c .core .base) (c .core .stored) (c .core .held) (c .core .reached) (c .core .writing)) next text
 Result c (Frames card) next text = Kept c (framesAnswer limits16 (view c) card) next text

@@ -8,7 +8,7 @@ use Rattle.theory_protocol.specs.Plan.{Plan}
 use Rattle.cabinet.specs.declared.Cabinet.{Cabinet}
 use Rattle.list_answers.specs.Texts.{replyText}
 use Rattle.list_commands.specs.declared.Request.{Request}
-use Rattle.list_commands.specs.declared.Request.the-variants.{Open, Vote, Take, Withdraw, Store, Trim, Safe, Lose, Fix, Roll, Sheet, Restart, Show, Frames}
+use Rattle.list_commands.specs.declared.Request.the-variants.{Open, Vote, Take, Withdraw, Store, Begin, End, Trim, Safe, Lose, Fix, Roll, Sheet, Restart, Show, Frames}
 use Rattle.list_commands.specs.declared.Command.{Command}
 use Rattle.list_commands.specs.declared.Command.the-variants.{Fresh, Asks, Unreadable}
 use Rattle.list_results.specs.declared.Replay.{Replay}
@@ -59,6 +59,8 @@ told-alike c (Vote change card agrees) x y = planned-alike x y
 told-alike c (Take change card) x y = planned-alike x y
 told-alike c (Withdraw change) x y = planned-alike x y
 told-alike c (Store card state) x y = planned-alike x y
+told-alike c (Begin card state) x y = planned-alike x y
+told-alike c (End card state) x y = planned-alike x y
 told-alike c Trim x y = planned-alike x y
 told-alike c (Safe change) x y = planned-alike x y
 told-alike c (Lose cards) x y = lose-alike x y

@@ -65,8 +65,9 @@ pub fn put_show(
     stored: [u32; Limits::CARDS],
     held: [u32; Limits::CARDS],
     reached: [u32; Limits::CARDS],
+    writing: [u32; Limits::CARDS],
 ) -> Progress
-    ensures { λ x. ⌜ Whole (now (b .entry)) w (showText head base stored held reached) x (now (b .exit)) ⌝ }
+    ensures { λ x. ⌜ Whole (now (b .entry)) w (showText head base stored held reached writing) x (now (b .exit)) ⌝ }
 {
     let counted = list_answer_show::put_show(
         b,
@@ -76,9 +77,10 @@ pub fn put_show(
         stored,
         held,
         reached,
+        writing,
     );
     let from = base_text::fitting(b.len(), w, counted);
-    list_answer_show::put_show(b, from, head, base, stored, held, reached)
+    list_answer_show::put_show(b, from, head, base, stored, held, reached, writing)
 }
 
 // What the states in hand of a card hang on.

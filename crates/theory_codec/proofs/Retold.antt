@@ -90,6 +90,7 @@ module _ (L : Limits) (lim : SheetLimits L) (n : ℕ) (low : 1 ≤ n) (high : n 
         last = λ c i. test (ltb (pageAt ps c .header .base) (pageStored (pageAt ps c))) (λ e. rw e) (λ e. rw e);
         pending = refl;
         none-open = λ p l. refl;
+        none-writing = λ c. refl;
         rolled = λ c l e. ap₂ ltb lowest-is (reading.session-at L lim n m j high low present-is r c (below c e)) ∙ ahead (hasRolled m c);
         none-rolled = λ c l e. ap₂ ltb lowest-is (ap (λ (p : Page). p .header .session) (no-page c e)) ∙ le-ltb (m .session) 0 zero-le;
         line = λ c l. refl;

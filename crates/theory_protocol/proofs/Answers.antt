@@ -1,5 +1,5 @@
 -- What accepted calls of a list answer and do: takes, fixes, rolls, losses and safe questions; and with it demands 2 and 3. Assumes nothing.
-use Prim.Native.Nat.{ℕ, zero, suc, _<_}
+use Prim.Native.Nat.{ℕ, zero, suc, max, _<_}
 use mathlib.Core.Path.{_≡_, refl, sym, _∙_, ap, ap₂, subst}
 use mathlib.Core.Bool.{Bool, true, false, not, _&&_, cond}
 use mathlib.Core.Logic.{by-cases, inl, ⊎-elim}
@@ -27,10 +27,10 @@ use Rattle.theory_protocol.specs.Codec.{Codec}
 use Rattle.theory_protocol.specs.Model.{Limits, Phase, noCards, up, down, rolling, isUp, isDown, isRolling, OpenChange, Model, isCard, isOpen, decided, slotOf, isKnown, withCard}
 use Rattle.theory_protocol.specs.Edit.{Edit, place, grow, raise, fall, halt, lower, renew, editedAll}
 use Rattle.theory_protocol.specs.Plan.{Answer, safe, unsafe, fixed, accepted, Check, Plan, checked, afterPlan, Passed}
-use Rattle.theory_protocol.specs.Calls.{recoveryLine, cardRows, someFrameAbove, hasFrame, allLost, isSafe, isLost, lostNumbers, tookShare, takeChecks, safeChecks, loseChecks, fixChecks, rollChecks, allRolled}
+use Rattle.theory_protocol.specs.Calls.{recoveryLine, cardRows, someFrameAbove, hasFrame, allLost, isSafe, isLost, lostNumbers, tookShare, takeChecks, storeChecks, endChecks, safeChecks, loseChecks, fixChecks, rollChecks, allRolled}
 use Rattle.theory_protocol.specs.Journal.{Journal, Fixing, fixing, noteLose, greatestLine, noteRestartOf}
-use Rattle.theory_protocol.specs.Run.{Call, plain, openCall, voteCall, takeCall, withdrawCall, storeCall, trimCall, safeCall, loseCall, fixCall, rollCall, sheetCall, restartCall, planOf, afterCall, Calls, Run, start, next, journal, lastKept}
-use Rattle.theory_protocol.specs.Demands.{H, decisions, GreatestChoice, FixRight, RollRight, RestartRight, TakeRight, SafeRight, CallRight, RestartsTo, CabinetRight, Throughout, Demands}
+use Rattle.theory_protocol.specs.Run.{Call, plain, openCall, voteCall, takeCall, withdrawCall, storeCall, beginCall, endCall, trimCall, safeCall, loseCall, fixCall, rollCall, sheetCall, restartCall, planOf, afterCall, Calls, Run, start, next, journal, lastKept}
+use Rattle.theory_protocol.specs.Demands.{H, decisions, GreatestChoice, FixRight, RollRight, RestartRight, TakeRight, SafeRight, BeginRight, EndRight, CallRight, RestartsTo, CabinetRight, Throughout, Demands}
 use Rattle.theory_protocol.proofs.Taking.{put-same, reached-next}
 use Rattle.theory_protocol.proofs.Intact.{lineAt, line-same}
 use Rattle.theory_protocol.proofs.Places.{Stood}
@@ -45,6 +45,7 @@ use Rattle.theory_protocol.proofs.Lists.{restart-reply, run-invariant, 
 use Rattle.theory_protocol.proofs.Running.{Carded}
 use Rattle.theory_protocol.proofs.Restart.{Recalled, Recallable, recallable, line-again, Remade, CodecLaw}
 use Rattle.theory_protocol.proofs.Kept.{stored-last}
+use Rattle.theory_protocol.proofs.Begun.{writes-right}
 
 -- what an accepted plan answers
 pub answered : (P : Answer → Plan → Type 0) (cs : List Check) (a : Answer) (es : List Edit) → (Passed cs → P a (record { reply = accepted a; edits = es }))
@@ -230,7 +231,7 @@ module _ (L : Limits) (n : CardSet) (m : Model) (j : Journal) (v : Invariant L n
   after-runs = lose-up-keeps L m j r (m .present) is-up
 
   after-loss : Invariant L n (allLost L m) (noteLose j)
-  after-loss = record { present-is = v .present-is; absent-start = v .absent-start; state = inl after-runs }
+  after-loss = record { present-is = v .present-is; absent-start = v .absent-start; state = inl after-runs; writes = λ c l here ne. let w : _ = v .writes c l here ne in (refl, w .1, w .2) }
 
   b : About L m (j .start) (decisions j) (r .took) (r .at) (H j)
   b = r .about (H j) (λ i h. refl)
@@ -302,6 +303,17 @@ call-right C L n carded law {cs} {m} r (plain (takeCall k c)) a e =
     v = run-invariant carded law r
 call-right C L n carded law r (plain (withdrawCall k)) a e = tt
 call-right C L n carded law r (plain (storeCall c s)) a e = tt
+call-right C L n carded law {cs} {m} r (plain (beginCall c s)) a e =
+    answered (λ (b : Answer) (q : Plan). BeginRight c s m (afterPlan L q m)) (storeChecks L m c s) _ _ (λ ps. record { runs = put-same (m .writing) c (suc s); numbers = refl }) a e
+call-right C L n carded law {cs} {m} r (plain (endCall c x)) a e =
+    answered (λ (b : Answer) (q : Plan). EndRight c x m (afterPlan L q m)) (endChecks L m c x) _ _
+    (λ ps. record {
+      stored = put-same (m .numbers .stored) c x;
+      held = put-same (m .numbers .held) c (max (m .numbers .held c) x);
+      base = refl;
+      reached = refl;
+      over = put-same (m .writing) c 0;
+    }) a e
 call-right C L n carded law r (plain trimCall) a e = tt
 call-right C L n carded law {cs} {m} r (plain (safeCall k)) a e =
     answered (λ (b : Answer) (q : Plan). SafeRight L (journal L n cs) k b) (safeChecks L m k) _ _
@@ -352,6 +364,7 @@ cabinet-right C L n carded law {cs} {m} r =
       never-28 = invariant-valid L n m (journal L n cs) v;
       vectors = vectors-right L n m (journal L n cs) v;
       stored-kept = stored-last carded law r;
+      writes = writes-right carded law r;
       sheet-kept = λ c lw h. law .last-stored m c (base-stored L n m (journal L n cs) v c lw) ∙ stored-last carded law r c lw h;
       sheets-give-line = λ line marked e. ⊎-elim
           (λ (q : Running L m (journal L n cs)). let z : _≡_ {A = ℕ} 0 1 = cc (e, q .not-fixed) in absurd (omega arith))

@@ -19,7 +19,7 @@ use Rattle.theory_protocol.specs.Model.{Limits, OpenChange, Model, stray
 use Rattle.theory_protocol.specs.Edit.{Edit}
 use Rattle.theory_protocol.specs.Plan.{Answer, Reply, accepted, refused, Check, _⇒_, Plan, checked, Passed, Due, afterPlan}
 use Rattle.theory_protocol.specs.Calls.{bars, barred, lowestBarred, openChecks}
-use Rattle.theory_protocol.specs.Run.{Plain, Call, plain, openCall, voteCall, takeCall, withdrawCall, storeCall, trimCall, safeCall, loseCall, fixCall, rollCall, sheetCall, restartCall, plainChecks, plainPlan, checksOf, planOf, afterCall, afterRestart}
+use Rattle.theory_protocol.specs.Run.{Plain, Call, plain, openCall, voteCall, takeCall, withdrawCall, storeCall, beginCall, endCall, trimCall, safeCall, loseCall, fixCall, rollCall, sheetCall, restartCall, plainChecks, plainPlan, checksOf, planOf, afterCall, afterRestart}
 use Rattle.theory_protocol.specs.Demands.{Demand1, NamedRight, NamesLowest}
 use Rattle.theory_protocol.proofs.Steps.{checked-case, touched-there}
 
@@ -49,6 +49,8 @@ by-plain L m (voteCall k c agrees) = (_, _, refl)
 by-plain L m (takeCall k c) = (_, _, refl)
 by-plain L m (withdrawCall k) = (_, _, refl)
 by-plain L m (storeCall c s) = (_, _, refl)
+by-plain L m (beginCall c s) = (_, _, refl)
+by-plain L m (endCall c x) = (_, _, refl)
 by-plain L m trimCall = (_, _, refl)
 by-plain L m (safeCall k) = (_, _, refl)
 by-plain L m (rollCall c) = (_, _, refl)

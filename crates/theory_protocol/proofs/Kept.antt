@@ -14,9 +14,9 @@ use Rattle.theory_protocol.specs.Codec.{Codec, sheetChecks, restartCheck
 use Rattle.theory_protocol.specs.Model.{Limits, Phase, up, down, rolling, isDown, isRolling, Model, within, withCard}
 use Rattle.theory_protocol.specs.Edit.{put, Edit}
 use Rattle.theory_protocol.specs.Plan.{Answer, accepted, Check, Plan, checked}
-use Rattle.theory_protocol.specs.Calls.{openChecks, voteChecks, takeChecks, withdrawChecks, storeChecks, trimChecks, safeChecks, loseChecks, fixChecks, rollChecks}
+use Rattle.theory_protocol.specs.Calls.{openChecks, voteChecks, takeChecks, withdrawChecks, storeChecks, endChecks, trimChecks, safeChecks, loseChecks, fixChecks, rollChecks}
 use Rattle.theory_protocol.specs.Journal.{Journal, Noted, struck, asked, noteVoteOn, Fixing, unfixed, fixing, noteVote, noteRollOf, noteRestartOf}
-use Rattle.theory_protocol.specs.Run.{Call, plain, openCall, voteCall, takeCall, withdrawCall, storeCall, trimCall, safeCall, loseCall, fixCall, rollCall, sheetCall, restartCall, planOf, Calls, Run, start, next, note, journal, lineNoted, keptAfter, keptBy, lastKept}
+use Rattle.theory_protocol.specs.Run.{Call, plain, openCall, voteCall, takeCall, withdrawCall, storeCall, beginCall, endCall, trimCall, safeCall, loseCall, fixCall, rollCall, sheetCall, restartCall, planOf, Calls, Run, start, next, note, journal, lineNoted, keptAfter, keptBy, lastKept}
 use Rattle.theory_protocol.proofs.Taking.{put-same, put-other}
 use Rattle.theory_protocol.proofs.Running.{Running}
 use Rattle.theory_protocol.proofs.Steps.{checked-case, not-not}
@@ -105,6 +105,10 @@ module _ (C : Codec) (L : Limits) (n : CardSet) (m : Model) (j : Journal) (v : I
   kept-step (plain (withdrawCall k)) c lw h = quiet (plain (withdrawCall k)) (withdrawChecks L m k) _ _ (λ c. refl) (λ c. refl) c lw h
   kept-step (plain (storeCall d s)) c lw h =
       checked-case (λ (p : Plan). keptBy j (plain (storeCall d s)) (p .reply) x c ≡ journalKept (note L n j (plain (storeCall d s)) (p .reply)) c) (storeChecks L m d s) _ _ (λ r. same c lw h)
+      (λ ps. store-kept d s (ps .1 .1 .0) c lw h)
+  kept-step (plain (beginCall d s)) c lw h = quiet (plain (beginCall d s)) (storeChecks L m d s) _ _ (λ c. refl) (λ c. refl) c lw h
+  kept-step (plain (endCall d s)) c lw h =
+      checked-case (λ (p : Plan). keptBy j (plain (endCall d s)) (p .reply) x c ≡ journalKept (note L n j (plain (endCall d s)) (p .reply)) c) (endChecks L m d s) _ _ (λ r. same c lw h)
       (λ ps. store-kept d s (ps .1 .1 .0) c lw h)
   kept-step (plain trimCall) c lw h = quiet (plain trimCall) (trimChecks L m) _ _ (λ c. refl) (λ c. refl) c lw h
   kept-step (plain (safeCall k)) c lw h = quiet (plain (safeCall k)) (safeChecks L m k) _ _ (λ c. refl) (λ c. refl) c lw h

@@ -6,6 +6,7 @@ pub mod Openings
 pub mod Votes
 pub mod Takes
 pub mod Stores
+pub mod Writes
 pub mod Validity
 pub mod Rolling
 pub mod Lost
@@ -17,6 +18,8 @@ pub mod Claims
 pub mod Listed
 pub mod Lists
 pub mod Kept
+pub mod Begun
+pub mod Unseen
 pub mod Answers
 pub mod Room
 pub mod Agreement

@@ -25,16 +25,16 @@ use Rattle.theory_protocol.specs.Model.{Limits, Phase, up, down, rolling
 use Rattle.theory_protocol.specs.Valid.{valid}
 use Rattle.theory_protocol.specs.Edit.{Edit}
 use Rattle.theory_protocol.specs.Plan.{Answer, done, accepted, replyOf, Check, Plan, checked, afterPlan}
-use Rattle.theory_protocol.specs.Calls.{cardRows, openChecks, voteChecks, takeChecks, withdrawChecks, storeChecks, trimChecks, safeChecks, loseChecks, fixChecks, rollChecks}
+use Rattle.theory_protocol.specs.Calls.{cardRows, openChecks, voteChecks, takeChecks, withdrawChecks, storeChecks, endChecks, trimChecks, safeChecks, loseChecks, fixChecks, rollChecks}
 use Rattle.theory_protocol.specs.Journal.{Journal, Fixing, unfixed, fixing, noteOpen, noteVote, noteStruck, noteStore, noteLose, noteFix, noteRoll}
-use Rattle.theory_protocol.specs.Run.{Call, plain, openCall, voteCall, takeCall, withdrawCall, storeCall, trimCall, safeCall, loseCall, fixCall, rollCall, sheetCall, restartCall, planOf, afterCall, afterRestart, Calls, Run, start, next, note, journal}
+use Rattle.theory_protocol.specs.Run.{Call, plain, openCall, voteCall, takeCall, withdrawCall, storeCall, beginCall, endCall, trimCall, safeCall, loseCall, fixCall, rollCall, sheetCall, restartCall, planOf, afterCall, afterRestart, Calls, Run, start, next, note, journal}
 use Rattle.theory_protocol.specs.Demands.{VectorsRight}
 use Rattle.theory_protocol.proofs.Restart.{recallable, restart-again, Remade, CodecLaw}
 use Rattle.theory_protocol.proofs.Taking.{Framed, ByTakenWriters}
 use Rattle.theory_protocol.proofs.Running.{About, Carded, Running}
 use Rattle.theory_protocol.proofs.Rolling.{AboutLine}
 use Rattle.theory_protocol.proofs.Steps.{checked-case, noted}
-use Rattle.theory_protocol.proofs.Invariant.{RollingBack, Invariant, invariant-valid, fresh-invariant, next-open, next-vote, next-withdraw, next-take, next-store, next-trim, next-safe, next-lose, next-fix, next-roll}
+use Rattle.theory_protocol.proofs.Invariant.{RollingBack, Invariant, invariant-valid, fresh-invariant, next-open, next-vote, next-withdraw, next-take, next-store, next-begin, next-end, next-trim, next-safe, next-lose, next-fix, next-roll}
 
 -- the journal notes what the call's lemma says
 same-note : (L : Limits) (n : CardSet) (j j' : Journal) (call : Call) (cs : List Check) (a : Answer) (es : List Edit) → note L n j call (accepted a) ≡ j'
@@ -70,6 +70,8 @@ step C L n law m j v (plain (voteCall k c agrees)) = subst (Invariant L n _) (sa
 step C L n law m j v (plain (takeCall k c)) = subst (Invariant L n _) (same-note L n j j (plain (takeCall k c)) (takeChecks L m k c) _ _ refl) (next-take L n m j v k c)
 step C L n law m j v (plain (withdrawCall k)) = subst (Invariant L n _) (same-note L n j (noteStruck j k) (plain (withdrawCall k)) (withdrawChecks L m k) _ _ refl) (next-withdraw L n m j v k)
 step C L n law m j v (plain (storeCall c s)) = subst (Invariant L n _) (same-note L n j (noteStore j c s) (plain (storeCall c s)) (storeChecks L m c s) _ _ refl) (next-store L n m j v c s)
+step C L n law m j v (plain (beginCall c s)) = subst (Invariant L n _) (same-note L n j j (plain (beginCall c s)) (storeChecks L m c s) _ _ refl) (next-begin L n m j v c s)
+step C L n law m j v (plain (endCall c x)) = subst (Invariant L n _) (same-note L n j (noteStore j c x) (plain (endCall c x)) (endChecks L m c x) _ _ refl) (next-end L n m j v c x)
 step C L n law m j v (plain trimCall) = subst (Invariant L n _) (same-note L n j j (plain trimCall) (trimChecks L m) _ _ refl) (next-trim L n m j v)
 step C L n law m j v (plain (safeCall k)) = subst (Invariant L n _) (same-note L n j j (plain (safeCall k)) (safeChecks L m k) _ _ refl) (next-safe L n m j v k)
 step C L n law m j v (loseCall cards) = subst (Invariant L n _) (same-note L n j (noteLose j) (loseCall cards) (loseChecks L m cards) _ _ refl) (next-lose L n m j v cards)

@@ -10,7 +10,8 @@ use Rattle.base_laws.proofs.Logic.{clash, and-left, and-right, not-true}
 use Rattle.base_laws.proofs.Below.{all-at}
 use Rattle.theory_history.specs.Vector.{Vector}
 use Rattle.theory_protocol.specs.Model.{Limits, Model}
-use Rattle.theory_protocol.specs.Valid.{sessionValid, cardsValid, numbersValid, entriesValid, frameValid, risesValid, framesValid, lineValid, cardValid, slotValid, valid}
+use Rattle.theory_protocol.specs.Valid.{sessionValid, cardsValid, numbersValid, entriesValid, frameValid, risesValid, framesValid, lineValid, cardValid, slotValid, writeValid, valid}
+use Rattle.theory_protocol.proofs.Writes.{Writes, valid-writes}
 
 -- one of two tests passes, and it is not the first
 either : (a b : Bool) → a || b ≡ true → a ≡ false → b ≡ true
@@ -114,8 +115,14 @@ pub record CardPassed (L : Limits) (m : Model) (c : ℕ) : Type 0 where
   pub rises : (x : ℕ) → m .numbers .base c < x → x < m .numbers .reached c → RisesPassed L m c x
 
 module _ (L : Limits) (m : Model) (s : valid L m ≡ true) where
-  cards-pass : sessionValid L m && cardsValid L m && allBelow (L .width) (cardValid L m) ≡ true
-  cards-pass = and-left (sessionValid L m && cardsValid L m && allBelow (L .width) (cardValid L m)) (allBelow (L .slots) (λ p. slotValid L m (m .slot p))) s
+  pub others-pass : sessionValid L m && cardsValid L m && allBelow (L .width) (cardValid L m) && allBelow (L .slots) (λ p. slotValid L m (m .slot p)) ≡ true
+  others-pass = and-left (sessionValid L m && cardsValid L m && allBelow (L .width) (cardValid L m) && allBelow (L .slots) (λ p. slotValid L m (m .slot p))) (allBelow (L .width) (writeValid m)) s
+
+  pub cards-pass : sessionValid L m && cardsValid L m && allBelow (L .width) (cardValid L m) ≡ true
+  cards-pass = and-left (sessionValid L m && cardsValid L m && allBelow (L .width) (cardValid L m)) (allBelow (L .slots) (λ p. slotValid L m (m .slot p))) others-pass
+
+  pub writes-pass : Writes L m
+  writes-pass = valid-writes L m (and-right (sessionValid L m && cardsValid L m && allBelow (L .width) (cardValid L m) && allBelow (L .slots) (λ p. slotValid L m (m .slot p))) (allBelow (L .width) (writeValid m)) s)
 
   pub session-not-0 : ¬ (m .session ≡ 0)
   session-not-0 z =

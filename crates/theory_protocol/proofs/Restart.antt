@@ -28,6 +28,7 @@ use Rattle.theory_protocol.specs.Journal.{Journal, Noted, struck, Fixing
 use Rattle.theory_protocol.proofs.Intact.{Intact, lineAt, bridge, line-same, intact-same, intact-lower}
 use Rattle.theory_protocol.proofs.Running.{About, Carded, Running}
 use Rattle.theory_protocol.proofs.Stores.{intact, lines-right, absent-still}
+use Rattle.theory_protocol.proofs.Writes.{Writes, none-writes}
 use Rattle.theory_protocol.proofs.Validity.{running-valid, entry-valid, greatest-valid}
 use Rattle.theory_protocol.proofs.Passed.{session-not-0}
 use Rattle.theory_protocol.proofs.Rolling.{AboutLine, Rolling, LineNoted, rolling-valid}
@@ -55,6 +56,8 @@ pub record Recalled (L : Limits) (m m' : Model) : Type 0 where
   pub pending : m' .memory .pending ≡ m' .memory .last
   -- "no change is open"
   pub none-open : (p : ℕ) → p < L .slots → isOpen (m' .slot p) ≡ false
+  -- and no write is running
+  pub none-writing : (c : ℕ) → m' .writing c ≡ 0
   -- "cards one session ahead latest as rolled"
   pub rolled : (c : ℕ) → c < L .width → m .present c ≡ true → m' .rolled c ≡ hasRolled m c
   pub none-rolled : (c : ℕ) → c < L .width → m .present c ≡ false → m' .rolled c ≡ false
@@ -75,10 +78,10 @@ pub record Recallable (L : Limits) (m : Model) (j : Journal) : Type 0 where
   pub about : (H : History) → Agree (historyOf (j .history)) H (length (j .history)) → AboutLine L m (j .start) (length (j .history)) (j .stored) (greatestLine L j) H
 
 -- a cabinet that rolls back
-pub rolling-recallable : (L : Limits) (m : Model) (j : Journal) → Rolling L m j → Recallable L m j
-rolling-recallable L m j r =
+pub rolling-recallable : (L : Limits) (m : Model) (j : Journal) → Writes L m → Rolling L m j → Recallable L m j
+rolling-recallable L m j w r =
     record {
-      passes = rolling-valid L m j r;
+      passes = rolling-valid L m j r w;
       session-fits = omega (arith, r .session-left);
       session-left = λ e. r .session-left;
       carded = r .carded;
@@ -107,11 +110,11 @@ rolling-recallable L m j r =
     same c = ap (λ (b : Bool). b && m .rolled c) (r .is-rolling)
 
 -- a cabinet that runs, whatever the journal notes of its undecided changes and its line
-pub running-recallable : (L : Limits) (m : Model) (j : Journal) (u : ℕ → Noted) (f : Fixing) → Running L m j
+pub running-recallable : (L : Limits) (m : Model) (j : Journal) (u : ℕ → Noted) (f : Fixing) → Writes L m → Running L m j
     → Recallable L m (record { start = j .start; stored = j .stored; undecided = u; history = j .history; fix = f })
-running-recallable L m j u f r =
+running-recallable L m j u f w r =
     record {
-      passes = running-valid L m j r;
+      passes = running-valid L m j r w;
       session-fits = r .session-fits;
       session-left = λ e. clash e (r .not-rolling);
       carded = r .carded;
@@ -330,13 +333,14 @@ restart-again L n m m' j v left k = ⊎-elim ran rolled (v .state)
                 rolls = restart-rolls L n m m' fresh (v .present-is) (v .absent-start) q k left;
                 notes = restart-notes L n m m' fresh (v .present-is) (v .absent-start) q k (greatestLine L j) noCards refl (λ c l. refl) (λ c l here. sym (ap (λ (b : Bool). b && m .rolled c) (r .not-rolling)));
               });
+          writes = none-writes L m' (λ c l here. k .none-writing c);
         })
       where
         fresh : Journal
         fresh = record { start = j .start; stored = j .stored; undecided = λ i. struck; history = j .history; fix = fixing (greatestLine L j) noCards }
 
         q : Recallable L m (record { start = j .start; stored = j .stored; undecided = λ i. struck; history = j .history; fix = fixing (greatestLine L j) noCards })
-        q = running-recallable L m j (λ i. struck) (fixing (greatestLine L j) noCards) r
+        q = running-recallable L m j (λ i. struck) (fixing (greatestLine L j) noCards) (v .writes) r
 
     rolled : RollingBack L m j → Invariant L n m' (noteRestart L j)
     rolled r =
@@ -352,14 +356,15 @@ restart-again L n m m' j v left k = ⊎-elim ran rolled (v .state)
                     (λ c l. r .notes .line-is c l ∙ r .rolls .about (historyOf (j .history)) (λ i h. refl) .line-right c l)
                     (λ c l here. r .notes .marked-is c l here ∙ sym (ap (λ (b : Bool). b && m .rolled c) (r .rolls .is-rolling)));
               });
+          writes = none-writes L m' (λ c l here. k .none-writing c);
         })
       where
         q : Recallable L m j
-        q = rolling-recallable L m j (r .rolls)
+        q = rolling-recallable L m j (v .writes) (r .rolls)
 
 -- a cabinet of a list
 pub recallable : (L : Limits) (n : CardSet) (m : Model) (j : Journal) → Invariant L n m j → Recallable L m j
-recallable L n m j v = ⊎-elim (λ (r : Running L m j). running-recallable L m j (j .undecided) (j .fix) r) (λ (r : RollingBack L m j). rolling-recallable L m j (r .rolls)) (v .state)
+recallable L n m j v = ⊎-elim (λ (r : Running L m j). running-recallable L m j (j .undecided) (j .fix) (v .writes) r) (λ (r : RollingBack L m j). rolling-recallable L m j (v .writes) (r .rolls)) (v .state)
 
 -- ---- what a list of calls asks of sheets
 -- a cabinet's sheets, joined, are accepted, and what restarts from them has of it what it must

@@ -28,6 +28,7 @@ use Rattle.theory_protocol.proofs.Taking.{Framed, put-same, put-other, 
 use Rattle.theory_protocol.proofs.Intact.{Intact, lineAt, line-same, intact-same, intact-lower}
 use Rattle.theory_protocol.proofs.Running.{Numbered, About, Carded, Running}
 use Rattle.theory_protocol.proofs.Stores.{intact, line-right, lines-right, absent-still}
+use Rattle.theory_protocol.proofs.Writes.{Writes, writes-valid}
 use Rattle.theory_protocol.proofs.Validity.{tracks-valid, frames-valid}
 
 -- what holds of a history that has the journal's changes
@@ -83,15 +84,17 @@ module _ (L : Limits) (m : Model) (j : Journal) (r : Rolling L m j) where
   line-bounded c l = le-trans (line-stored c l) (le-trans (about₀ .intact .stored-reached c l) (le-trans (about₀ .intact .reached-top c l) (about₀ .bounded c l)))
 
   -- a cabinet that rolls is never refused with 28
-  pub rolling-valid : valid L m ≡ true
-  rolling-valid =
+  pub rolling-valid : Writes L m → valid L m ≡ true
+  rolling-valid w =
       and-intro
+      (and-intro
       (and-intro
       (and-intro (and-intro (not-intro (ne-eqb (m .session) 0 (λ (z : m .session ≡ 0). absurd (omega (arith, r .session-given, z)))))
       (not-intro (ap₂ (λ (a b : Bool). a && b) (r .is-rolling) (ne-eqb (m .session) (L .greatestNumber) (λ (z : m .session ≡ L .greatestNumber). absurd (omega (arith, r .session-left, z)))))))
       (and-intro (any-intro (L .width) (m .present) (r .carded .one) (r .carded .is-card) (r .carded .is-there)) (not-intro (r .carded .none-beyond))))
       (all-intro (L .width) (cardValid L m) card))
-      (all-intro (L .slots) (λ p. slotValid L m (m .slot p)) (λ p l. or-left _ (not-intro (r .none-open p l))))
+      (all-intro (L .slots) (λ p. slotValid L m (m .slot p)) (λ p l. or-left _ (not-intro (r .none-open p l)))))
+      (writes-valid L m w)
     where
       card : (c : ℕ) → c < L .width → cardValid L m c ≡ true
       card c l =

@@ -15,12 +15,12 @@ use Rattle.base_laws.proofs.Below.{Found, any-elim, below-suc, occurs-append}
 use Rattle.base_laws.proofs.Fill.{length-tabulate}
 use Rattle.theory_history.proofs.Climb.{line-climbed}
 use Rattle.base_refusal.specs.declared.Refusal.{Refusal}
-use Rattle.base_refusal.specs.declared.Refusal.the-variants.{TooShort, WrongPhase, LimitReached, BadCabinet}
+use Rattle.base_refusal.specs.declared.Refusal.the-variants.{TooShort, WrongPhase, LimitReached, BadCabinet, WriteUnreported}
 use Rattle.base_refusal.specs.Number.{numberOf}
 use Rattle.theory_protocol.specs.Model.{Limits, Model, isDown}
 use Rattle.theory_protocol.specs.Valid.{valid}
 use Rattle.theory_protocol.specs.Plan.{CardRow, Reply, accepted, refused, Plan}
-use Rattle.theory_protocol.specs.Calls.{frameAbove, someFrameAbove, recoveryLine, isLost, lostNumbers, cardRows}
+use Rattle.theory_protocol.specs.Calls.{frameAbove, someFrameAbove, recoveryLine, isLost, lostNumbers, someWriting, cardRows}
 use Rattle.theory_protocol.specs.Room.{mostLost, FewLost, NeverShort}
 use Rattle.theory_protocol.proofs.Steps.{not-not}
 use Rattle.theory_protocol.proofs.Claims.{not-both}
@@ -154,7 +154,8 @@ never-short L m cp lp a b =
     cond-case NotShort (not (valid L m)) (λ u. other BadCabinet (λ z. absurd (omega arith)))
     (λ u. cond-case NotShort (not (isDown (m .phase))) (λ v. other WrongPhase (λ z. absurd (omega arith)))
     (λ v. cond-case NotShort (leb (L .greatestNumber) (m .session)) (λ w. other LimitReached (λ z. absurd (omega arith)))
-    (λ w. cond-case NotShort (ltb cp (length (cardRows L m)) || ltb lp (length (lostNumbers L m))) (λ x. absurd (fits (not-not (valid L m) u) x)) (λ x. not-both _ TooShort))))
+    (λ w. cond-case NotShort (someWriting L m) (λ y. other WriteUnreported (λ z. absurd (omega arith)))
+    (λ y. cond-case NotShort (ltb cp (length (cardRows L m)) || ltb lp (length (lostNumbers L m))) (λ x. absurd (fits (not-not (valid L m) u) x)) (λ x. not-both _ TooShort)))))
   where
     fits : valid L m ≡ true → ltb cp (length (cardRows L m)) || ltb lp (length (lostNumbers L m)) ≡ true → ⊥
     fits s x =

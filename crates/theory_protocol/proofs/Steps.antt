@@ -1,9 +1,10 @@
 -- Each call's plan keeps the invariant: refused, it changes nothing; accepted, by what its checks let pass. Assumes nothing.
-use Prim.Native.Nat.{ℕ, suc, _+_, _<_}
+use Prim.Native.Nat.{ℕ, suc, _+_, _-_, _<_}
 use mathlib.Core.Path.{_≡_, refl, sym, _∙_, ap, subst}
 use mathlib.Core.Bool.{Bool, true, false, not, _&&_, _||_}
 use mathlib.Core.Logic.{_⊎_, inl, inr, ⊎-elim}
 use mathlib.Core.List.{List, [], _∷_, _++_}
+use native.Mathlib.Omega.{arith}
 use lib.Dec.{eqb, leb, ltb}
 use borrow.Author.Tests.{leb-true, leb-false, ltb-true, eqb-true}
 use Rattle.base_refusal.specs.declared.Refusal.{Refusal}
@@ -15,14 +16,15 @@ use Rattle.theory_history.specs.Vector.{vectorOf}
 use Rattle.theory_protocol.specs.Model.{Limits, Phase, up, down, rolling, isUp, isDown, isRolling, OpenChange, Model, freeSlot, isCard, strays, isEmpty, withCard, isOpen, decided, slotOf, freeAt, isKnown, tracked, withYes, withVector}
 use Rattle.theory_protocol.specs.Edit.{put, Edit, place, editedAll}
 use Rattle.theory_protocol.specs.Plan.{Answer, Reply, accepted, refused, Check, _⇒_, Plan, checked, Passed, afterPlan}
-use Rattle.theory_protocol.specs.Calls.{bars, barred, someWritten, openChecks, openPlan, votedYes, voted, voteChecks, votePlan, shareEdit, tookShare, takeChecks, takePlan, withdrawChecks, withdrawPlan, storeChecks, storePlan, trimChecks, trimPlan, loseChecks, losePlan}
+use Rattle.theory_protocol.specs.Calls.{bars, barred, someWritten, openChecks, openPlan, votedYes, voted, voteChecks, votePlan, shareEdit, tookShare, takeChecks, takePlan, withdrawChecks, withdrawPlan, storeChecks, storePlan, beginPlan, endChecks, endPlan, trimChecks, trimPlan, loseChecks, losePlan}
 use Rattle.theory_protocol.specs.Journal.{Journal, struck, asked, noteOpen, noteVote, noteVoteOn, noteStruck, noteStore, noteLose}
 use Rattle.theory_protocol.proofs.Taking.{put-same, put-other}
 use Rattle.theory_protocol.proofs.Running.{Running}
 use Rattle.theory_protocol.proofs.Openings.{open-keeps}
 use Rattle.theory_protocol.proofs.Votes.{replace-keeps, decide-keeps}
 use Rattle.theory_protocol.proofs.Takes.{write-keeps, read-keeps}
-use Rattle.theory_protocol.proofs.Stores.{not-up, store-keeps, trim-keeps, lose-up-keeps, lose-down-keeps}
+use Rattle.theory_protocol.proofs.Stores.{not-up, store-keeps, begin-keeps, end-keeps, trim-keeps, lose-up-keeps, lose-down-keeps}
+use Rattle.theory_protocol.proofs.Writes.{Runs, Writes, EndsWithin, end-within}
 
 -- ---- plans
 -- a fact of a plan: of each refusal, and of the acceptance where no check fails
@@ -45,7 +47,7 @@ not-not false e = clash refl e
 or-none : (a b : Bool) → a || b ≡ false → (a ≡ false) × (b ≡ false)
 or-none a b e = (fails a (λ z. clash (or-left b z) e), fails b (λ z. clash (or-right a z) e))
 
-none-at : (n : ℕ) (p : ℕ → Bool) → anyBelow n p ≡ false → (k : ℕ) → k < n → p k ≡ false
+pub none-at : (n : ℕ) (p : ℕ → Bool) → anyBelow n p ≡ false → (k : ℕ) → k < n → p k ≡ false
 none-at n p e k l = fails (p k) (λ z. clash (any-intro n p k l z) e)
 
 in-cabinet : (L : Limits) (m : Model) (s : CardSet) → strays L m s ≡ false → (c : ℕ) → c < L .width → s c ≡ true → m .present c ≡ true
@@ -190,6 +192,17 @@ module _ (L : Limits) (m : Model) (j : Journal) (r : Running L m j) where
       let q : leb (m .numbers .stored c) s && leb s (m .numbers .held c) ≡ true = not-not (leb (m .numbers .stored c) s && leb s (m .numbers .held c)) (ps .1 .1 .1 .0) in
       store-keeps L m j r c s (card-below L m c (not-not (isCard L m c) (ps .1 .0)))
       (leb-true (m .numbers .stored c) s (and-left (leb (m .numbers .stored c) s) (leb s (m .numbers .held c)) q)) (leb-true s (m .numbers .held c) (and-right (leb (m .numbers .stored c) s) (leb s (m .numbers .held c)) q)))
+
+  pub begin-step : (c s : ℕ) → Keeps j (beginPlan L m c s)
+  begin-step c s = checked-case (Keeps j) (storeChecks L m c s) _ _ (λ x. r) (λ ps. begin-keeps L m j r c s)
+
+  pub end-step : Writes L m → (c x : ℕ) → Keeps (noteStore j c x) (endPlan L m c x)
+  end-step w c x =
+      checked-case (Keeps (noteStore j c x)) (endChecks L m c x) _ _ (λ z. r)
+      (λ ps. let e : EndsWithin m c x = end-within m c x (ps .1 .1 .1 .0) in
+      let here : isCard L m c ≡ true = not-not (isCard L m c) (ps .1 .0) in
+      let runs : Runs m c = w c (card-below L m c here) (and-right (ltb c (L .width)) (m .present c) here) (e .0) in
+      end-keeps L m j r c x (card-below L m c here) (e .1) (omega (arith, e .2, runs .2)))
 
   pub trim-step : Keeps j (trimPlan L m)
   trim-step = checked-case (Keeps j) (trimChecks L m) _ _ (λ x. r) (λ ps. trim-keeps L m j r)

@@ -1,5 +1,5 @@
--- Store, trim and lose keep the invariant; the line that the cabinet works out is the line of the history. Assumes nothing.
-use Prim.Native.Nat.{ℕ, _+_, _≤_, _<_}
+-- Store with its beginning and its end, trim and lose keep the invariant; the line that the cabinet works out is the line of the history. Assumes nothing.
+use Prim.Native.Nat.{ℕ, suc, max, _+_, _≤_, _<_}
 use mathlib.Core.Path.{_≡_, refl, sym, _∙_, ap}
 use mathlib.Core.Bool.{true, false, not, _&&_, cond}
 use mathlib.Core.Logic.{by-cases}
@@ -7,6 +7,7 @@ use mathlib.Core.List.{[], _∷_}
 use native.Mathlib.Nat.{le-refl, le-trans, le-antisymm}
 use native.Mathlib.Decide.{decLt, ℕ-discrete}
 use native.Mathlib.Omega.{arith}
+use lib.Dec.{eqb}
 use lib.ListN.{length}
 use borrow.Author.Tests.{lt-ltb}
 use Rattle.base_laws.proofs.Logic.{test, clash, and-left, and-right, and-intro, cond-case, not-true, not-intro}
@@ -18,7 +19,7 @@ use Rattle.theory_history.proofs.Precedence.{writes-touches}
 use Rattle.theory_history.proofs.Entries.{state-vector-is}
 use Rattle.theory_history.proofs.Lines.{line-is, line-cut}
 use Rattle.theory_protocol.specs.Model.{Limits, Phase, up, down, rolling, isUp, isDown, Model, isOpen, decided, toWrite, awaitsWrite}
-use Rattle.theory_protocol.specs.Edit.{put, withNumbers, keep, rebase, fall, halt, remembered, editedAll}
+use Rattle.theory_protocol.specs.Edit.{put, withNumbers, withWriting, keep, begin, end, rebase, fall, halt, remembered, editedAll}
 use Rattle.theory_protocol.specs.Calls.{recoveryLine, lines}
 use Rattle.theory_protocol.specs.Journal.{Journal, noteStore, noteLose}
 use Rattle.theory_protocol.proofs.Taking.{Took, put-same, put-other, put-case}
@@ -26,10 +27,10 @@ use Rattle.theory_protocol.proofs.Intact.{Intact, lineAt, bridge, based
 use Rattle.theory_protocol.proofs.Places.{Opened, Stood}
 use Rattle.theory_protocol.proofs.Running.{StandsFor, Remembers, Unfinished, About, Running}
 
--- what the invariant says of the history speaks of neither stored nor held
-about-again : {L : Limits} {m : Model} {start : Numbers} {n : ℕ} {took : Took} {at : ℕ → ℕ} {H : History} (stored held : Numbers) → About L m start n took at H
-    → About L (withNumbers m (record { base = m .numbers .base; stored = stored; held = held; reached = m .numbers .reached }) (m .memory)) start n took at H
-about-again stored held a =
+-- what the invariant says of the history speaks neither of stored nor of held numbers, nor of running writes
+about-again : {L : Limits} {m : Model} {start : Numbers} {n : ℕ} {took : Took} {at : ℕ → ℕ} {H : History} (stored held writing : Numbers) → About L m start n took at H
+    → About L (withWriting (withNumbers m (record { base = m .numbers .base; stored = stored; held = held; reached = m .numbers .reached }) (m .memory)) writing) start n took at H
+about-again stored held writing a =
     record {
       orderly = a .orderly;
       levels = a .levels;
@@ -45,10 +46,14 @@ about-again stored held a =
       ended-real = a .ended-real;
     }
 
--- ---- store
-pub store-keeps : (L : Limits) (m : Model) (j : Journal) → Running L m j → (c s : ℕ) → c < L .width → m .numbers .stored c ≤ s → s ≤ m .numbers .held c
-    → Running L (editedAll L (keep c s ∷ []) m) (noteStore j c s)
-store-keeps L m j r c s l low high =
+-- ---- store, its beginning and its end
+-- other stored and held numbers within base and reached, and other running writes
+numbers-keep : (L : Limits) (m : Model) (j : Journal) → Running L m j → (noted stored held writing : Numbers)
+    → ((c : ℕ) → c < L .width → noted c ≡ stored c) → ((c : ℕ) → c < L .width → m .numbers .base c ≤ stored c) → ((c : ℕ) → c < L .width → stored c ≤ held c)
+    → ((c : ℕ) → c < L .width → held c ≤ m .numbers .reached c) → (isUp (m .phase) ≡ true → (c : ℕ) → c < L .width → held c ≡ m .numbers .reached c)
+    → Running L (withWriting (withNumbers m (record { base = m .numbers .base; stored = stored; held = held; reached = m .numbers .reached }) (m .memory)) writing)
+    (record { start = j .start; stored = noted; undecided = j .undecided; history = j .history; fix = j .fix })
+numbers-keep L m j r noted stored held writing same low middle high all =
     record {
       took = r .took;
       at = r .at;
@@ -57,22 +62,51 @@ store-keeps L m j r c s l low high =
       session-fits = r .session-fits;
       count-given = r .count-given;
       carded = r .carded;
-      ranges =
-          record {
-            from-start = r .ranges .from-start;
-            base-stored = λ d ld. put-case (λ y x. m .numbers .base y ≤ x) (m .numbers .stored) c s d (λ (q : d ≡ c). rw q (le-trans (r .ranges .base-stored c l) low)) (λ q. r .ranges .base-stored d ld);
-            stored-held = λ d ld. put-case (λ y x. x ≤ m .numbers .held y) (m .numbers .stored) c s d (λ (q : d ≡ c). rw q high) (λ q. r .ranges .stored-held d ld);
-            held-reached = r .ranges .held-reached;
-            in-hand = r .ranges .in-hand;
-            all-held = r .ranges .all-held;
-          };
-      stored-is = λ d ld. by-cases (ℕ-discrete d c) (λ (q : d ≡ c). rw (q, put-same (j .stored) c s, put-same (m .numbers .stored) c s))
-          (λ q. put-other (j .stored) c s d q ∙ r .stored-is d ld ∙ sym (put-other (m .numbers .stored) c s d q));
+      ranges = record { from-start = r .ranges .from-start; base-stored = low; stored-held = middle; held-reached = high; in-hand = r .ranges .in-hand; all-held = all };
+      stored-is = same;
       not-fixed = r .not-fixed;
       slots-open = r .slots-open;
       slots-down = r .slots-down;
-      about = λ H agree. about-again (put (m .numbers .stored) c s) (m .numbers .held) (r .about H agree);
+      about = λ H agree. about-again stored held writing (r .about H agree);
     }
+
+-- a number that a card has stored, in the journal and in the cabinet
+stored-alike : (L : Limits) (m : Model) (j : Journal) → Running L m j → (c s d : ℕ) → d < L .width → put (j .stored) c s d ≡ put (m .numbers .stored) c s d
+stored-alike L m j r c s d ld = ap (λ (x : ℕ). cond (eqb d c) s x) (r .stored-is d ld)
+
+-- and it is not below base
+stored-low : (L : Limits) (m : Model) (j : Journal) → Running L m j → (c s : ℕ) → c < L .width → m .numbers .stored c ≤ s → (d : ℕ) → d < L .width → m .numbers .base d ≤ put (m .numbers .stored) c s d
+stored-low L m j r c s l low d ld = put-case (λ y x. m .numbers .base y ≤ x) (m .numbers .stored) c s d (λ (q : d ≡ c). rw q (le-trans (r .ranges .base-stored c l) low)) (λ q. r .ranges .base-stored d ld)
+
+pub store-keeps : (L : Limits) (m : Model) (j : Journal) → Running L m j → (c s : ℕ) → c < L .width → m .numbers .stored c ≤ s → s ≤ m .numbers .held c
+    → Running L (editedAll L (keep c s ∷ []) m) (noteStore j c s)
+store-keeps L m j r c s l low high =
+    numbers-keep L m j r (put (j .stored) c s) (put (m .numbers .stored) c s) (m .numbers .held) (m .writing) (stored-alike L m j r c s) (stored-low L m j r c s l low)
+    (λ d ld. put-case (λ y x. x ≤ m .numbers .held y) (m .numbers .stored) c s d (λ (q : d ≡ c). rw q high) (λ q. r .ranges .stored-held d ld))
+    (r .ranges .held-reached) (r .ranges .all-held)
+
+pub begin-keeps : (L : Limits) (m : Model) (j : Journal) → Running L m j → (c s : ℕ) → Running L (editedAll L (begin c s ∷ []) m) j
+begin-keeps L m j r c s =
+    numbers-keep L m j r (j .stored) (m .numbers .stored) (m .numbers .held) (put (m .writing) c (suc s)) (r .stored-is) (r .ranges .base-stored) (r .ranges .stored-held) (r .ranges .held-reached) (r .ranges .all-held)
+
+-- the number reported is stored, and held at least
+pub end-keeps : (L : Limits) (m : Model) (j : Journal) → Running L m j → (c x : ℕ) → c < L .width → m .numbers .stored c ≤ x → x ≤ m .numbers .reached c
+    → Running L (editedAll L (end c x ∷ []) m) (noteStore j c x)
+end-keeps L m j r c x l low high =
+    numbers-keep L m j r (put (j .stored) c x) (put (m .numbers .stored) c x) (put (m .numbers .held) c raised) (put (m .writing) c 0) (stored-alike L m j r c x) (stored-low L m j r c x l low)
+    (λ d ld. by-cases (ℕ-discrete d c) (λ (q : d ≡ c). rw (q, put-same (m .numbers .stored) c x, put-same (m .numbers .held) c raised) (omega arith))
+    (λ q. rw (put-other (m .numbers .stored) c x d q, put-other (m .numbers .held) c raised d q) (r .ranges .stored-held d ld)))
+    (λ d ld. put-case (λ y z. z ≤ m .numbers .reached y) (m .numbers .held) c raised d (λ (q : d ≡ c). rw q (within (r .ranges .held-reached c l))) (λ q. r .ranges .held-reached d ld))
+    (λ u d ld. put-case (λ y z. z ≡ m .numbers .reached y) (m .numbers .held) c raised d (λ (q : d ≡ c). rw q (same (r .ranges .all-held u c l))) (λ q. r .ranges .all-held u d ld))
+  where
+    raised : ℕ
+    raised = max (m .numbers .held c) x
+
+    within : m .numbers .held c ≤ m .numbers .reached c → max (m .numbers .held c) x ≤ m .numbers .reached c
+    within h = omega arith
+
+    same : m .numbers .held c ≡ m .numbers .reached c → max (m .numbers .held c) x ≡ m .numbers .reached c
+    same h = omega arith
 
 -- ---- the line of the cabinet
 module _ (L : Limits) (m : Model) (j : Journal) (r : Running L m j) (H : History) (a : About L m (j .start) (length (j .history)) (r .took) (r .at) H) where
@@ -249,7 +283,7 @@ module _ (L : Limits) (m : Model) (j : Journal) (r : Running L m j) (cards : Car
               strangers = r .slots-open .strangers;
             };
         slots-down = r .slots-down;
-        about = λ H agree. about-again (m .numbers .stored) fallen (r .about H agree);
+        about = λ H agree. about-again (m .numbers .stored) fallen (m .writing) (r .about H agree);
       }
 
   -- from up the open changes end, and the decided ones with a written share untaken are remembered

@@ -26,6 +26,7 @@ use Rattle.theory_protocol.specs.Journal.{Journal}
 use Rattle.theory_protocol.proofs.Taking.{Framed}
 use Rattle.theory_protocol.proofs.Places.{Stood}
 use Rattle.theory_protocol.proofs.Running.{Numbered, About, Running}
+use Rattle.theory_protocol.proofs.Writes.{Writes, writes-valid}
 
 -- an entry within the limits: 0, or of a card that is there and not above the greatest state
 pub entry-valid : (v G : ℕ) (b : Bool) → (0 < v → (b ≡ true) × (v ≤ G)) → leb v (cond b G 0) ≡ true
@@ -162,11 +163,13 @@ module _ (L : Limits) (m : Model) (j : Journal) (r : Running L m j) where
       (or-left (leb (m .numbers .base c) (m .line c) && leb (m .line c) (m .numbers .stored c)) (not-intro (r .not-rolling))))
       (frames-valid L m (j .start) (length (j .history)) H₀ (about₀ .there) (about₀ .bounded) (about₀ .framed) (m .latest) (about₀ .numbered) c l (r .ranges .from-start c l) (about₀ .levels .high c l))))
 
-  pub running-valid : valid L m ≡ true
-  running-valid =
+  pub running-valid : Writes L m → valid L m ≡ true
+  running-valid w =
       and-intro
+      (and-intro
       (and-intro
       (and-intro (and-intro (not-intro (ne-eqb (m .session) 0 (λ (z : m .session ≡ 0). absurd (omega (arith, r .session-given, z))))) (not-intro (ap (λ (b : Bool). b && eqb (m .session) (L .greatestNumber)) (r .not-rolling))))
       (and-intro (any-intro (L .width) (m .present) (r .carded .one) (r .carded .is-card) (r .carded .is-there)) (not-intro (r .carded .none-beyond))))
       (all-intro (L .width) (cardValid L m) card-valid))
-      (all-intro (L .slots) (λ p. slotValid L m (m .slot p)) slot-valid)
+      (all-intro (L .slots) (λ p. slotValid L m (m .slot p)) slot-valid))
+      (writes-valid L m w)

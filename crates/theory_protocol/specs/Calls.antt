@@ -1,17 +1,17 @@
--- Document 01's calls 1 to 10, for every cabinet and all arguments.
+-- Document 01's calls 1 to 10 and those that document 02 adds, for every cabinet and all arguments.
 use Prim.Native.Nat.{ℕ, suc, _+_, _-_, max}
 use mathlib.Core.Bool.{Bool, not, _&&_, _||_, cond}
 use mathlib.Core.List.{List, [], _∷_}
 use lib.Dec.{eqb, leb, ltb}
 use lib.ListN.{length}
 use Rattle.base_laws.specs.Below.{anyBelow, greatest, firstBelow, selected}
-use Rattle.base_refusal.specs.declared.Refusal.the-variants.{NoSuchCard, BothSetsEmpty, TooShort, WrongPhase, Barred, NoSlot, InHandFull, LimitReached, NotAwaited, AlreadyDecided, StoreOutside, BadCabinet, NotDecided, AlreadyRolled}
+use Rattle.base_refusal.specs.declared.Refusal.the-variants.{NoSuchCard, BothSetsEmpty, TooShort, WrongPhase, Barred, NoSlot, InHandFull, LimitReached, NotAwaited, AlreadyDecided, StoreOutside, BadCabinet, NotDecided, AlreadyRolled, WriteRunning, EndOutside, WriteUnreported}
 use Rattle.theory_history.specs.Change.{CardSet, Numbers, touches}
 use Rattle.theory_history.specs.Vector.{noEntries, vectorOf}
 use Rattle.theory_history.specs.Line.{lineFrom}
-use Rattle.theory_protocol.specs.Model.{unvoted, Limits, Phase, up, isUp, isDown, isRolling, OpenChange, Model, noCards, freeSlot, isCard, strays, isEmpty, within, withCard, isOpen, decided, closed, slotOf, freeAt, isKnown, tracked, withYes, withTaken, withVector}
+use Rattle.theory_protocol.specs.Model.{unvoted, Limits, Phase, up, isUp, isDown, isRolling, OpenChange, Model, noCards, freeSlot, isCard, strays, isEmpty, within, withCard, isOpen, decided, closed, slotOf, freeAt, isKnown, tracked, withYes, withTaken, withVector, isWriting, writesTo}
 use Rattle.theory_protocol.specs.Valid.{valid}
-use Rattle.theory_protocol.specs.Edit.{Edit, place, latest, grow, raise, keep, rebase, fall, halt, fix, lower, renew, editedAll}
+use Rattle.theory_protocol.specs.Edit.{Edit, place, latest, grow, raise, keep, begin, end, rebase, fall, halt, fix, lower, renew, editedAll}
 use Rattle.theory_protocol.specs.Plan.{CardRow, done, opened, safe, unsafe, fixed, Check, _⇒_, Plan, checked}
 
 -- ---- a fresh cabinet
@@ -33,6 +33,7 @@ freshModel there =
       ended = λ p. 0;
       line = λ c. 0;
       rolled = noCards;
+      writing = λ c. 0;
     }
 
 -- ---- 1. open
@@ -139,17 +140,34 @@ withdrawChecks L m k =
 abbrev pub withdrawPlan : Limits → Model → ℕ → Plan
 withdrawPlan L m k = checked (withdrawChecks L m k) done (place (slotOf L m k) freeSlot ∷ [])
 
--- ---- 5. store
+-- ---- 5. store, and with document 02's wish 5 its beginning, with the same checks, and its end
 abbrev pub storeChecks : Limits → Model → ℕ → ℕ → List Check
 storeChecks L m c s =
     not (valid L m) ⇒ BadCabinet
     ∷ not (isCard L m c) ⇒ NoSuchCard
     ∷ isRolling (m .phase) ⇒ WrongPhase
     ∷ not (leb (m .numbers .stored c) s && leb s (m .numbers .held c)) ⇒ StoreOutside
+    ∷ isWriting m c ⇒ WriteRunning
     ∷ []
 
 abbrev pub storePlan : Limits → Model → ℕ → ℕ → Plan
 storePlan L m c s = checked (storeChecks L m c s) done (keep c s ∷ [])
+
+-- "a beginning (up to state s)": "stored keeps its old number until the end comes"
+abbrev pub beginPlan : Limits → Model → ℕ → ℕ → Plan
+beginPlan L m c s = checked (storeChecks L m c s) done (begin c s ∷ [])
+
+-- "an end (the number reached, from the old stored number to s)"
+abbrev pub endChecks : Limits → Model → ℕ → ℕ → List Check
+endChecks L m c x =
+    not (valid L m) ⇒ BadCabinet
+    ∷ not (isCard L m c) ⇒ NoSuchCard
+    ∷ isRolling (m .phase) ⇒ WrongPhase
+    ∷ not (isWriting m c && leb (m .numbers .stored c) x && leb x (writesTo m c)) ⇒ EndOutside
+    ∷ []
+
+abbrev pub endPlan : Limits → Model → ℕ → ℕ → Plan
+endPlan L m c x = checked (endChecks L m c x) done (end c x ∷ [])
 
 -- ---- 6. trim
 -- the line of card c that the present stored numbers give, from what is in hand
@@ -231,11 +249,16 @@ greatestLost L m =
 abbrev pub lostNumbers : Limits → Model → List ℕ
 lostNumbers L m = selected (suc (greatestLost L m)) (isLost L m) (λ k. k)
 
+-- "while a write is unreported": a card of the cabinet, lost or not
+abbrev pub someWriting : Limits → Model → Bool
+someWriting L m = anyBelow (L .width) (λ c. m .present c && isWriting m c)
+
 abbrev pub fixChecks : Limits → Model → ℕ → ℕ → List Check
 fixChecks L m cardPlaces lostPlaces =
     not (valid L m) ⇒ BadCabinet
     ∷ not (isDown (m .phase)) ⇒ WrongPhase
     ∷ leb (L .greatestNumber) (m .session) ⇒ LimitReached
+    ∷ someWriting L m ⇒ WriteUnreported
     ∷ (ltb cardPlaces (length (cardRows L m)) || ltb lostPlaces (length (lostNumbers L m))) ⇒ TooShort
     ∷ []
 

@@ -1,5 +1,5 @@
 -- Demands 1 to 3 over whole lists of calls, and what belongs to them, whatever cards there are and however their sheets are written. Statements alone: the proofs are in proofs/Claims.antt (demand 1 and the card that 21 names), proofs/Listed.antt (the list of lost changes) and proofs/Answers.antt.
-use Prim.Native.Nat.{ℕ, _≤_, _<_}
+use Prim.Native.Nat.{ℕ, suc, max, _≤_, _<_}
 use mathlib.Core.Path.{_≡_}
 use mathlib.Core.Bool.{true, false, _||_}
 use mathlib.Core.Logic.{_↔_}
@@ -16,11 +16,11 @@ use Rattle.theory_history.specs.Vector.{entryOf, LastPreceding}
 use Rattle.theory_history.specs.Line.{lost, isLostNumber, lostNumbers}
 use Rattle.theory_protocol.specs.Model.{Limits, isUp, isRolling, Model, isCard}
 use Rattle.theory_protocol.specs.Valid.{valid}
-use Rattle.theory_protocol.specs.Plan.{CardRow, Answer, safe, fixed, accepted, refused, Passed, Due}
-use Rattle.theory_protocol.specs.Calls.{freshModel, barred, openPlan, isLost, fixPlan}
+use Rattle.theory_protocol.specs.Plan.{CardRow, Answer, done, safe, fixed, accepted, refused, Passed, Due}
+use Rattle.theory_protocol.specs.Calls.{freshModel, barred, openPlan, endPlan, isLost, fixPlan}
 use Rattle.theory_protocol.specs.Codec.{Codec}
 use Rattle.theory_protocol.specs.Journal.{Journal, fixing, noteRestart}
-use Rattle.theory_protocol.specs.Run.{Call, plain, voteCall, takeCall, withdrawCall, openCall, storeCall, trimCall, safeCall, loseCall, fixCall, rollCall, sheetCall, restartCall, checksOf, planOf, afterCall, Calls, none, further, Run, start, next, journal, lastKept}
+use Rattle.theory_protocol.specs.Run.{Call, plain, voteCall, takeCall, withdrawCall, openCall, storeCall, beginCall, endCall, trimCall, safeCall, loseCall, fixCall, rollCall, sheetCall, restartCall, checksOf, planOf, afterCall, Calls, none, further, Run, start, next, journal, lastKept, lastBegun}
 
 -- ---- Demand 1, for any cabinet, a forged one too, and any arguments: "gets an answer or a refusal from document 01. A refusal changes neither the cabinet nor any lent list or buffer."
 -- (The lent lists and buffers are in the contracts of the calls.)
@@ -144,6 +144,19 @@ pub record SafeRight (L : Limits) (j : Journal) (k : ℕ) (answer : Answer) : Ty
   pub choice : GreatestChoice L j line
   pub right : (answer ≡ safe) ↔ ((c : ℕ) → c < L .width → H j i .writes c ≡ true → On (H j) (j .start) line i c)
 
+-- Document 02, wish 5. A beginning: a write up to s runs, and no state number moves
+pub record BeginRight (c s : ℕ) (m m' : Model) : Type 0 where
+  pub runs : m' .writing c ≡ suc s
+  pub numbers : m' .numbers ≡ m .numbers
+
+-- An end: stored is the number reported, and "held then rises to that number"
+pub record EndRight (c x : ℕ) (m m' : Model) : Type 0 where
+  pub stored : m' .numbers .stored c ≡ x
+  pub held : m' .numbers .held c ≡ max (m .numbers .held c) x
+  pub base : m' .numbers .base c ≡ m .numbers .base c
+  pub reached : m' .numbers .reached c ≡ m .numbers .reached c
+  pub over : m' .writing c ≡ 0
+
 -- what holds of an accepted call, made at the cabinet m after the calls cs, that leaves the cabinet m'
 abbrev pub CallRight : Limits → (n : CardSet) → Calls → Call → Answer → (m m' : Model) → Type 0
 CallRight L n cs (openCall reads writes) a m m' = Unit {0}
@@ -151,6 +164,8 @@ CallRight L n cs (plain (voteCall k c agrees)) a m m' = Unit {0}
 CallRight L n cs (plain (takeCall k c)) a m m' = TakeRight (journal L n cs) k c m m'
 CallRight L n cs (plain (withdrawCall k)) a m m' = Unit {0}
 CallRight L n cs (plain (storeCall c s)) a m m' = Unit {0}
+CallRight L n cs (plain (beginCall c s)) a m m' = BeginRight c s m m'
+CallRight L n cs (plain (endCall c x)) a m m' = EndRight c x m m'
 CallRight L n cs (plain trimCall) a m m' = Unit {0}
 CallRight L n cs (plain (safeCall k)) a m m' = SafeRight L (journal L n cs) k a
 -- "on a lost card its last accepted store or roll stands .. and nothing above"
@@ -165,6 +180,15 @@ pub record RestartsTo (C : Codec) (L : Limits) (n : CardSet) (m : Model) (line :
   pub accepted-so : C .verdict (C .joined L m) ≡ Done
   pub same-line : (c : ℕ) → c < L .width → n c ≡ true → C .restarted L (C .joined L m) .line c ≡ line c
 
+-- Document 02, wish 5: the writes that run after the calls cs
+pub record WritesRight (L : Limits) (n : CardSet) (cs : Calls) (m : Model) : Type 0 where
+  -- those that were begun and not ended, whatever was opened, voted, taken, trimmed or lost in between
+  pub begun : (c : ℕ) → c < L .width → n c ≡ true → m .writing c ≡ lastBegun cs c
+  -- "A cut between the two thus leaves any state from the old number to s": where a write up to s runs, its end is accepted with every number from the last one stored to s
+  pub any-end : (c s x : ℕ) → c < L .width → n c ≡ true → lastBegun cs c ≡ suc s → lastKept L n cs c ≤ x → x ≤ s → endPlan L m c x .reply ≡ accepted done
+  -- none runs while the cabinet rolls back
+  pub none-rolling : isRolling (m .phase) ≡ true → (c : ℕ) → c < L .width → n c ≡ true → lastBegun cs c ≡ 0
+
 -- what holds of the cabinet m after the calls cs
 pub record CabinetRight (C : Codec) (L : Limits) (n : CardSet) (cs : Calls) (m : Model) : Type 0 where
   -- never refused with 28
@@ -174,6 +198,7 @@ pub record CabinetRight (C : Codec) (L : Limits) (n : CardSet) (cs : Calls) (m :
   -- cuts: the stored number of each card, and the last state of its sheet, is its last accepted store or roll
   pub stored-kept : (c : ℕ) → c < L .width → n c ≡ true → m .numbers .stored c ≡ lastKept L n cs c
   pub sheet-kept : (c : ℕ) → c < L .width → n c ≡ true → C .last L m c ≡ lastKept L n cs c
+  pub writes : WritesRight L n cs m
   -- "After an accepted fix, and after each later call short of the last roll, the sheets of all cards, joined, restart to the line answered": the engine's memory is gone; so after a restart too
   pub sheets-give-line : (line : Numbers) (marked : CardSet) → journal L n cs .fix ≡ fixing line marked → RestartsTo C L n m line
   -- a restart is accepted in every phase while another session can follow, and in the last session it is refused with 24

@@ -1,5 +1,5 @@
 -- What a call changes: each edit says one thing, and `edited` says what it does to the model.
-use Prim.Native.Nat.{ℕ, suc}
+use Prim.Native.Nat.{ℕ, suc, max}
 use mathlib.Core.Bool.{_&&_, cond}
 use mathlib.Core.List.{List, [], _∷_}
 use lib.Dec.{eqb, ltb}
@@ -18,6 +18,10 @@ pub data Edit : Type 0 where
   raise : (c : ℕ) (v : Vector) → Edit
   -- card c has stored state s
   keep : (c s : ℕ) → Edit
+  -- a write of card c up to state s is running
+  begin : (c s : ℕ) → Edit
+  -- the write of card c is over, and it reports state x: stored, and held at least
+  end : (c x : ℕ) → Edit
   -- every base moves
   rebase : (bases : Numbers) → Edit
   -- the held numbers of a set of cards fall to stored
@@ -37,8 +41,8 @@ put f i v k = cond (eqb k i) v (f k)
 
 -- ---- the parts of a cabinet that edits change
 -- a cabinet of the same cards; the one place that writes a changed cabinet out
-abbrev remade : Model → (session : ℕ) → Phase → (latest : ℕ) → StateNumbers → Memory → (ℕ → OpenChange) → (ended : ℕ → ℕ) → (line : Numbers) → (rolled : CardSet) → Model
-remade m session phase k n y slot ended line rolled =
+abbrev remade : Model → (session : ℕ) → Phase → (latest : ℕ) → StateNumbers → Memory → (ℕ → OpenChange) → (ended : ℕ → ℕ) → (line : Numbers) → (rolled : CardSet) → (writing : Numbers) → Model
+remade m session phase k n y slot ended line rolled writing =
     record {
       session = session;
       phase = phase;
@@ -50,22 +54,26 @@ remade m session phase k n y slot ended line rolled =
       ended = ended;
       line = line;
       rolled = rolled;
+      writing = writing;
     }
 
 abbrev pub withNumbers : Model → StateNumbers → Memory → Model
-withNumbers m n y = remade m (m .session) (m .phase) (m .latest) n y (m .slot) (m .ended) (m .line) (m .rolled)
+withNumbers m n y = remade m (m .session) (m .phase) (m .latest) n y (m .slot) (m .ended) (m .line) (m .rolled) (m .writing)
 
 abbrev pub withMemory : Model → Memory → Model
 withMemory m y = withNumbers m (m .numbers) y
 
 abbrev pub withHead : Model → (session : ℕ) → Phase → (latest : ℕ) → Model
-withHead m session phase k = remade m session phase k (m .numbers) (m .memory) (m .slot) (m .ended) (m .line) (m .rolled)
+withHead m session phase k = remade m session phase k (m .numbers) (m .memory) (m .slot) (m .ended) (m .line) (m .rolled) (m .writing)
 
 abbrev pub withSlots : Model → (ℕ → OpenChange) → (ended : ℕ → ℕ) → Model
-withSlots m slot ended = remade m (m .session) (m .phase) (m .latest) (m .numbers) (m .memory) slot ended (m .line) (m .rolled)
+withSlots m slot ended = remade m (m .session) (m .phase) (m .latest) (m .numbers) (m .memory) slot ended (m .line) (m .rolled) (m .writing)
 
 abbrev pub withLine : Model → Numbers → (rolled : CardSet) → Model
-withLine m line rolled = remade m (m .session) (m .phase) (m .latest) (m .numbers) (m .memory) (m .slot) (m .ended) line rolled
+withLine m line rolled = remade m (m .session) (m .phase) (m .latest) (m .numbers) (m .memory) (m .slot) (m .ended) line rolled (m .writing)
+
+abbrev pub withWriting : Model → Numbers → Model
+withWriting m writing = remade m (m .session) (m .phase) (m .latest) (m .numbers) (m .memory) (m .slot) (m .ended) (m .line) (m .rolled) writing
 
 -- the number that a slot is remembered by when a loss ends it: of a decided change with a written share untaken its own, otherwise 0
 abbrev pub remembered : Limits → OpenChange → ℕ
@@ -105,6 +113,18 @@ edited L (keep c s) m =
       reached = m .numbers .reached;
     })
     (m .memory)
+edited L (begin c s) m = withWriting m (put (m .writing) c (suc s))
+edited L (end c x) m =
+    withWriting
+    (withNumbers m
+    (record {
+      base = m .numbers .base;
+      stored = put (m .numbers .stored) c x;
+      held = put (m .numbers .held) c (max (m .numbers .held c) x);
+      reached = m .numbers .reached;
+    })
+    (m .memory))
+    (put (m .writing) c 0)
 edited L (rebase bases) m =
     withNumbers m
     (record { base = bases; stored = m .numbers .stored; held = m .numbers .held; reached = m .numbers .reached })

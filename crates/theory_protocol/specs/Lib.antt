@@ -6,6 +6,7 @@ pub mod Calls
 pub mod Journal
 pub mod Codec
 pub mod Run
+pub mod Writes
 pub mod Demands
 pub mod Room
 pub mod Agreement

@@ -1,5 +1,5 @@
 -- A cabinet with no layout: what document 01 says of it, by card, by state and by slot. Every representation has a view into this model.
-use Prim.Native.Nat.{ℕ}
+use Prim.Native.Nat.{ℕ, _-_}
 use mathlib.Core.Bool.{Bool, true, false, not, _&&_, _||_}
 use lib.Dec.{eqb, ltb}
 use Rattle.base_laws.specs.Below.{allBelow, anyBelow, firstBelow}
@@ -62,6 +62,8 @@ pub record Model : Type 0 where
   -- while rolling: the line fixed, and the cards already rolled
   pub line : Numbers
   pub rolled : CardSet
+  -- document 02, wish 5: the write running of each card, 0 for none, and the state up to which it goes plus one otherwise
+  pub writing : Numbers
 
 -- ---- words
 abbrev pub noCards : CardSet
@@ -70,6 +72,14 @@ noCards c = false
 -- "cards already rolled", in phase rolling alone
 abbrev pub hasRolled : Model → CardSet
 hasRolled m c = isRolling (m .phase) && m .rolled c
+
+-- "a card whose write is running"
+abbrev pub isWriting : Model → CardSet
+isWriting m c = not (eqb (m .writing c) 0)
+
+-- the running s, "up to state s"
+abbrev pub writesTo : Model → Numbers
+writesTo m c = m .writing c - 1
 
 -- a change that no card has voted on
 abbrev pub unvoted : Change → OpenChange

@@ -1,21 +1,23 @@
 -- Lists of calls from a fresh cabinet, refused ones included, with every answer and the cabinet after each call.
-use Prim.Native.Nat.{ℕ}
+use Prim.Native.Nat.{ℕ, suc}
 use mathlib.Core.Bool.{Bool}
 use mathlib.Core.List.{List, []}
 use Rattle.theory_history.specs.Change.{CardSet, Numbers}
 use Rattle.theory_protocol.specs.Model.{Limits, Model}
 use Rattle.theory_protocol.specs.Edit.{put}
 use Rattle.theory_protocol.specs.Plan.{CardRow, Answer, done, opened, safe, unsafe, fixed, written, Reply, accepted, refused, Check, Plan, afterPlan}
-use Rattle.theory_protocol.specs.Calls.{freshModel, openChecks, openPlan, voteChecks, votePlan, takeChecks, takePlan, withdrawChecks, withdrawPlan, storeChecks, storePlan, trimChecks, trimPlan, safeChecks, safePlan, loseChecks, losePlan, fixChecks, fixPlan, rollChecks, rollPlan}
+use Rattle.theory_protocol.specs.Calls.{freshModel, openChecks, openPlan, voteChecks, votePlan, takeChecks, takePlan, withdrawChecks, withdrawPlan, storeChecks, storePlan, beginPlan, endChecks, endPlan, trimChecks, trimPlan, safeChecks, safePlan, loseChecks, losePlan, fixChecks, fixPlan, rollChecks, rollPlan}
 use Rattle.theory_protocol.specs.Codec.{Codec, sheetChecks, sheetPlan, restartChecks, restartPlan}
 use Rattle.theory_protocol.specs.Journal.{Journal, Fixing, unfixed, fixing, emptyJournal, noteOpen, noteVote, noteStruck, noteStore, noteLose, noteFix, noteRoll, noteRestart}
 
--- calls 2 to 7 and 10: numbers go in, and nothing is lent
+-- calls 2 to 7 and 10, and of document 02 the beginning and the end of a store: numbers go in, and nothing is lent
 pub data Plain : Type 0 where
   voteCall : (change card : ℕ) (agrees : Bool) → Plain
   takeCall : (change card : ℕ) → Plain
   withdrawCall : (change : ℕ) → Plain
   storeCall : (card state : ℕ) → Plain
+  beginCall : (card state : ℕ) → Plain
+  endCall : (card state : ℕ) → Plain
   trimCall : Plain
   safeCall : (change : ℕ) → Plain
   rollCall : (card : ℕ) → Plain
@@ -41,6 +43,8 @@ plainChecks L m (voteCall k c agrees) = voteChecks L m k c
 plainChecks L m (takeCall k c) = takeChecks L m k c
 plainChecks L m (withdrawCall k) = withdrawChecks L m k
 plainChecks L m (storeCall c s) = storeChecks L m c s
+plainChecks L m (beginCall c s) = storeChecks L m c s
+plainChecks L m (endCall c x) = endChecks L m c x
 plainChecks L m trimCall = trimChecks L m
 plainChecks L m (safeCall k) = safeChecks L m k
 plainChecks L m (rollCall c) = rollChecks L m c
@@ -59,6 +63,8 @@ plainPlan L m (voteCall k c agrees) = votePlan L m k c agrees
 plainPlan L m (takeCall k c) = takePlan L m k c
 plainPlan L m (withdrawCall k) = withdrawPlan L m k
 plainPlan L m (storeCall c s) = storePlan L m c s
+plainPlan L m (beginCall c s) = beginPlan L m c s
+plainPlan L m (endCall c x) = endPlan L m c x
 plainPlan L m trimCall = trimPlan L m
 plainPlan L m (safeCall k) = safePlan L m k
 plainPlan L m (rollCall c) = rollPlan L m c
@@ -116,6 +122,9 @@ noteAccepted L n j (plain (voteCall k c agrees)) a = noteVote L j k c agrees
 noteAccepted L n j (plain (takeCall k c)) a = j
 noteAccepted L n j (plain (withdrawCall k)) a = noteStruck j k
 noteAccepted L n j (plain (storeCall c s)) a = noteStore j c s
+-- "at a beginning the setter's book notes nothing, an end sets its stored number to the one reported"
+noteAccepted L n j (plain (beginCall c s)) a = j
+noteAccepted L n j (plain (endCall c x)) a = noteStore j c x
 noteAccepted L n j (plain trimCall) a = j
 noteAccepted L n j (plain (safeCall k)) a = j
 noteAccepted L n j (loseCall cards) a = noteLose j
@@ -145,6 +154,9 @@ keptAfter j (plain (voteCall k c agrees)) x = x
 keptAfter j (plain (takeCall k c)) x = x
 keptAfter j (plain (withdrawCall k)) x = x
 keptAfter j (plain (storeCall c s)) x = put x c s
+-- "both count as stores": "that number is what a cut between the two left"
+keptAfter j (plain (beginCall c s)) x = x
+keptAfter j (plain (endCall c s)) x = put x c s
 keptAfter j (plain trimCall) x = x
 keptAfter j (plain (safeCall k)) x = x
 keptAfter j (loseCall cards) x = x
@@ -161,3 +173,29 @@ keptBy j call (refused r) x = x
 abbrev pub lastKept : Limits → CardSet → Calls → Numbers
 lastKept L n none c = 0
 lastKept L n (further cs call reply) c = keptBy (journal L n cs) call reply (lastKept L n cs) c
+
+-- ---- writes begun: by arguments and answers, the write of each card that was begun and not ended, 0 for none and the state up to which it goes plus one otherwise
+abbrev pub begunAfter : Call → Numbers → Numbers
+begunAfter (openCall reads writes) x = x
+begunAfter (plain (voteCall k c agrees)) x = x
+begunAfter (plain (takeCall k c)) x = x
+begunAfter (plain (withdrawCall k)) x = x
+begunAfter (plain (storeCall c s)) x = x
+begunAfter (plain (beginCall c s)) x = put x c (suc s)
+begunAfter (plain (endCall c s)) x = put x c 0
+begunAfter (plain trimCall) x = x
+begunAfter (plain (safeCall k)) x = x
+begunAfter (loseCall cards) x = x
+begunAfter (fixCall a b) x = x
+begunAfter (plain (rollCall c)) x = x
+begunAfter (sheetCall c places) x = x
+-- a cabinet restarted has none
+begunAfter restartCall x = λ c. 0
+
+abbrev pub begunBy : Call → Reply → Numbers → Numbers
+begunBy call (accepted a) x = begunAfter call x
+begunBy call (refused r) x = x
+
+abbrev pub lastBegun : Calls → Numbers
+lastBegun none c = 0
+lastBegun (further cs call reply) c = begunBy call reply (lastBegun cs) c

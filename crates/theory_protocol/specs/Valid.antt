@@ -1,11 +1,11 @@
--- Refusal 28: what a cabinet must be, so that a call looks at anything else. Document 01's row, clause by clause.
+-- Refusal 28: what a cabinet must be, so that a call looks at anything else. Document 01's row, clause by clause, and document 02's.
 use Prim.Native.Nat.{ℕ, suc, _+_, _-_}
 use mathlib.Core.Bool.{Bool, not, _&&_, _||_, cond}
 use lib.Dec.{eqb, leb, ltb}
 use Rattle.base_laws.specs.Below.{allBelow, anyBelow}
 use Rattle.theory_history.specs.Change.{CardSet, touches}
 use Rattle.theory_history.specs.Vector.{Vector}
-use Rattle.theory_protocol.specs.Model.{Limits, isRolling, StateNumbers, Memory, OpenChange, Model, strays, isOpen, toWrite}
+use Rattle.theory_protocol.specs.Model.{Limits, isRolling, StateNumbers, Memory, OpenChange, Model, isWriting, writesTo, strays, isOpen, toWrite}
 
 -- "session 0 (while rolling also 4,294,967,295)"
 abbrev pub sessionValid : Limits → Model → Bool
@@ -62,7 +62,14 @@ slotValid L m o =
     || (not (strays L m (touches (o .change))) && allBelow (L .width) (λ c. not (toWrite o c) || roomToWrite L (m .numbers) c)
     && entriesValid L (m .present) (o .vector))
 
+-- document 02, wish 5: "A running s outside stored to reached, or a write running in phase rolling, is 28": of a card that is there
+abbrev pub writeValid : Model → ℕ → Bool
+writeValid m c =
+    not (m .present c && isWriting m c)
+    || (not (isRolling (m .phase)) && leb (m .numbers .stored c) (writesTo m c) && leb (writesTo m c) (m .numbers .reached c))
+
 -- a cabinet that is not refused with 28 ("more than eight open changes": a model has its slots)
 abbrev pub valid : Limits → Model → Bool
 valid L m =
     sessionValid L m && cardsValid L m && allBelow (L .width) (cardValid L m) && allBelow (L .slots) (λ p. slotValid L m (m .slot p))
+    && allBelow (L .width) (writeValid m)

@@ -19,6 +19,8 @@ pub enum Style {
     Roll,
     /// 48 states in hand on each of 16 cards, and all of them lost.
     Full,
+    /// Long writes over several states, on more cards than one, cut by losses.
+    Long,
 }
 
 /// How often each kind of call comes in phase up.
@@ -27,6 +29,8 @@ pub struct Weights {
     pub vote: u32,
     pub take: u32,
     pub store: u32,
+    pub begin: u32,
+    pub end: u32,
     pub trim: u32,
     pub safe: u32,
     pub withdraw: u32,
@@ -40,7 +44,9 @@ pub fn weights(style: Style) -> Weights {
         open: 110,
         vote: 200,
         take: 200,
-        store: 70,
+        store: 60,
+        begin: 25,
+        end: 30,
         trim: 8,
         safe: 20,
         withdraw: 6,
@@ -50,14 +56,16 @@ pub fn weights(style: Style) -> Weights {
     };
     match style {
         Style::Mixed => mixed,
-        Style::Small => Weights { lose: 22, trim: 12, restart: 3, ..mixed },
+        Style::Small => Weights { begin: 35, end: 35, lose: 22, trim: 12, restart: 3, ..mixed },
         Style::Half => Weights { take: 120, store: 110, lose: 8, ..mixed },
         Style::Wide => Weights { open: 260, take: 80, ..mixed },
         Style::Deep => Weights {
             open: 200,
             vote: 300,
             take: 300,
-            store: 10,
+            store: 8,
+            begin: 6,
+            end: 4,
             trim: 2,
             withdraw: 2,
             lose: 0,
@@ -65,11 +73,14 @@ pub fn weights(style: Style) -> Weights {
             ..mixed
         },
         Style::Roll => Weights { lose: 25, restart: 5, ..mixed },
+        Style::Long => Weights { store: 6, begin: 40, end: 16, trim: 14, lose: 8, restart: 2, ..mixed },
         Style::Full => Weights {
             open: 300,
             vote: 400,
             take: 400,
             store: 1,
+            begin: 2,
+            end: 0,
             trim: 0,
             safe: 0,
             withdraw: 0,
@@ -81,14 +92,15 @@ pub fn weights(style: Style) -> Weights {
 }
 
 pub fn style_of(random: &mut Random) -> Style {
-    match random.below(400) {
+    match random.below(460) {
         0 => Style::Full,
         1..=99 => Style::Mixed,
         100..=169 => Style::Small,
         170..=239 => Style::Half,
         240..=299 => Style::Wide,
         300..=344 => Style::Deep,
-        _ => Style::Roll,
+        345..=399 => Style::Roll,
+        _ => Style::Long,
     }
 }
 
@@ -98,6 +110,7 @@ pub fn cards_for(style: Style, random: &mut Random) -> u32 {
         Style::Deep => random.pick(&[1, 1, 2, 2, 3]),
         Style::Wide => random.from_to(6, 16),
         Style::Full => 16,
+        Style::Long => random.pick(&[1, 2, 2, 2, 3, 3, 3, 4, 5]),
         _ => random.pick(&[1, 2, 2, 3, 3, 3, 4, 4, 5, 6, 8, 11, 16]),
     }
 }

@@ -31,7 +31,7 @@ impl Maker {
 
     fn wild_call(&mut self) -> Call {
         let (a, b, yes) = (self.wild_number(), self.wild_number(), self.random.chance(500));
-        match self.random.below(30) {
+        match self.random.below(34) {
             0..=3 => Call::Open { reads: a, writes: b },
             4..=6 => Call::Vote { change: a, card: b, yes },
             7..=9 => Call::Take { change: a, card: b },
@@ -43,6 +43,8 @@ impl Maker {
             22 | 23 => Call::Roll { card: a },
             24..=26 => Call::Sheet { card: a, room: b.min(65_536) },
             27 | 28 => Call::Frames { card: a },
+            29 | 30 => Call::Begin { card: a, state: b },
+            31 | 32 => Call::End { card: a, state: b },
             _ if self.random.chance(800) => {
                 Call::Fresh { cards: self.random.pick(&[0, 17, 99, 4_294_967_295]) }
             }
@@ -54,7 +56,7 @@ impl Maker {
     fn unreadable(&mut self) -> Vec<u8> {
         let call = self.wild_call();
         let good = write_call(&call);
-        let line = match self.random.below(22) {
+        let line = match self.random.below(28) {
             0 => String::new(),
             1 => format!(" {good}"),
             2 => format!("{good} "),
@@ -75,7 +77,13 @@ impl Maker {
             17 => "trim 0".to_string(),
             18 => "opens 1 2".to_string(),
             19 => format!("lose {}", "9".repeat(40)),
-            20 => return vec![0, 255, 128, b'o', b'k'],
+            20 => "begin 0".to_string(),
+            21 => "end 0 1 1".to_string(),
+            22 => "begins 0 1".to_string(),
+            23 => "end 0 4294967296".to_string(),
+            24 => "begin 0 -1".to_string(),
+            25 => "end".to_string(),
+            26 => return vec![0, 255, 128, b'o', b'k'],
             _ => return self.long_line(),
         };
         line.into_bytes()

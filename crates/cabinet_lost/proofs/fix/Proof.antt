@@ -55,7 +55,7 @@ not-fixed-requires-2 c κs = search needs
 
 returns : tie.Need-returns
 returns c =
-    let a : _ = c .before .before .before .before .before .before .before .before .before .before .before .before .before .before .before .before .before .args in
+    let a : _ = c .before .before .before .before .before .before .before .before .before .before .before .before .before .before .before .before .before .before .args in
     let line : _ = c .before .before .before .before .before .before .lines in
     let count : _ = c .before .before .before .before .list-lost in
     let none : _ = c .not-fixed in
@@ -69,7 +69,7 @@ same-length c = search needs
 
 returns-2 : tie.Need-returns-2
 returns-2 c =
-    let a : _ = c .before .before .before .before .before .before .before .before .before .before .before .before .before .before .before .before .before .before .before .before .args in
+    let a : _ = c .before .before .before .before .before .before .before .before .before .before .before .before .before .before .before .before .before .before .before .before .before .args in
     let line : _ = c .before .before .before .before .before .before .before .before .before .lines in
     let count : _ = c .before .before .before .before .before .before .before .list-lost in
     let told : _ = c .before .before .list-lost2 in
@@ -79,7 +79,7 @@ returns-2 c =
 
 returns-3 : tie.Need-returns-3
 returns-3 c =
-    let a : _ = c .before .before .before .before .before .before .before .before .before .before .before .before .args in
+    let a : _ = c .before .before .before .before .before .before .before .before .before .before .before .before .before .args in
     let none : _ = c .not-fixed2 in
     answered (none .result .reply) (none .ensures .1)
     (early-told (a .entries .now) (a .changes .now) (a .core) (a .places) (a .list .now) (foundLine (a .entries .now) (a .changes .now) (a .core)) refl (none .result .line) (none .ensures .0) _ (first-told (a .entries .now) (a .changes .now) (a .core) (a .places) (a .list .now) (c .before .before .before .before .before .cabinet-valid .result) (c .before .before .before .before .fix-verdict .result) (c .before .before .before .before .before .cabinet-valid .ensures) (c .before .before .before .before .fix-verdict .ensures) ∙ c .before .before .first .given .1))

@@ -1,10 +1,10 @@
 use Rattle.theory_protocol.specs.Calls.{storeChecks}
 use Rattle.theory_protocol.specs.Plan.{Check}
-use Rattle.cabinet_layout.specs.Shape.{numbersModel}
+use Rattle.cabinet_layout.specs.Shape.{writesModel}
 use Rattle.base_refusal.specs.declared.Reply.the-variants.{Done}
 use Rattle.cabinet_layout.specs.Answers.{after28}
 use Rattle.cabinet_layout.proofs.Checks.{folded, folded-first}
-use Rattle.cabinet_layout.specs.Shape.{limits16, at}
+use Rattle.cabinet_layout.specs.Shape.{limits16}
 use mathlib.Core.Path.{_≡_, _∙_}
 use mathlib.Core.Bool.{not}
 use mathlib.Core.List.{List, []}
@@ -24,6 +24,9 @@ at-requires c κs = search needs
 at-requires-2 : tie.Need-at-requires-2
 at-requires-2 c κs = search needs
 
+at-requires-3 : tie.Need-at-requires-3
+at-requires-3 c κs = search needs
+
 next-requires : tie.Need-next-requires
 next-requires c κs = search needs
 
@@ -36,8 +39,11 @@ next-requires-3 c κs = search needs
 next-requires-4 : tie.Need-next-requires-4
 next-requires-4 c κs = search needs
 
+next-requires-5 : tie.Need-next-requires-5
+next-requires-5 c κs = search needs
+
 returns : tie.Need-returns
-returns c = let a : _ = c .before .before .before .before .before .before .before .before .args in let cs : List Check = after28 (not (a .valid)) (storeChecks limits16 (numbersModel (a .head) [] (a .stored) (a .held) []) (a .card) (a .state)) in let e : c .next4 .result ≡ folded cs Done = rw (c .next4 .ensures, c .before .next3 .ensures, c .before .before .next2 .ensures, c .before .before .before .next .ensures, c .before .before .before .before .before .before .before .is-card .ensures, c .before .before .before .before .before .before .is-rolling .ensures, c .before .before .before .before .before .at .ensures, c .before .before .before .before .at2 .ensures) in e ∙ folded-first cs
+returns c = let a : _ = c .before .before .before .before .before .before .before .before .before .before .args in let cs : List Check = after28 (not (a .valid)) (storeChecks limits16 (writesModel (a .head) (a .stored) (a .held) [] (a .writing)) (a .card) (a .state)) in let e : c .next5 .result ≡ folded cs Done = rw (c .next5 .ensures, c .before .next4 .ensures, c .before .before .next3 .ensures, c .before .before .before .next2 .ensures, c .before .before .before .before .next .ensures, c .before .before .before .before .before .before .before .before .before .is-card .ensures, c .before .before .before .before .before .before .before .before .is-rolling .ensures, c .before .before .before .before .before .before .before .at .ensures, c .before .before .before .before .before .before .at2 .ensures, c .before .before .before .before .before .at3 .ensures) in e ∙ folded-first cs
 
 pub store-verdict-spec : {M : Type 1} → statement M
 store-verdict-spec =
@@ -47,8 +53,10 @@ store-verdict-spec =
     is-rolling-requires
     at-requires
     at-requires-2
+    at-requires-3
     next-requires
     next-requires-2
     next-requires-3
     next-requires-4
+    next-requires-5
     returns)

@@ -16,8 +16,11 @@ all-cards-valid-requires c κs = search needs
 all-slots-valid-requires : tie.Need-all-slots-valid-requires
 all-slots-valid-requires c κs = search needs
 
+writes-valid-requires : tie.Need-writes-valid-requires
+writes-valid-requires c κs = search needs
+
 returns : tie.Need-returns
-returns c = ap₂ (λ (x y : Bool). x && y) (ap₂ (λ (x y : Bool). x && y) (ap₂ (λ (x y : Bool). x && y) (c .before .before .before .session-valid .ensures) (c .before .before .cards-valid .ensures)) (c .before .all-cards-valid .ensures)) (c .all-slots-valid .ensures)
+returns c = ap₂ (λ (x y : Bool). x && y) (ap₂ (λ (x y : Bool). x && y) (ap₂ (λ (x y : Bool). x && y) (ap₂ (λ (x y : Bool). x && y) (c .before .before .before .before .session-valid .ensures) (c .before .before .before .cards-valid .ensures)) (c .before .before .all-cards-valid .ensures)) (c .before .all-slots-valid .ensures)) (c .writes-valid .ensures)
 
 pub cabinet-valid-spec : {M : Type 1} → statement M
 cabinet-valid-spec =
@@ -27,4 +30,5 @@ cabinet-valid-spec =
     cards-valid-requires
     all-cards-valid-requires
     all-slots-valid-requires
+    writes-valid-requires
     returns)
