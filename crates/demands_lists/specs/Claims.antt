@@ -105,12 +105,18 @@ abbrev pub Demands23 : Type 0
 Demands23 = (n : ℕ) (cs : Calls) (s : Cabinet) (l : List16 n cs s) → Throughout l
 
 -- ---- Document 02, wish 1
--- the cabinet s answers safe k, the next call is an accepted loss (of all its cards, or of any), and the next an accepted fix
+-- the cabinet u after cards of the cabinet t have reported, one after the other, the number that they had stored
+pub data Reported16 (t : Cabinet) : Cabinet → Type 0 where
+  unreported : Reported16 t t
+  reports : {u : Cabinet} → Reported16 t u → (c : ℕ) (v : Cabinet) (lent₀ : Lent) → Answered u (plain (endCall c (view u .numbers .stored c))) (accepted done) v lent₀ → Reported16 t v
+
+-- the cabinet s answers safe k, the next call is an accepted loss (of all its cards, or of any), cards whose writes run may then report what they had stored, and the next is an accepted fix
 abbrev pub AgreesFrom : Cabinet → Type 0
 AgreesFrom s =
     (k : ℕ) (a : Answer) (t : Cabinet) (lent₁ : Lent) → Answered s (plain (safeCall k)) (accepted a) t lent₁
     → (cards : ℕ) (b : Answer) (u : Cabinet) (lent₂ : Lent) → Answered t (lose cards) (accepted b) u lent₂
-    → (records : List CardRecord) (list : List ℕ) (rows : List CardRow) (numbers : List ℕ) (v : Cabinet) (lent₃ : Lent) → Answered u (fix records list) (accepted (fixed rows numbers)) v lent₃
+    → (w : Cabinet) → Reported16 u w
+    → (records : List CardRecord) (list : List ℕ) (rows : List CardRow) (numbers : List ℕ) (v : Cabinet) (lent₃ : Lent) → Answered w (fix records list) (accepted (fixed rows numbers)) v lent₃
     → Agrees k a numbers
 
 -- of any cabinet of its type, a forged one too

@@ -81,7 +81,7 @@ pub record RunAnswers : Type 0 where
 
 pub record Demand1 : Type 0 where
   pub fresh : (n : ℕ) (reply : Reply) (next : Cabinet) → Freshly n reply next → FreshGets n reply next
-  -- calls 1 to 10, sheet writing, and restart from a cabinet's own sheets
+  -- calls 1 to 10, the beginning and the end of a store, sheet writing, and restart from a cabinet's own sheets
   pub calls : CallsAnswer
   pub restart : (bytes : List ℕ) (reply : Reply) (next : Cabinet) → Restarted bytes reply next → RestartGets bytes reply next
   -- the reader of one sheet, and the reader of a read-out

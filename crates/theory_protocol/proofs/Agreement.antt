@@ -3,16 +3,19 @@ use Prim.Native.Nat.{ℕ}
 use mathlib.Core.Path.{_≡_, refl, sym, _∙_, ap, subst}
 use mathlib.Core.Bool.{Bool, true, false, not, cond}
 use mathlib.Core.List.{List, [], _∷_}
+use mathlib.Core.Logic.{by-cases}
+use native.Mathlib.Decide.{ℕ-discrete}
 use native.Mathlib.Omega.{arith}
 use Rattle.base_laws.specs.Below.{occurs, one-if}
-use Rattle.theory_history.specs.Change.{CardSet}
+use Rattle.theory_history.specs.Change.{CardSet, Numbers}
 use Rattle.theory_protocol.specs.Model.{Limits, Model, isUp}
-use Rattle.theory_protocol.specs.Edit.{fall, halt, editedAll}
+use Rattle.theory_protocol.specs.Edit.{put, end, fall, halt, withNumbers, editedAll}
 use Rattle.theory_protocol.specs.Plan.{Answer, done, safe, unsafe, fixed, Reply, accepted, Plan, afterPlan}
-use Rattle.theory_protocol.specs.Calls.{isSafe, safeChecks, safePlan, loseChecks, losePlan, lossEdits, allLost, isLost, fixPlan}
+use Rattle.theory_protocol.specs.Calls.{endChecks, isSafe, safeChecks, safePlan, loseChecks, losePlan, lossEdits, allLost, isLost, fixPlan}
 use Rattle.theory_protocol.specs.Codec.{Codec}
 use Rattle.theory_protocol.specs.Run.{Call, plain, safeCall, loseCall, fixCall, planOf, afterCall, Calls, further, Run, start, next}
-use Rattle.theory_protocol.specs.Agreement.{Agrees, SafeAgreesWithFix, AgreesInLists}
+use Rattle.theory_protocol.specs.Agreement.{Agrees, Reported, unreported, reports, SafeAgreesWithFix, AgreesInLists}
+use Rattle.theory_protocol.proofs.Taking.{put-same, put-other}
 use Rattle.theory_protocol.proofs.Steps.{checked-case, not-not}
 use Rattle.theory_protocol.proofs.Listed.{lists-rising}
 use Rattle.theory_protocol.proofs.Answers.{answered}
@@ -33,11 +36,26 @@ module _ (L : Limits) (m : Model) where
   answer-is : (k : ℕ) (a : Answer) → safePlan L m k .reply ≡ accepted a → (cond (isSafe L m k) safe unsafe ≡ a) × (isUp (m .phase) ≡ true)
   answer-is k = answered (λ (x : Answer) (p : Plan). (cond (isSafe L m k) safe unsafe ≡ x) × (isUp (m .phase) ≡ true)) (safeChecks L m k) _ [] (λ ps. (refl, not-not (isUp (m .phase)) (ps .1 .0)))
 
+-- ---- reports
+put-back : (f : Numbers) (c : ℕ) → put f c (f c) ≡ f
+put-back f c = λ i d. each d i
+  where
+    each : (d : ℕ) → put f c (f c) d ≡ f d
+    each d = by-cases (ℕ-discrete d c) (λ (q : d ≡ c). ap (put f c (f c)) q ∙ put-same f c (f c) ∙ ap f (sym q)) (λ q. put-other f c (f c) d q)
+
+-- a report of the number that was stored moves no stored number, and loses nothing
+reported-lost : (L : Limits) {m n : Model} → Reported L m n → (k : ℕ) → isLost L n k ≡ isLost L m k
+reported-lost L unreported k = refl
+reported-lost L (reports {n} r c e) k =
+    checked-case (λ (p : Plan). isLost L (afterPlan L p n) k ≡ isLost L n k) (endChecks L n c (n .numbers .stored c)) done (end c (n .numbers .stored c) ∷ []) (λ x. refl)
+    (λ ps. ap (λ (s : Numbers). isLost L (withNumbers n (record { base = n .numbers .base; stored = s; held = n .numbers .held; reached = n .numbers .reached }) (n .memory)) k) (put-back (n .numbers .stored) c))
+    ∙ reported-lost L r k
+
 pub safe-agrees-with-fix : SafeAgreesWithFix
-safe-agrees-with-fix L m k a ea cards b eb p q rows numbers ef =
+safe-agrees-with-fix L m k a ea cards b eb n w p q rows numbers ef =
     let s : (cond (isSafe L m k) safe unsafe ≡ a) × (isUp (m .phase) ≡ true) = answer-is L m k a ea in
     agrees-by (isLost L (allLost L m) k) k a numbers (s .0)
-    (lists-rising L (afterPlan L (losePlan L m cards) m) p q rows numbers ef .once k ∙ ap one-if (lost-as-all L m cards b eb (s .1) k))
+    (lists-rising L n p q rows numbers ef .once k ∙ ap one-if (reported-lost L w k ∙ lost-as-all L m cards b eb (s .1) k))
 
 -- ---- lists
 -- the last call of a list
@@ -67,5 +85,5 @@ agrees-in-lists C L n cs k a cards b x y rows numbers m r =
     let l : LastCall C L n (further cs (plain (safeCall k)) (accepted a)) (loseCall cards) (accepted b) (f .before) = last-call C L n (f .run) _ _ _ refl in
     let s : LastCall C L n cs (plain (safeCall k)) (accepted a) (l .before) = last-call C L n (l .run) _ _ _ refl in
     let same : l .before ≡ s .before = s .after ∙ asked-same L (s .before) k in
-    safe-agrees-with-fix L (l .before) k a (ap (λ (z : Model). safePlan L z k .reply) same ∙ s .replied) cards b (l .replied) x y rows numbers
+    safe-agrees-with-fix L (l .before) k a (ap (λ (z : Model). safePlan L z k .reply) same ∙ s .replied) cards b (l .replied) (afterPlan L (losePlan L (l .before) cards) (l .before)) unreported x y rows numbers
     (ap (λ (z : Model). fixPlan L z x y .reply) (sym (l .after)) ∙ f .replied)

@@ -1,4 +1,4 @@
--- Each card's last accepted store or roll, by arguments and answers, is what its cabinet has stored. Assumes nothing.
+-- Each card's last accepted store, end or roll, by arguments and answers, is what its cabinet has stored. Assumes nothing.
 use Prim.Native.Nat.{ℕ, _<_}
 use mathlib.Core.Path.{_≡_, refl, sym, _∙_, ap}
 use mathlib.Core.Bool.{Bool, true, false, not, _||_, cond}

@@ -6,8 +6,8 @@ use mathlib.Core.List.{List}
 use Rattle.base_laws.specs.Below.{occurs}
 use Rattle.theory_history.specs.Change.{CardSet}
 use Rattle.theory_protocol.specs.Model.{Limits, Model}
-use Rattle.theory_protocol.specs.Plan.{CardRow, Answer, unsafe, fixed, accepted, afterPlan}
-use Rattle.theory_protocol.specs.Calls.{safePlan, losePlan, fixPlan}
+use Rattle.theory_protocol.specs.Plan.{CardRow, Answer, done, unsafe, fixed, accepted, afterPlan}
+use Rattle.theory_protocol.specs.Calls.{endPlan, safePlan, losePlan, fixPlan}
 use Rattle.theory_protocol.specs.Codec.{Codec}
 use Rattle.theory_protocol.specs.Run.{plain, safeCall, loseCall, fixCall, Calls, further, Run}
 
@@ -15,13 +15,19 @@ use Rattle.theory_protocol.specs.Run.{plain, safeCall, loseCall, fixCall
 abbrev pub Agrees : ℕ → Answer → (lost : List ℕ) → Type 0
 Agrees k a lost = (a ≡ unsafe) ↔ (0 < occurs k lost)
 
--- of any cabinet, a forged one too: safe k is answered, a loss is accepted (of all its cards, or of any), and so is a fix of the cabinet after it
+-- document 02, wish 5: while a write runs no fix is accepted. The cabinet n after cards of the cabinet m have reported, one after the other, the number that they had stored
+pub data Reported (L : Limits) (m : Model) : Model → Type 0 where
+  unreported : Reported L m m
+  reports : {n : Model} → Reported L m n → (c : ℕ) → endPlan L n c (n .numbers .stored c) .reply ≡ accepted done → Reported L m (afterPlan L (endPlan L n c (n .numbers .stored c)) n)
+
+-- of any cabinet, a forged one too: safe k is answered, a loss is accepted (of all its cards, or of any), cards whose writes run may report what they had stored, and a fix of the cabinet after that is accepted
 abbrev pub SafeAgreesWithFix : Type 0
 SafeAgreesWithFix =
     (L : Limits) (m : Model) (k : ℕ) (a : Answer) → safePlan L m k .reply ≡ accepted a
     → (cards : CardSet) (b : Answer) → losePlan L m cards .reply ≡ accepted b
+    → (n : Model) → Reported L (afterPlan L (losePlan L m cards) m) n
     → (cardPlaces lostPlaces : ℕ) (rows : List CardRow) (numbers : List ℕ)
-    → fixPlan L (afterPlan L (losePlan L m cards) m) cardPlaces lostPlaces .reply ≡ accepted (fixed rows numbers)
+    → fixPlan L n cardPlaces lostPlaces .reply ≡ accepted (fixed rows numbers)
     → Agrees k a numbers
 
 -- of every list of calls that ends with these three

@@ -195,7 +195,7 @@ pub record CabinetRight (C : Codec) (L : Limits) (n : CardSet) (cs : Calls) (m :
   pub never-28 : valid L m ≡ true
   -- demand 2
   pub vectors : VectorsRight L m (journal L n cs)
-  -- cuts: the stored number of each card, and the last state of its sheet, is its last accepted store or roll
+  -- cuts: the stored number of each card, and the last state of its sheet, is its last accepted store, end or roll
   pub stored-kept : (c : ℕ) → c < L .width → n c ≡ true → m .numbers .stored c ≡ lastKept L n cs c
   pub sheet-kept : (c : ℕ) → c < L .width → n c ≡ true → C .last L m c ≡ lastKept L n cs c
   pub writes : WritesRight L n cs m

@@ -22,7 +22,7 @@ pub data Plain : Type 0 where
   safeCall : (change : ℕ) → Plain
   rollCall : (card : ℕ) → Plain
 
--- calls 1 to 10 with the lengths of the lists lent, sheet writing with the buffer's, and restart
+-- all calls, with the lengths of the lists lent, sheet writing with the buffer's, and restart
 pub data Call : Type 0 where
   openCall : (reads writes : CardSet) → Call
   plain : Plain → Call
@@ -169,7 +169,7 @@ abbrev pub keptBy : Journal → Call → Reply → Numbers → Numbers
 keptBy j call (accepted a) x = keptAfter j call x
 keptBy j call (refused r) x = x
 
--- by arguments and answers: each card's last accepted store or roll, and 0 if there was none
+-- by arguments and answers: each card's last accepted store, end or roll, and 0 if there was none
 abbrev pub lastKept : Limits → CardSet → Calls → Numbers
 lastKept L n none c = 0
 lastKept L n (further cs call reply) c = keptBy (journal L n cs) call reply (lastKept L n cs) c
