@@ -1,11 +1,12 @@
 // Numbers written as decimal text, into a lent buffer at a place.
+#![tactic(auto)]
 ghost use Rattle.std.specs.Prelude.{◌+◌, ◌≤◌, ◌≡◌, length};
 ghost use Rattle.std.proofs.lemmas.List.Edits.{sets};
 ghost use Rattle.base_decimal.specs.Digits.{decimal, lowest};
 ghost use Rattle.base_decimal.specs.Answers.{Wrote};
 
 // What comes of writing: the place after the last digit, or that the buffer is too short for the number, and then nothing is written.
-#[derive(Drop)]
+#[derive(Clone, Copy)]
 pub enum Writing {
     Next(usize),
     TooShort,

@@ -1,10 +1,11 @@
 // Numbers read as decimal text, at a place of a text.
+#![tactic(auto)]
 ghost use Rattle.std.specs.Prelude.{◌≡◌};
 ghost use Rattle.base_reading.specs.Digits.{is_digit};
 ghost use Rattle.base_reading.specs.Reads.{reading, read_at};
 
 // What stands at a place: a number and the place after its digits, or no number.
-#[derive(Drop)]
+#[derive(Clone, Copy)]
 pub enum Reading {
     Number { value: u32, next: usize },
     NotANumber,

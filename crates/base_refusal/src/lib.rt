@@ -1,8 +1,9 @@
 // The refusals of document 01, by name; what each is told by, a row of its two tables; and an answer that is acceptance or a refusal.
+#![tactic(auto)]
 ghost use Rattle.std.specs.Prelude.{◌≡◌};
 ghost use Rattle.base_refusal.specs.Number.{number_of, told_of};
 
-#[derive(Drop)]
+#[derive(Clone, Copy)]
 pub enum Refusal {
     // refused for what was handed in
     CardCount,
@@ -37,14 +38,14 @@ pub enum Refusal {
 }
 
 // What is said of a line, a sheet or a read-out, and the answer of a call that answers nothing but that it was accepted.
-#[derive(Drop)]
+#[derive(Clone, Copy)]
 pub enum Reply {
     Done,
     Refused(Refusal),
 }
 
 // What a refusal is told by: "its number (21 also its card)".
-#[derive(Drop)]
+#[derive(Clone, Copy)]
 pub enum Told {
     Alone(u32),
     Card(u32, u32),

@@ -1,4 +1,5 @@
 // The programs' standard input and standard output. A read or a write that fails is said on standard error.
+#![tactic(auto)]
 ghost use Rattle.std.specs.Prelude.{◌≡◌, length};
 ghost use Rattle.io.specs.Counts.{IsPrefixLen};
 ghost use Rattle.base_streams.specs.Input.{input_of};
@@ -6,7 +7,7 @@ ghost use Rattle.base_streams.specs.Input.{input_of};
 use libc::{STDERR_FILENO, STDIN_FILENO, STDOUT_FILENO};
 
 // How many bytes were read, and whether a read failed.
-#[derive(Drop)]
+#[derive(Clone, Copy)]
 pub struct Input {
     pub count: usize,
     pub failed: bool,

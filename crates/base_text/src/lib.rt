@@ -1,11 +1,12 @@
 // Text into a lent buffer, cut off where the buffer ends. What is to be whole is counted first.
+#![tactic(auto)]
 ghost use Rattle.std.specs.Prelude.{◌-◌, ◌≤◌, min, ◌≡◌, length, take};
 ghost use Rattle.std.proofs.lemmas.List.Edits.{sets};
 ghost use Rattle.base_text.specs.declared.Progress.TheVariants.{Next};
 ghost use Rattle.base_text.specs.Put.{counted_on, Put, fitting_of, count_of};
 
 // How far a text is written; or counted, where nothing is to be written; or that the buffer is too short, or the count for 64 bits.
-#[derive(Drop)]
+#[derive(Clone, Copy)]
 pub enum Progress {
     Next(usize),
     Counting(usize),

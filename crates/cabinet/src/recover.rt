@@ -29,8 +29,8 @@ pub struct RecordsAnswer {
 }
 
 // What there is to put into the list of card records.
-fn numbers_of(answer: FixAnswer) -> CardNumbers
-    ensures { result ≡ numbers_of answer.reply answer.cabinet.core }
+fn numbers_of(answer: &FixAnswer) -> CardNumbers
+    ensures { result ≡ numbers_of answer.now.reply answer.now.cabinet.core }
 {
     let core = answer.cabinet.core;
     let reply = answer.reply;
@@ -92,7 +92,7 @@ impl Cabinet {
         ensures { FixLent self records.old records.new list.old list.new result.reply result.cabinet }
     {
         let answer = self.fixed(records.len(), list);
-        let numbers = numbers_of(answer);
+        let numbers = numbers_of(&answer);
         cabinet_records::fill(records, numbers);
         answer
     }

@@ -1,4 +1,5 @@
 // What the calls are said with: phase, head, slots, vectors and replies; a head, a free slot and a core anew; reading a phase and a number by card.
+#![tactic(auto)]
 ghost use Rattle.std.specs.Prelude.{◌≡◌};
 ghost use Rattle.base_laws.specs.Below.{tabulate};
 ghost use Rattle.theory_history.specs.Vector.{no_entries};
@@ -8,7 +9,7 @@ ghost use Rattle.cabinet_layout.specs.Shape.{limits16, phase_of, at, slot_for, v
 use base_limits::Limits;
 use base_refusal::{Refusal, Reply};
 
-#[derive(Drop)]
+#[derive(Clone, Copy)]
 pub enum Phase {
     Up,
     Down,
@@ -16,14 +17,14 @@ pub enum Phase {
 }
 
 // What open answers: the number of the change.
-#[derive(Drop)]
+#[derive(Clone, Copy)]
 pub enum OpenReply {
     Opened(u32),
     NotOpened(Refusal),
 }
 
 // What safe answers.
-#[derive(Drop)]
+#[derive(Clone, Copy)]
 pub enum SafeReply {
     Safe,
     Unsafe,
@@ -31,7 +32,7 @@ pub enum SafeReply {
 }
 
 // What is small in a cabinet: session, number of cards, the last change number given, phase.
-#[derive(Drop)]
+#[derive(Clone, Copy)]
 pub struct Head {
     pub session: u32,
     pub cards: u32,
@@ -40,13 +41,13 @@ pub struct Head {
 }
 
 // A vector: a dependency for each card, 0 for none and a state's number plus one otherwise.
-#[derive(Drop)]
+#[derive(Clone, Copy)]
 pub struct Vector {
     pub entries: [u32; Limits::CARDS],
 }
 
 // One of the eight slots for open changes. Number 0: free.
-#[derive(Drop)]
+#[derive(Clone, Copy)]
 pub struct Slot {
     pub vector: [u32; Limits::CARDS],
     pub number: u32,
@@ -57,7 +58,7 @@ pub struct Slot {
 }
 
 // A cabinet but for its frames: what 28 looks at, and what a loss and a roll remember.
-#[derive(Drop)]
+#[derive(Clone, Copy)]
 pub struct Core {
     pub head: Head,
     pub last: [Vector; Limits::CARDS],

@@ -1,11 +1,12 @@
 // "A list of card records that the caller lends": one record per card, in card order; places beyond keep what they held.
+#![tactic(auto)]
 ghost use Rattle.std.specs.Prelude.{◌≡◌, ◌<◌};
 ghost use Rattle.cabinet_records.specs.Records.{record_at, places_used, filled};
 
 use base_limits::Limits;
 
 // One card's numbers as call 9 answers them.
-#[derive(Drop)]
+#[derive(Clone, Copy)]
 pub struct CardRecord {
     pub card: u32,
     pub stored: u32,
@@ -13,7 +14,7 @@ pub struct CardRecord {
 }
 
 // So many cards, and two numbers of each: of fix, the stored number and the line.
-#[derive(Drop)]
+#[derive(Clone, Copy)]
 pub struct CardNumbers {
     pub cards: usize,
     pub first: [u32; Limits::CARDS],

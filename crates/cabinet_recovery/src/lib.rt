@@ -1,4 +1,5 @@
 // The recovery line from what is in hand, and what fix answers.
+#![tactic(auto)]
 ghost use Rattle.std.specs.Prelude.{◌+◌, ◌*◌, ◌<◌, ◌≤◌, ◌≡◌, cond, [], ltb};
 ghost use Rattle.theory_history.specs.Line.{orphan, line_from};
 ghost use Rattle.theory_protocol.specs.Model.{is_card};
@@ -10,7 +11,7 @@ use base_refusal::Refusal;
 use cabinet_layout::Head;
 
 // What fix answers: how many changes are lost; their numbers stand in the lent list, rising.
-#[derive(Drop)]
+#[derive(Clone, Copy)]
 pub enum FixReply {
     Fixed(usize),
     NotFixed(Refusal),

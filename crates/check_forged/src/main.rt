@@ -1,5 +1,6 @@
 // What no short list of calls from a fresh cabinet reaches: 28 of each kind, numbers at their limits, what is lent and kept
 // beyond an answer, sheets of a ring with any numbers, and state 60,000.
+#![tactic(auto)]
 use base_limits::Limits;
 use cabinet::Cabinet;
 use cabinet_layout::{Core, Head, Phase};

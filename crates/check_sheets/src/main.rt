@@ -2,6 +2,7 @@
 // of 4, 2, 5, 5 and 5 bytes, and as many bytes as the count, filled up to the total with digits 0.
 // `line`: they are a read-out, and what the line program prints is printed. `page`: they are the sheet of the card. What is read
 // is printed, how many numbers of the read-out handed back are not 0, and the sheet as it is written again into so much room.
+#![tactic(auto)]
 ghost use Rattle.std.specs.Prelude.{◌<◌};
 
 use base_limits::Limits;

@@ -1,5 +1,6 @@
 // The line program: a read-out on standard input; card, stored and line of each card and the session after recovery on
 // standard output, or the refusal. Where the input can't be read to its end there is no answer.
+#![tactic(auto)]
 use base_limits::Limits;
 
 fn print(text: &[u8], n: usize) {

@@ -1,4 +1,5 @@
 // How the answers of calls are written: lines of text into a lent buffer, cut off where the buffer ends.
+#![tactic(auto)]
 ghost use Rattle.cabinet_layout.specs.Answers.{reply_of, openReplyOf, safeReplyOf};
 ghost use Rattle.base_text.specs.Put.{Put};
 ghost use Rattle.list_answers.specs.Texts.{reply_text};

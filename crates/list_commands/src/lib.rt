@@ -1,11 +1,12 @@
 // What a line of a list of calls can say, with the limits of its numbers.
+#![tactic(auto)]
 ghost use Rattle.std.specs.Prelude.{◌≡◌};
 ghost use Rattle.list_commands.specs.Calls.{as_fix, as_sheet, as_vote};
 
 use base_limits::Limits;
 
 // A call on the present cabinet, with its numbers.
-#[derive(Drop)]
+#[derive(Clone, Copy)]
 pub enum Request {
     Open {
         reads: u32,
@@ -51,7 +52,7 @@ pub enum Request {
 }
 
 // What a line says: a fresh cabinet of so many cards, a call on the present one, or neither.
-#[derive(Drop)]
+#[derive(Clone, Copy)]
 pub enum Command {
     Fresh(u32),
     Asks(Request),

@@ -1,11 +1,12 @@
 // What the lines of a list of calls say, and where they begin.
+#![tactic(auto)]
 ghost use Rattle.std.specs.Prelude.{◌≡◌};
 ghost use Rattle.list_parse.specs.Lines.{parse_line, token_at};
 
 use list_commands::Command;
 
 // What stands at a place of a text: a line, and the place where the next one begins, or the end.
-#[derive(Drop)]
+#[derive(Clone, Copy)]
 pub enum Token {
     Line(Command, usize),
     End,

@@ -1,4 +1,5 @@
 // Lists of calls as text, over slices: text in, answers out.
+#![tactic(auto)]
 ghost use Rattle.list_results.specs.Going.{nothing_yet};
 ghost use Rattle.list_texts.specs.Steps.{Passed, Replayed, Counted};
 

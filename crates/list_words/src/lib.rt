@@ -1,11 +1,12 @@
 // The numbers of a line, each after one space.
+#![tactic(auto)]
 ghost use Rattle.std.specs.Prelude.{◌≡◌};
 ghost use Rattle.list_words.specs.Line.{next_figure, after_three, after_two, after_one, figures_at};
 
 use base_reading::Reading;
 
 // What stands after a word or a number of a line.
-#[derive(Drop)]
+#[derive(Clone, Copy)]
 enum Figure {
     Value(u32, usize),
     Nothing,
@@ -13,7 +14,7 @@ enum Figure {
 }
 
 // The numbers after the first word of a line.
-#[derive(Drop)]
+#[derive(Clone, Copy)]
 pub enum Figures {
     Zero,
     One(u32),

@@ -1,5 +1,6 @@
 // Reads a list of calls from standard input and prints the answers, a line at a time: lists of any length in bounded memory.
 // It ends where a read or a write fails, and a line that was cut off there is no call.
+#![tactic(auto)]
 ghost use Rattle.std.specs.Prelude.{◌<◌, ◌≤◌, length};
 
 use base_text::Progress;

@@ -1,4 +1,5 @@
 // Numbers in upper-case digits, read and written; the two sums of a line's check, and what stands where a line is due.
+#![tactic(auto)]
 ghost use Rattle.std.specs.Prelude.{◌≡◌, ◌+◌, ◌≤◌, ◌<◌, length, take, drop};
 ghost use Rattle.std.proofs.lemmas.List.Edits.{sets};
 ghost use Rattle.sheet_digits.specs.Digits.{is_digit, digit, digit_value, digits, number};
@@ -6,14 +7,14 @@ ghost use Rattle.sheet_digits.specs.Digits.{is_digit, digit, digit_value, digits
 use base_refusal::Refusal;
 
 // The two running sums of a line's check.
-#[derive(Drop)]
+#[derive(Clone, Copy)]
 pub struct Sums {
     pub first: u8,
     pub second: u8,
 }
 
 // What stands where a line is due.
-#[derive(Drop)]
+#[derive(Clone, Copy)]
 pub enum Line {
     Whole,
     Fault(Refusal),

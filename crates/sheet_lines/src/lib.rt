@@ -1,4 +1,5 @@
 // The header line and the frame line of a card's sheet: what they hold, and what their readers answer.
+#![tactic(auto)]
 ghost use Rattle.std.specs.Prelude.{◌≡◌};
 ghost use Rattle.sheet_lines.specs.Format.{format, format_of, Fits, plain, formats};
 ghost use Rattle.sheet_lines.specs.Lines.{header_reply, frame_reply};
@@ -9,7 +10,7 @@ use sheet_digits::Sums;
 
 // What the readers and writers of lines are told of a sheet's format: the number that says none, the greatest state,
 // what a header's number of cards is raised by, the digits of a state and of an entry, and whether entries are needs.
-#[derive(Drop)]
+#[derive(Clone, Copy)]
 pub struct Layout {
     pub none: u32,
     pub states: u32,
@@ -18,7 +19,7 @@ pub struct Layout {
     pub short: bool,
 }
 
-#[derive(Drop)]
+#[derive(Clone, Copy)]
 pub struct Header {
     pub session: u32,
     pub card: u32,
@@ -28,28 +29,28 @@ pub struct Header {
 }
 
 // A frame without its state: its change number and its entries, each held as the least state that must be kept, 0 for none.
-#[derive(Drop)]
+#[derive(Clone, Copy)]
 pub struct Frame {
     pub change: u32,
     pub entries: [u32; Limits::CARDS],
 }
 
 // What the reader of a header line answers.
-#[derive(Drop)]
+#[derive(Clone, Copy)]
 pub enum HeaderLine {
     Read(Header),
     Fault(Refusal),
 }
 
 // What the reader of a frame line answers: the change number, or the refusal.
-#[derive(Drop)]
+#[derive(Clone, Copy)]
 pub enum FrameLine {
     Read(u32),
     Fault(Refusal),
 }
 
 // The entries stand beside the answer; they are 0 where the line is refused.
-#[derive(Drop)]
+#[derive(Clone, Copy)]
 pub struct FrameRead {
     pub entries: [u32; Limits::CARDS],
     pub line: FrameLine,

@@ -1,4 +1,5 @@
 // The sheet that a ring of frames holds for a header, written as bytes.
+#![tactic(auto)]
 ghost use Rattle.std.specs.Prelude.{◌≡◌, ◌+◌, ◌*◌, ◌≤◌, ◌<◌, true, length};
 ghost use Rattle.std.proofs.lemmas.List.Edits.{sets};
 ghost use Rattle.sheet_lines.specs.Format.{formats, format_of, Fits};
@@ -12,7 +13,7 @@ use base_limits::Limits;
 use base_refusal::Refusal;
 use sheet_lines::{Frame, Header, Layout};
 
-#[derive(Drop)]
+#[derive(Clone, Copy)]
 pub enum Written {
     Length(usize),
     Refused(Refusal),

@@ -1,4 +1,5 @@
 // The reader of one sheet, told its card.
+#![tactic(auto)]
 ghost use Rattle.std.specs.Prelude.{◌≡◌};
 ghost use Rattle.sheet_reader.specs.Single.{sheet_read_of};
 

@@ -1,4 +1,5 @@
 // The sessions of a read-out's sheets: the lowest, and refusal 11.
+#![tactic(auto)]
 ghost use Rattle.std.specs.Prelude.{◌≡◌, ◌+◌, min, ◌&&◌, ◌||◌, get_or, ltb};
 ghost use Rattle.sheet_sessions.specs.Sessions.{lowest_to, apart};
 

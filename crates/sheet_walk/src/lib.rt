@@ -1,4 +1,5 @@
 // The walk over the lines of sheets, into a read-out by value.
+#![tactic(auto)]
 ghost use Rattle.std.specs.Prelude.{◌≡◌, cond, eqb};
 ghost use Rattle.sheet_pages.specs.Walk.{reading_of};
 
