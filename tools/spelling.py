@@ -15,6 +15,9 @@ import sys
 
 TOKEN = re.compile(r"--[^\n]*|//[^\n]*|\"(?:[^\"\\]|\\.)*\"|«[^»]*»|\.?[^\s(){}.;,@\"«»\[\]\\]+")
 DECLARED = re.compile(r"^\s*(?:(?:pub|abbrev|unfoldable|opaque) )*([^\s(){}.;,@\"«»\[\]\\:]+(?: [^\s(){}.;,@\"«»\[\]\\:]+)*) :(?= |$)")
+# what a function's own folder holds: its walk, its invariants and its answers
+WALK = re.compile(r"/proofs/.+/(?:Proof|Answers|Invariants)\.antt$")
+IMPORTED = re.compile(r"^(?:ghost )?use ([^\s{;]+?)\.?\{([^}]*)\}", re.M | re.S)
 TICKED = re.compile(r"`[^`\n]*`")
 
 
@@ -30,7 +33,7 @@ def declared(root):
     """The names that the files of definitions and lemmas declare, and whether a file of specs/ does."""
     found = collections.defaultdict(bool)
     for path in files(root, ".antt"):
-        if os.path.basename(path) in ("Proof.antt", "Answers.antt", "Invariants.antt"):
+        if WALK.search(path):
             continue
         in_specs = "/specs/" in path
         with open(path, encoding="utf-8") as it:
@@ -68,10 +71,21 @@ def table(root):
 
 def beside(path, text, own):
     """In a file of lemmas, its own small words that would fall together with a definition that is respelled there."""
-    if "/proofs/" not in path or os.path.basename(path) == "Proof.antt":
+    if "/proofs/" not in path or WALK.search(path):
         return {}
     tokens = {t for t in TOKEN.findall(text)}
     return {own[n]: own[n] + "_lem" for n in tokens & own.keys() if own[n] in tokens and own[n] not in own}
+
+
+def of_library(root, text):
+    """What a file imports from a library: such a name stays, also where one of the repository's own is spelled so."""
+    crates = set(os.listdir(os.path.join(root, "crates")))
+    found = set()
+    for module, names in IMPORTED.findall(text):
+        parts = module.split(".")
+        if not (parts[0] == "Rattle" and len(parts) > 1 and parts[1] in crates):
+            found |= set(re.split(r"[,\s]+", names))
+    return found
 
 
 def respelled(text, own, steps):
@@ -124,8 +138,10 @@ def main(argv):
     for path in files(root, (".antt", ".rt")):
         with open(path, encoding="utf-8") as it:
             text = it.read()
-        steps = lemmas if path.endswith("Proof.antt") else set()
-        new = respelled(text, {**own, **beside(path, text, own)}, steps)
+        steps = lemmas if WALK.search(path) else set()
+        stay = of_library(root, text)
+        here = {a: b for a, b in {**own, **beside(path, text, own)}.items() if a not in stay}
+        new = respelled(text, here, steps)
         if new != text:
             n += 1
             with open(path, "w", encoding="utf-8") as it:

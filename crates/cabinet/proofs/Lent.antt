@@ -21,17 +21,17 @@ use Rattle.cabinet.specs.Lent.{FixLent, FixPart}
 use Rattle.cabinet.proofs.Call.{core_fixed}
 
 -- the contract of fix, from what the three calls say
-pub lends : (s : Cabinet) (records : List CardRecord) (list listNow : List ℕ) (a : FixAnswer) → FixCarried s (length records) list listNow a.reply a.cabinet
-    → (numbers : CardNumbers) (recordsNow : List CardRecord) → numbers ≡ numbers_of a.reply a.cabinet.core → recordsNow ≡ filled numbers records → FixLent s records recordsNow list listNow a.reply a.cabinet
-lends s records list listNow a t numbers recordsNow e f =
+pub lends : (s : Cabinet) (records : List CardRecord) (list list_now : List ℕ) (a : FixAnswer) → FixCarried s (length records) list list_now a.reply a.cabinet
+    → (numbers : CardNumbers) (records_now : List CardRecord) → numbers ≡ numbers_of a.reply a.cabinet.core → records_now ≡ filled numbers records → FixLent s records records_now list list_now a.reply a.cabinet
+lends s records list list_now a t numbers records_now e f =
     let es : List Edit = (fix_plan limits16 (view s) (length records) (length list)).edits in
     record {
       carried = t;
       filled = f ∙ ap (λ (h : CardNumbers). filled h records) e
-          ∙ lent s.entries s.changes s.core records list listNow a.reply a.cabinet.core (record { told = t.told; core = core_fixed s a.cabinet es t.cabinet });
+          ∙ lent s.entries s.changes s.core records list list_now a.reply a.cabinet.core (record { told = t.told; core = core_fixed s a.cabinet es t.cabinet });
     }
 
 -- where the first n places of an array are lent, fix has n places for card records
-pub part_carried : {s : Cabinet} {n : ℕ} {records recordsNow : List CardRecord} {list listNow : List ℕ} {reply : FixReply} {next : Cabinet}
-    → FixPart s n records recordsNow list listNow reply next → n ≤ length records → FixCarried s n list listNow reply next
-part_carried {s} {n} {records} {list = list} {listNow} {reply} {next} f fit = subst (λ (k : ℕ). FixCarried s k list listNow reply next) (length-take-le n records fit) f.front.carried
+pub part_carried : {s : Cabinet} {n : ℕ} {records records_now : List CardRecord} {list list_now : List ℕ} {reply : FixReply} {next : Cabinet}
+    → FixPart s n records records_now list list_now reply next → n ≤ length records → FixCarried s n list list_now reply next
+part_carried {s} {n} {records} {list = list} {list_now} {reply} {next} f fit = subst (λ (k : ℕ). FixCarried s k list list_now reply next) (length-take-le n records fit) f.front.carried

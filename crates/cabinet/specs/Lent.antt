@@ -10,11 +10,11 @@ use Rattle.cabinet.specs.View.{view}
 use Rattle.cabinet.specs.Fixing.{FixCarried}
 
 -- call 9 with both lists lent: the plan where there are as many places as each list has, and every place of each list after it
-pub record FixLent (s : Cabinet) (records recordsNow : List CardRecord) (list listNow : List ℕ) (reply : FixReply) (next : Cabinet) : Type 0 where
-  pub carried : FixCarried s (length records) list listNow reply next
-  pub filled : recordsNow ≡ records_after (fix_plan limits16 (view s) (length records) (length list)).reply records
+pub record FixLent (s : Cabinet) (records records_now : List CardRecord) (list list_now : List ℕ) (reply : FixReply) (next : Cabinet) : Type 0 where
+  pub carried : FixCarried s (length records) list list_now reply next
+  pub filled : records_now ≡ records_after (fix_plan limits16 (view s) (length records) (length list)).reply records
 
 -- the same where the first n places of an array of card records are lent: the others keep what they held
-pub record FixPart (s : Cabinet) (n : ℕ) (records recordsNow : List CardRecord) (list listNow : List ℕ) (reply : FixReply) (next : Cabinet) : Type 0 where
-  pub front : FixLent s (take n records) (take n recordsNow) list listNow reply next
-  pub beyond : drop n recordsNow ≡ drop n records
+pub record FixPart (s : Cabinet) (n : ℕ) (records records_now : List CardRecord) (list list_now : List ℕ) (reply : FixReply) (next : Cabinet) : Type 0 where
+  pub front : FixLent s (take n records) (take n records_now) list list_now reply next
+  pub beyond : drop n records_now ≡ drop n records

@@ -15,7 +15,7 @@ pub mod stores;
 pub mod votes;
 
 // A cabinet by value. Frames stand in a ring: state x of card c has the place c * 48 + x % 48.
-#[derive(Drop)]
+#[derive(Clone, Copy)]
 pub struct Cabinet {
     // the vectors of the frames, 16 entries each
     pub entries: [u32; Limits::ENTRIES],

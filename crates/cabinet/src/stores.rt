@@ -2,7 +2,7 @@
 ghost use Rattle.base_bits.specs.Member.{member};
 ghost use Rattle.theory_protocol.specs.Calls.{store_plan, begin_plan, end_plan, safe_plan, lose_plan};
 ghost use Rattle.cabinet_layout.specs.Shape.{limits16};
-ghost use Rattle.cabinet_layout.specs.Answers.{reply_of, safeReplyOf};
+ghost use Rattle.cabinet_layout.specs.Answers.{reply_of, safe_reply_of};
 ghost use Rattle.cabinet.specs.View.{view};
 ghost use Rattle.cabinet.specs.Apply.{Carried};
 
@@ -59,7 +59,7 @@ impl Cabinet {
 
     // 7. safe
     pub fn safe(self, change: u32) -> SafeAnswer
-        ensures { Carried self (safe_plan limits16 (view self) change) (safeReplyOf result.reply) result.cabinet }
+        ensures { Carried self (safe_plan limits16 (view self) change) (safe_reply_of result.reply) result.cabinet }
     {
         let core = self.core;
         let r = cabinet_trimming::safe(&self.entries, &self.changes, core, change);

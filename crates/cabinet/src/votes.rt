@@ -2,7 +2,7 @@
 ghost use Rattle.base_bits.specs.Member.{member};
 ghost use Rattle.theory_protocol.specs.Calls.{open_plan, take_plan, vote_plan, withdraw_plan};
 ghost use Rattle.cabinet_layout.specs.Shape.{limits16};
-ghost use Rattle.cabinet_layout.specs.Answers.{reply_of, openReplyOf};
+ghost use Rattle.cabinet_layout.specs.Answers.{reply_of, open_reply_of};
 ghost use Rattle.cabinet.specs.View.{view};
 ghost use Rattle.cabinet.specs.Apply.{Carried};
 
@@ -11,7 +11,7 @@ use crate::{Answer, Cabinet, OpenAnswer};
 impl Cabinet {
     // 1. open
     pub fn open(mut self, reads: u16, writes: u16) -> OpenAnswer
-        ensures { Carried self (open_plan limits16 (view self) (member reads) (member writes)) (openReplyOf result.reply) result.cabinet }
+        ensures { Carried self (open_plan limits16 (view self) (member reads) (member writes)) (open_reply_of result.reply) result.cabinet }
     {
         let core = self.core;
         let valid = cabinet_valid::cabinet_valid(&self.entries, &self.changes, core);

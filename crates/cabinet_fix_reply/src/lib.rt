@@ -4,7 +4,7 @@ ghost use Rattle.std.specs.Prelude.{◌≡◌, not, ◌||◌, [], ltb};
 ghost use Rattle.base_laws.specs.Below.{count_below};
 ghost use Rattle.theory_protocol.specs.Calls.{fix_checks};
 ghost use Rattle.cabinet_layout.specs.Shape.{limits16, present_of, writes_model};
-ghost use Rattle.cabinet_layout.specs.Answers.{firstFailing, after28};
+ghost use Rattle.cabinet_layout.specs.Answers.{first_failing, after28};
 ghost use Rattle.cabinet_recovery.specs.Fix.{but_last};
 
 use base_limits::Limits;
@@ -15,7 +15,7 @@ use cabinet_writes::some_writing;
 
 // The checks before the last: 28, 20, 24, 33.
 pub fn fix_verdict(valid: bool, head: Head, writing: [u32; Limits::CARDS]) -> Reply
-    ensures { result ≡ firstFailing (but_last (after28 (not valid) (fix_checks limits16 (writes_model head [] [] [] writing) 0 0))) }
+    ensures { result ≡ first_failing (but_last (after28 (not valid) (fix_checks limits16 (writes_model head [] [] [] writing) 0 0))) }
 {
     let phase = head.phase;
     let down = is_down(phase);

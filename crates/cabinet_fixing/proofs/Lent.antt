@@ -21,7 +21,7 @@ use Rattle.theory_protocol.specs.Valid.{valid}
 use Rattle.theory_protocol.specs.Calls.{some_writing, lines, card_rows, lost_numbers, fix_checks, fix_plan}
 use Rattle.cabinet_layout.specs.declared.Core.{Core}
 use Rattle.cabinet_layout.specs.Shape.{limits16, at, present_of, model_of}
-use Rattle.cabinet_layout.specs.Answers.{firstFailing}
+use Rattle.cabinet_layout.specs.Answers.{first_failing}
 use Rattle.cabinet_layout.specs.Applied.{applied_all}
 use Rattle.base_refusal.specs.declared.Reply.TheVariants.{Done}
 use Rattle.cabinet_layout.proofs.Limits.{width16}
@@ -73,7 +73,7 @@ module _ (n : ℕ) (few : n ≤ limits16.width) where
   rows_long f = length_selected limits16.width (present_of n) f ∙ count_first (present_of n) limits16.width n few there absent
 
 -- ---- an accepted plan has no check that fails
-none_fails : (cs : List Check) (a x : Answer) (es : List Edit) → accepted x ≡ (checked cs a es).reply → firstFailing cs ≡ Done
+none_fails : (cs : List Check) (a x : Answer) (es : List Edit) → accepted x ≡ (checked cs a es).reply → first_failing cs ≡ Done
 none_fails [] a x es e = refl
 none_fails ((true ⇒ r) ∷ cs) a x es e = let z : ◌≡◌ {A = ℕ} 0 1 = cc in absurd (omega arith)
 none_fails ((false ⇒ r) ∷ cs) a x es e = none_fails cs a x es e
@@ -82,8 +82,8 @@ or_out : (a b : Bool) → a || b ≡ false → a ≡ false
 or_out true b e = e
 or_out false b e = refl
 
-module _ (entries changes : List ℕ) (s : Core) (records : List CardRecord) (list listNow : List ℕ) (reply : FixReply) (next : Core)
-    (t : CoreFixed entries changes s (length records) list listNow reply next) where
+module _ (entries changes : List ℕ) (s : Core) (records : List CardRecord) (list list_now : List ℕ) (reply : FixReply) (next : Core)
+    (t : CoreFixed entries changes s (length records) list list_now reply next) where
   abbrev m : Model
   m = model_of entries changes s
 
@@ -100,8 +100,8 @@ module _ (entries changes : List ℕ) (s : Core) (records : List CardRecord) (li
   made = fix_plan limits16 m (length records) (length list)
 
   -- what is answered, where the reply is r
-  told_reply : (r : FixReply) → reply ≡ r → fix_reply_of n next.stored next.line listNow r ≡ made.reply
-  told_reply r d = sym (ap (fix_reply_of n next.stored next.line listNow) d) ∙ t.told.answer
+  told_reply : (r : FixReply) → reply ≡ r → fix_reply_of n next.stored next.line list_now r ≡ made.reply
+  told_reply r d = sym (ap (fix_reply_of n next.stored next.line list_now) d) ∙ t.told.answer
 
   lent_refused : (q : Refusal) → reply ≡ NotFixed q → filled (numbers_of reply next) records ≡ records_after made.reply records
   lent_refused q d =
@@ -113,8 +113,8 @@ module _ (entries changes : List ℕ) (s : Core) (records : List CardRecord) (li
     abbrev row : ℕ → CardRow
     row c = record { card = c; stored = at next.stored c; line = at next.line c }
 
-    off : firstFailing checks ≡ Done
-    off = none_fails checks answered (fixed (rows_of n next.stored next.line) (take k listNow)) (fix (lines limits16 m) ∷ []) (told_reply (Fixed k) d)
+    off : first_failing checks ≡ Done
+    off = none_fails checks answered (fixed (rows_of n next.stored next.line) (take k list_now)) (fix (lines limits16 m) ∷ []) (told_reply (Fixed k) d)
 
     abbrev wrong : Bool
     wrong = not (is_down m.phase)

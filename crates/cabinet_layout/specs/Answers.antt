@@ -13,15 +13,15 @@ use Rattle.cabinet_layout.specs.declared.SafeReply.{SafeReply}
 use Rattle.cabinet_layout.specs.declared.SafeReply.TheVariants as safeReply
 
 -- open: the number of the change
-abbrev pub openReplyOf : OpenReply → plan.Reply
-openReplyOf (openReply.Opened k) = accepted (opened k)
-openReplyOf (openReply.NotOpened r) = refused r
+abbrev pub open_reply_of : OpenReply → plan.Reply
+open_reply_of (openReply.Opened k) = accepted (opened k)
+open_reply_of (openReply.NotOpened r) = refused r
 
 -- safe
-abbrev pub safeReplyOf : SafeReply → plan.Reply
-safeReplyOf safeReply.Safe = accepted safe
-safeReplyOf safeReply.Unsafe = accepted unsafe
-safeReplyOf (safeReply.Refused r) = refused r
+abbrev pub safe_reply_of : SafeReply → plan.Reply
+safe_reply_of safeReply.Safe = accepted safe
+safe_reply_of safeReply.Unsafe = accepted unsafe
+safe_reply_of (safeReply.Refused r) = refused r
 
 -- the checks after the first
 abbrev pub rest : List Check → List Check
@@ -38,6 +38,6 @@ next Done fails r = cond fails (Refused r) Done
 next (Refused q) fails r = Refused q
 
 -- the first check that fails refuses
-abbrev pub firstFailing : List Check → Reply
-firstFailing [] = Done
-firstFailing ((fails ⇒ r) ∷ cs) = cond fails (Refused r) (firstFailing cs)
+abbrev pub first_failing : List Check → Reply
+first_failing [] = Done
+first_failing ((fails ⇒ r) ∷ cs) = cond fails (Refused r) (first_failing cs)

@@ -22,7 +22,7 @@ use Rattle.cabinet_layout.specs.declared.Core.{Core}
 use Rattle.base_refusal.specs.declared.Reply.{Reply}
 use Rattle.base_refusal.specs.declared.Reply.TheVariants.{Done, Refused}
 use Rattle.cabinet_layout.specs.Shape.{limits16, at, list_of, present_of, writes_model}
-use Rattle.cabinet_layout.specs.Answers.{firstFailing, after28, next}
+use Rattle.cabinet_layout.specs.Answers.{first_failing, after28, next}
 use Rattle.cabinet_layout.proofs.Limits.{width16}
 use Rattle.cabinet_layout.proofs.Checks.{done_plan, refused_plan}
 use Rattle.cabinet_recovery.specs.declared.FixReply.TheVariants.{Fixed, NotFixed}
@@ -46,7 +46,7 @@ rises_later {changes} {from} {ends} later r l = record { card = each }
         record { some = λ x a u. (r.card c h).some x (omega arith) u; next = λ x a u. (r.card c h).next x (omega arith) u }
 
 -- ---- the last check
-last_check : (cs : List Check) (b : Bool) (r : Refusal) → firstFailing (cs ++ (b ⇒ r ∷ [])) ≡ next (firstFailing cs) b r
+last_check : (cs : List Check) (b : Bool) (r : Refusal) → first_failing (cs ++ (b ⇒ r ∷ [])) ≡ next (first_failing cs) b r
 last_check [] b r = refl
 last_check ((true ⇒ q) ∷ cs) b r = refl
 last_check ((false ⇒ q) ∷ cs) b r = last_check cs b r
@@ -85,7 +85,7 @@ module _ (entries changes : List ℕ) (core : Core) where
 
   module _ (cp : ℕ) (before : List ℕ) where
     abbrev first : Reply
-    first = firstFailing (but_last (fix_checks limits16 found cp 0))
+    first = first_failing (but_last (fix_checks limits16 found cp 0))
 
     abbrev checks : List Check
     checks = fix_checks limits16 found cp (length before)
@@ -100,12 +100,12 @@ module _ (entries changes : List ℕ) (core : Core) where
     abbrev is_short : ℕ → Bool
     is_short k = ltb cp (count_below limits16.width (present_of core.head.cards)) || ltb (length before) k
 
-    answer_of : (b : Bool) → first ≡ Done → is_short (length numbers) ≡ b → firstFailing checks ≡ next Done b TooShort
+    answer_of : (b : Bool) → first ≡ Done → is_short (length numbers) ≡ b → first_failing checks ≡ next Done b TooShort
     answer_of b e s =
         last_check (but_last (fix_checks limits16 found cp 0)) too_short TooShort
         ∙ ap₂ (λ (v : Reply) (t : Bool). next v t TooShort) e (ap (λ (k : ℕ). ltb cp k || ltb (length before) (length numbers)) (length_selected limits16.width (present_of core.head.cards) _) ∙ s)
 
-    refused_told : (q : Refusal) → firstFailing checks ≡ Refused q → FixWorked found the_plan core.head.cards core.stored (list_of (λ c. 0)) before before (NotFixed q)
+    refused_told : (q : Refusal) → first_failing checks ≡ Refused q → FixWorked found the_plan core.head.cards core.stored (list_of (λ c. 0)) before before (NotFixed q)
     refused_told q e =
         let p : the_plan ≡ record { reply = refused q; edits = [] } = refused_plan checks (fixed (card_rows limits16 found) numbers) (fix (lines limits16 found) ∷ []) q e in
         record {
@@ -142,8 +142,8 @@ module _ (entries changes : List ℕ) (core : Core) where
         }
 
     -- the checks before the last, by what the check for 28 found
-    pub first_told : (whole : Bool) (r : Reply) → whole ≡ valid limits16 found → r ≡ firstFailing (but_last (after28 (not whole) (fix_checks limits16 (writes_model core.head [] [] [] core.writing) 0 0))) → first ≡ r
-    first_told whole r ew e = sym (e ∙ ap (λ (b : Bool). firstFailing (but_last (after28 (not b) (fix_checks limits16 (writes_model core.head [] [] [] core.writing) 0 0)))) ew)
+    pub first_told : (whole : Bool) (r : Reply) → whole ≡ valid limits16 found → r ≡ first_failing (but_last (after28 (not whole) (fix_checks limits16 (writes_model core.head [] [] [] core.writing) 0 0))) → first ≡ r
+    first_told whole r ew e = sym (e ∙ ap (λ (b : Bool). first_failing (but_last (after28 (not b) (fix_checks limits16 (writes_model core.head [] [] [] core.writing) 0 0)))) ew)
 
     -- a cabinet that they let pass is valid
     valid_known : first ≡ Done → valid limits16 found ≡ true

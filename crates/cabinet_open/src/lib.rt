@@ -1,7 +1,7 @@
 // Call 1 over the core of a cabinet: open. It is told what the check for 28 found.
 #![tactic(auto)]
 ghost use Rattle.base_bits.specs.Member.{member};
-ghost use Rattle.cabinet_layout.specs.Answers.{openReplyOf};
+ghost use Rattle.cabinet_layout.specs.Answers.{open_reply_of};
 ghost use Rattle.cabinet_layout.specs.Applied.{CoreCarried};
 ghost use Rattle.cabinet_plans.specs.Plans.{open_on};
 
@@ -17,7 +17,7 @@ pub struct OpenedCore {
 
 // 1. open
 pub fn open(valid: bool, mut core: Core, reads: u16, writes: u16) -> OpenedCore
-    ensures { CoreCarried core (open_on valid core (member reads) (member writes)) (openReplyOf result.reply) result.core }
+    ensures { CoreCarried core (open_on valid core (member reads) (member writes)) (open_reply_of result.reply) result.core }
 {
     let slots = core.slots;
     let base = core.base;

@@ -3,7 +3,7 @@
 ghost use Rattle.std.specs.Prelude.{◌≡◌, not};
 ghost use Rattle.base_bits.specs.Member.{member};
 ghost use Rattle.theory_protocol.specs.Calls.{open_checks, opened_change};
-ghost use Rattle.cabinet_layout.specs.Answers.{firstFailing, after28};
+ghost use Rattle.cabinet_layout.specs.Answers.{first_failing, after28};
 ghost use Rattle.cabinet_layout.specs.Shape.{limits16, slots_model, slot_for};
 
 use base_limits::Limits;
@@ -22,7 +22,7 @@ pub fn open_verdict(
     reads: u16,
     writes: u16,
 ) -> Reply
-    ensures { result ≡ firstFailing (after28 (not valid) (open_checks limits16 (slots_model head all base reached) (member reads) (member writes))) }
+    ensures { result ≡ first_failing (after28 (not valid) (open_checks limits16 (slots_model head all base reached) (member reads) (member writes))) }
 {
     let inside_r = base_set_bounds::within(reads, head.cards);
     let inside_w = base_set_bounds::within(writes, head.cards);

@@ -5,7 +5,7 @@ ghost use Rattle.base_bits.specs.Member.{member};
 ghost use Rattle.theory_protocol.specs.Model.{is_card};
 ghost use Rattle.theory_protocol.specs.Calls.{store_checks, end_checks, lose_checks};
 ghost use Rattle.cabinet_layout.specs.Shape.{limits16, head_model, writes_model};
-ghost use Rattle.cabinet_layout.specs.Answers.{next, firstFailing, after28};
+ghost use Rattle.cabinet_layout.specs.Answers.{next, first_failing, after28};
 
 use base_limits::Limits;
 use base_refusal::{Refusal, Reply};
@@ -44,7 +44,7 @@ pub fn store_verdict(
     card: u32,
     state: u32,
 ) -> Reply
-    ensures { result ≡ firstFailing (after28 (not valid) (store_checks limits16 (writes_model head stored held [] writing) card state)) }
+    ensures { result ≡ first_failing (after28 (not valid) (store_checks limits16 (writes_model head stored held [] writing) card state)) }
 {
     let there = is_card(head, card);
     let phase = head.phase;
@@ -72,7 +72,7 @@ pub fn end_verdict(
     card: u32,
     state: u32,
 ) -> Reply
-    ensures { result ≡ firstFailing (after28 (not valid) (end_checks limits16 (writes_model head stored [] [] writing) card state)) }
+    ensures { result ≡ first_failing (after28 (not valid) (end_checks limits16 (writes_model head stored [] [] writing) card state)) }
 {
     let there = is_card(head, card);
     let phase = head.phase;
@@ -92,7 +92,7 @@ pub fn end_verdict(
 
 // 8. lose
 pub fn lose_verdict(valid: bool, head: Head, cards: u16) -> Reply
-    ensures { result ≡ firstFailing (after28 (not valid) (lose_checks limits16 (head_model head) (member cards))) }
+    ensures { result ≡ first_failing (after28 (not valid) (lose_checks limits16 (head_model head) (member cards))) }
 {
     let inside = base_set_bounds::within(cards, head.cards);
     let r = next(Reply::Done, !valid, Refusal::BadCabinet);

@@ -5,7 +5,7 @@ ghost use Rattle.base_bits.specs.Member.{member};
 ghost use Rattle.theory_protocol.specs.Model.{with_card};
 ghost use Rattle.theory_protocol.specs.Calls.{trim_checks, roll_checks, all_rolled};
 ghost use Rattle.cabinet_layout.specs.Shape.{limits16, set_of, head_model, bare, with_line, model_of};
-ghost use Rattle.cabinet_layout.specs.Answers.{firstFailing, after28};
+ghost use Rattle.cabinet_layout.specs.Answers.{first_failing, after28};
 
 use base_limits::Limits;
 use base_refusal::{Refusal, Reply};
@@ -14,7 +14,7 @@ use cabinet_replies::{is_card, next};
 
 // 6. trim
 pub fn trim_verdict(valid: bool, head: Head) -> Reply
-    ensures { result ≡ firstFailing (after28 (not valid) (trim_checks limits16 (head_model head))) }
+    ensures { result ≡ first_failing (after28 (not valid) (trim_checks limits16 (head_model head))) }
 {
     let phase = head.phase;
     let up = is_up(phase);
@@ -24,7 +24,7 @@ pub fn trim_verdict(valid: bool, head: Head) -> Reply
 
 // 10. roll
 pub fn roll_verdict(valid: bool, head: Head, rolled: u16, card: u32) -> Reply
-    ensures { result ≡ firstFailing (after28 (not valid) (roll_checks limits16 (model_of [] [] (with_line (bare head) [] rolled)) card)) }
+    ensures { result ≡ first_failing (after28 (not valid) (roll_checks limits16 (model_of [] [] (with_line (bare head) [] rolled)) card)) }
 {
     let there = is_card(head, card);
     let phase = head.phase;

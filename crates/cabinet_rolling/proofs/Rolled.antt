@@ -11,7 +11,7 @@ use Rattle.theory_protocol.specs.Valid.{valid}
 use Rattle.theory_protocol.specs.Calls.{roll_checks}
 use Rattle.theory_protocol.specs.Plan.{Check}
 use Rattle.base_refusal.specs.declared.Reply.TheVariants.{Done}
-use Rattle.cabinet_layout.specs.Answers.{firstFailing, rest}
+use Rattle.cabinet_layout.specs.Answers.{first_failing, rest}
 use Rattle.cabinet_layout.specs.Shape.{head_of, limits16, set_of, at, vector_for, with_head, with_vectors, with_numbers, with_line}
 use lib.ListN.{set}
 use Rattle.base_bits.specs.Member.{member}
@@ -31,12 +31,12 @@ pub record Rolls (m : Model) (c : ℕ) : Type 0 where
   pub card : c < 16
   pub room : m.session ≡ 4294967295 → ⊥
 
-pub rolls : (m : Model) (c : ℕ) → firstFailing (roll_checks limits16 m c) ≡ Done → Rolls m c
+pub rolls : (m : Model) (c : ℕ) → first_failing (roll_checks limits16 m c) ≡ Done → Rolls m c
 rolls m c e =
     let cs : List Check = rest (rest (roll_checks limits16 m c)) in
     let s : not (valid limits16 m) ≡ false = first_passes (not (valid limits16 m)) BadCabinet (not (is_card limits16 m c)) NoSuchCard cs e in
     let i : not (is_card limits16 m c) ≡ false = second_passes (not (valid limits16 m)) BadCabinet (not (is_card limits16 m c)) NoSuchCard cs e in
-    let two : firstFailing cs ≡ Done = two_pass (not (valid limits16 m)) BadCabinet (not (is_card limits16 m c)) NoSuchCard cs e in
+    let two : first_failing cs ≡ Done = two_pass (not (valid limits16 m)) BadCabinet (not (is_card limits16 m c)) NoSuchCard cs e in
     let r : not (is_rolling m.phase) ≡ false = first_passes (not (is_rolling m.phase)) WrongPhase (m.rolled c) AlreadyRolled [] two in
     record { card = card_below m c i; room = session_room m (not-false (valid limits16 m) s) (not-false (is_rolling m.phase) r) }
 

@@ -12,13 +12,13 @@ use Rattle.theory_protocol.specs.Plan.{Reply, Check, ◌⇒◌, checked, safe, u
 use Rattle.theory_protocol.specs.Calls.{is_safe}
 use Rattle.cabinet_layout.specs.declared.Core.{Core}
 use Rattle.cabinet_layout.specs.Shape.{limits16, open_at, model_of}
-use Rattle.cabinet_layout.specs.Answers.{firstFailing, rest, after28}
+use Rattle.cabinet_layout.specs.Answers.{first_failing, rest, after28}
 use Rattle.cabinet_layout.proofs.Checks.{folded, folded_first}
 use Rattle.cabinet_listing.specs.Lost.{some_framed}
 use Rattle.cabinet_listing.proofs.Shown.{found_line, framed_line}
 use Rattle.cabinet_safety.specs.Graded.{graded_of}
 
-graded_first : (cs : List Check) (good : Bool) → graded_of (firstFailing cs) good ≡ (checked cs (cond good safe unsafe) []).reply
+graded_first : (cs : List Check) (good : Bool) → graded_of (first_failing cs) good ≡ (checked cs (cond good safe unsafe) []).reply
 graded_first [] good = refl
 graded_first ((true ⇒ r) ∷ cs) good = refl
 graded_first ((false ⇒ r) ∷ cs) good = graded_first cs good

@@ -6,7 +6,7 @@ ghost use Rattle.theory_protocol.specs.Edit.{remembered};
 ghost use Rattle.theory_protocol.specs.Calls.{safe_checks, is_safe};
 ghost use Rattle.theory_protocol.specs.Plan.{checked, accepted, safe, unsafe};
 ghost use Rattle.cabinet_layout.specs.Shape.{limits16, open_at, model_of};
-ghost use Rattle.cabinet_layout.specs.Answers.{safeReplyOf, after28};
+ghost use Rattle.cabinet_layout.specs.Answers.{safe_reply_of, after28};
 ghost use Rattle.cabinet_listing.specs.Lost.{framed_by, some_framed};
 ghost use Rattle.cabinet_safety.specs.Graded.{graded_of};
 
@@ -113,7 +113,7 @@ fn would_stay<'a>(
 }
 
 fn graded(good: bool) -> SafeReply
-    ensures { safeReplyOf result ≡ accepted (cond good safe unsafe) }
+    ensures { safe_reply_of result ≡ accepted (cond good safe unsafe) }
 {
     if good {
         SafeReply::Safe
@@ -124,7 +124,7 @@ fn graded(good: bool) -> SafeReply
 
 // The answer on change k, whose checks gave that reply.
 fn answered(r: Reply, good: bool) -> SafeReply
-    ensures { safeReplyOf result ≡ graded_of r good }
+    ensures { safe_reply_of result ≡ graded_of r good }
 {
     match r {
         Reply::Done => graded(good),
@@ -140,7 +140,7 @@ pub fn safe_verdict<'a>(
     core: Core,
     k: u32,
 ) -> SafeReply
-    ensures { safeReplyOf result ≡ (checked (after28 (not valid) (safe_checks limits16 (model_of entries.now changes.now core) k)) (cond (is_safe limits16 (model_of entries.now changes.now core) k) safe unsafe) []).reply }
+    ensures { safe_reply_of result ≡ (checked (after28 (not valid) (safe_checks limits16 (model_of entries.now changes.now core) k)) (cond (is_safe limits16 (model_of entries.now changes.now core) k) safe unsafe) []).reply }
 {
     if !valid {
         return SafeReply::Refused(Refusal::BadCabinet);

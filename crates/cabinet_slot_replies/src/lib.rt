@@ -3,7 +3,7 @@
 ghost use Rattle.std.specs.Prelude.{◌≡◌, not, []};
 ghost use Rattle.theory_protocol.specs.Calls.{vote_checks, take_checks, withdraw_checks};
 ghost use Rattle.cabinet_layout.specs.Shape.{limits16, slots_model};
-ghost use Rattle.cabinet_layout.specs.Answers.{firstFailing, after28};
+ghost use Rattle.cabinet_layout.specs.Answers.{first_failing, after28};
 
 use base_limits::Limits;
 use base_refusal::{Refusal, Reply};
@@ -14,7 +14,7 @@ use cabinet_slots::{slot_at, slot_of};
 
 // 2. vote
 pub fn vote_verdict(valid: bool, head: Head, all: [Slot; Limits::SLOTS], k: u32, card: u32) -> Reply
-    ensures { result ≡ firstFailing (after28 (not valid) (vote_checks limits16 (slots_model head all [] []) k card)) }
+    ensures { result ≡ first_failing (after28 (not valid) (vote_checks limits16 (slots_model head all [] []) k card)) }
 {
     let there = is_card(head, card);
     let phase = head.phase;
@@ -33,7 +33,7 @@ pub fn vote_verdict(valid: bool, head: Head, all: [Slot; Limits::SLOTS], k: u32,
 
 // 4. withdraw
 pub fn withdraw_verdict(valid: bool, head: Head, all: [Slot; Limits::SLOTS], k: u32) -> Reply
-    ensures { result ≡ firstFailing (after28 (not valid) (withdraw_checks limits16 (slots_model head all [] []) k)) }
+    ensures { result ≡ first_failing (after28 (not valid) (withdraw_checks limits16 (slots_model head all [] []) k)) }
 {
     let phase = head.phase;
     let up = is_up(phase);
@@ -48,7 +48,7 @@ pub fn withdraw_verdict(valid: bool, head: Head, all: [Slot; Limits::SLOTS], k: 
 
 // 3. take
 pub fn take_verdict(valid: bool, head: Head, all: [Slot; Limits::SLOTS], k: u32, card: u32) -> Reply
-    ensures { result ≡ firstFailing (after28 (not valid) (take_checks limits16 (slots_model head all [] []) k card)) }
+    ensures { result ≡ first_failing (after28 (not valid) (take_checks limits16 (slots_model head all [] []) k card)) }
 {
     let there = is_card(head, card);
     let phase = head.phase;

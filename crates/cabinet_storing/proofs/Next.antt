@@ -14,7 +14,7 @@ use Rattle.theory_protocol.specs.Calls.{store_checks, end_checks}
 use Rattle.base_refusal.specs.declared.Refusal.TheVariants.{BadCabinet, NoSuchCard, WrongPhase, StoreOutside}
 use Rattle.theory_protocol.specs.Edit.{Edit, remembered}
 use Rattle.base_refusal.specs.declared.Reply.TheVariants.{Done}
-use Rattle.cabinet_layout.specs.Answers.{firstFailing, rest, after28}
+use Rattle.cabinet_layout.specs.Answers.{first_failing, rest, after28}
 use Rattle.cabinet_layout.specs.Shape.{in_phase, limits16, at, open_at, list_of, slot_for, with_head, with_slots, with_numbers}
 use Rattle.theory_history.specs.Change.{CardSet}
 use Rattle.base_laws.specs.Below.{tabulate}
@@ -28,19 +28,19 @@ use Rattle.theory_protocol.specs.Plan.{Check}
 use Rattle.cabinet_plans.proofs.Known.{valid_card, valid_reached}
 use Rattle.cabinet_plans.proofs.Call.{card_below, first_passes, second_passes, two_pass}
 
-pub store_below : (whole : Bool) (m : Model) (c x : ℕ) → firstFailing (after28 (not whole) (store_checks limits16 m c x)) ≡ Done → c < 16
+pub store_below : (whole : Bool) (m : Model) (c x : ℕ) → first_failing (after28 (not whole) (store_checks limits16 m c x)) ≡ Done → c < 16
 store_below whole m c x e = card_below m c (second_passes (not whole) BadCabinet (not (is_card limits16 m c)) NoSuchCard (rest (rest (store_checks limits16 m c x))) e)
 
-pub end_below : (whole : Bool) (m : Model) (c x : ℕ) → firstFailing (after28 (not whole) (end_checks limits16 m c x)) ≡ Done → c < 16
+pub end_below : (whole : Bool) (m : Model) (c x : ℕ) → first_failing (after28 (not whole) (end_checks limits16 m c x)) ≡ Done → c < 16
 end_below whole m c x e = card_below m c (second_passes (not whole) BadCabinet (not (is_card limits16 m c)) NoSuchCard (rest (rest (end_checks limits16 m c x))) e)
 
 -- a write goes up to a state that the card holds
-pub begin_room : (m : Model) (c x : ℕ) → firstFailing (store_checks limits16 m c x) ≡ Done → x ≤ 60000
+pub begin_room : (m : Model) (c x : ℕ) → first_failing (store_checks limits16 m c x) ≡ Done → x ≤ 60000
 begin_room m c x e =
     let cs : List Check = rest (rest (store_checks limits16 m c x)) in
     let s : valid limits16 m ≡ true = not-false (valid limits16 m) (first_passes (not (valid limits16 m)) BadCabinet (not (is_card limits16 m c)) NoSuchCard cs e) in
     let i : not (is_card limits16 m c) ≡ false = second_passes (not (valid limits16 m)) BadCabinet (not (is_card limits16 m c)) NoSuchCard cs e in
-    let two : firstFailing cs ≡ Done = two_pass (not (valid limits16 m)) BadCabinet (not (is_card limits16 m c)) NoSuchCard cs e in
+    let two : first_failing cs ≡ Done = two_pass (not (valid limits16 m)) BadCabinet (not (is_card limits16 m c)) NoSuchCard cs e in
     let inside : leb (m.numbers.stored c) x && leb x (m.numbers.held c) ≡ true =
     not-false (leb (m.numbers.stored c) x && leb x (m.numbers.held c)) (second_passes (is_rolling m.phase) WrongPhase (not (leb (m.numbers.stored c) x && leb x (m.numbers.held c))) StoreOutside (rest (rest cs)) two) in
     let there : m.present c ≡ true = and_right (ltb c limits16.width) (m.present c) (not-false (is_card limits16 m c) i) in

@@ -22,7 +22,7 @@ use Rattle.cabinet_layout.specs.declared.Vector.{Vector}
 use Rattle.cabinet_layout.specs.declared.Core.{Core}
 use Rattle.base_refusal.specs.declared.Reply.{Reply}
 use Rattle.base_refusal.specs.declared.Reply.TheVariants.{Done, Refused}
-use Rattle.cabinet_layout.specs.Answers.{reply_of, firstFailing, after28}
+use Rattle.cabinet_layout.specs.Answers.{reply_of, first_failing, after28}
 use Rattle.cabinet_layout.specs.Shape.{limits16, at, list_of, vector_at, vector_for, open_of, open_at, slot_for, with_vectors, with_numbers, with_slots}
 use Rattle.cabinet_layout.specs.Applied.{applied_all, entries_all, changes_all}
 use Rattle.cabinet_layout.proofs.Checks.{done_plan, refused_plan}
@@ -105,7 +105,7 @@ module _ (whole : Bool) (s : Core) (k c : ℕ) where
   those p = share_edit (open_at s.slots p) c ∷ edit.place p (took_share limits16 (open_at s.slots p) c) ∷ []
 
   pub take_done : (p : ℕ) (vector : List ℕ) (state made : ℕ) (r : Reply) (next : Core)
-      → r ≡ firstFailing checks
+      → r ≡ first_failing checks
       → r ≡ Done
       → p ≡ slot_of limits16 (alone s) k
       → next ≡ applied_all (those p) s
@@ -121,7 +121,7 @@ module _ (whole : Bool) (s : Core) (k c : ℕ) where
         changes = λ l. fm l ∙ ap (λ (i : ℕ). changes_all (those i) s l) ep ∙ sym (ap (λ (x : Plan). changes_all x.edits s l) pl);
       }
 
-  pub take_refused : (vector : List ℕ) (r : Reply) (q : Refusal) (next : Core) → r ≡ firstFailing checks → r ≡ Refused q → next ≡ s
+  pub take_refused : (vector : List ℕ) (r : Reply) (q : Refusal) (next : Core) → r ≡ first_failing checks → r ≡ Refused q → next ≡ s
       → TakeCarriedOn whole s k c vector 0 0 (reply_of r) next
   take_refused vector r q next e d n =
       let P : ℕ = slot_of limits16 (alone s) k in

@@ -3,7 +3,7 @@ use Prim.Native.Nat.{ℕ, ◌<◌}
 use mathlib.Core.Path.{◌≡◌}
 use mathlib.Core.Bool.{true, false, not, ◌&&◌}
 use mathlib.Core.List.{List, []}
-use borrow.Author.Tests.{not-false, not_true}
+use borrow.Author.Tests.{not-false, not-true}
 use Rattle.base_laws.proofs.Logic.{and_right, and_intro, not_intro}
 use Rattle.theory_protocol.specs.Model.{Model, OpenChange, is_card, is_up, is_known, is_open, decided, slot_of}
 use Rattle.theory_protocol.specs.Valid.{valid}
@@ -11,7 +11,7 @@ use Rattle.theory_protocol.specs.Calls.{take_checks}
 use Rattle.base_refusal.specs.declared.Refusal.TheVariants.{BadCabinet, NoSuchCard, WrongPhase, NotAwaited, NotDecided}
 use Rattle.theory_protocol.specs.Plan.{Check}
 use Rattle.base_refusal.specs.declared.Reply.TheVariants.{Done}
-use Rattle.cabinet_layout.specs.Answers.{firstFailing, rest}
+use Rattle.cabinet_layout.specs.Answers.{first_failing, rest}
 use Rattle.cabinet_layout.specs.Shape.{limits16}
 use Rattle.theory_history.specs.Change.{touches}
 use Rattle.cabinet_plans.proofs.Known.{valid_slots, room_known, room_below}
@@ -25,19 +25,19 @@ pub record Taken (m : Model) (k c : ℕ) : Type 0 where
   pub left : (m.slot (slot_of limits16 m k)).taken c ≡ false
   pub found : is_open (m.slot (slot_of limits16 m k)) ≡ true
 
-pub taken : (m : Model) (k c : ℕ) → firstFailing (take_checks limits16 m k c) ≡ Done → Taken m k c
+pub taken : (m : Model) (k c : ℕ) → first_failing (take_checks limits16 m k c) ≡ Done → Taken m k c
 taken m k c e =
     let cs : List Check = take_checks limits16 m k c in
-    let two : firstFailing (rest (rest cs)) ≡ Done = two_pass (not (valid limits16 m)) BadCabinet (not (is_card limits16 m c)) NoSuchCard (rest (rest cs)) e in
+    let two : first_failing (rest (rest cs)) ≡ Done = two_pass (not (valid limits16 m)) BadCabinet (not (is_card limits16 m c)) NoSuchCard (rest (rest cs)) e in
     let known : not (is_known limits16 m k) ≡ false = second_passes (not (is_up m.phase)) WrongPhase (not (is_known limits16 m k)) NotAwaited (rest (rest (rest (rest cs)))) two in
     let o : OpenChange = m.slot (slot_of limits16 m k) in
-    let four : firstFailing (rest (rest (rest (rest cs)))) ≡ Done = two_pass (not (is_up m.phase)) WrongPhase (not (is_known limits16 m k)) NotAwaited (rest (rest (rest (rest cs)))) two in
+    let four : first_failing (rest (rest (rest (rest cs)))) ≡ Done = two_pass (not (is_up m.phase)) WrongPhase (not (is_known limits16 m k)) NotAwaited (rest (rest (rest (rest cs)))) two in
     let due : not (touches o.change c && not (o.taken c)) ≡ false = second_passes (not (decided limits16 o)) NotDecided (not (touches o.change c && not (o.taken c))) NotAwaited [] four in
     let f : Found m k = found m k known in
     record {
       whole = not-false (valid limits16 m) (first_passes (not (valid limits16 m)) BadCabinet (not (is_card limits16 m c)) NoSuchCard (rest (rest cs)) e);
       card = card_below m c (second_passes (not (valid limits16 m)) BadCabinet (not (is_card limits16 m c)) NoSuchCard (rest (rest cs)) e);
-      left = not_true (o.taken c) (and_right (touches o.change c) (not (o.taken c)) (not-false (touches o.change c && not (o.taken c)) due));
+      left = not-true (o.taken c) (and_right (touches o.change c) (not (o.taken c)) (not-false (touches o.change c && not (o.taken c)) due));
       found = f.open_there;
       slot = f.slot;
     }

@@ -3,7 +3,7 @@
 ghost use Rattle.std.specs.Prelude.{◌≡◌};
 ghost use Rattle.theory_protocol.specs.Calls.{trim_plan, safe_plan};
 ghost use Rattle.cabinet_layout.specs.Shape.{limits16, model_of};
-ghost use Rattle.cabinet_layout.specs.Answers.{reply_of, safeReplyOf};
+ghost use Rattle.cabinet_layout.specs.Answers.{reply_of, safe_reply_of};
 ghost use Rattle.cabinet_layout.specs.Applied.{CoreCarried};
 
 use base_limits::Limits;
@@ -44,7 +44,7 @@ pub fn safe<'a>(
     core: Core,
     change: u32,
 ) -> SafeReply
-    ensures { safeReplyOf result ≡ (safe_plan limits16 (model_of entries.now changes.now core) change).reply }
+    ensures { safe_reply_of result ≡ (safe_plan limits16 (model_of entries.now changes.now core) change).reply }
 {
     let valid = cabinet_valid::cabinet_valid(entries, changes, core);
     cabinet_safety::safe_verdict(valid, entries, changes, core, change)

@@ -11,7 +11,7 @@ use Rattle.theory_protocol.specs.Calls.{vote_checks, withdraw_checks}
 use Rattle.base_refusal.specs.declared.Refusal.TheVariants.{BadCabinet, NoSuchCard, WrongPhase, NotAwaited, AlreadyDecided}
 use Rattle.theory_protocol.specs.Plan.{Check}
 use Rattle.base_refusal.specs.declared.Reply.TheVariants.{Done}
-use Rattle.cabinet_layout.specs.Answers.{firstFailing, rest, after28}
+use Rattle.cabinet_layout.specs.Answers.{first_failing, rest, after28}
 use Rattle.cabinet_layout.specs.Shape.{limits16, slot_for, with_slots}
 use Rattle.cabinet_layout.specs.declared.Core.{Core}
 use Rattle.cabinet_layout.specs.Applied.{applied_all}
@@ -35,17 +35,17 @@ reached_by m k e n =
       below = λ c h w. let r : _ = valid_reached m e c h (written_there m o (valid_slots m e (slot_of limits16 m k) f.slot) f.open_there c h w) in omega arith;
     }
 
-pub voted_reached : (m : Model) (k c : ℕ) → firstFailing (vote_checks limits16 m k c) ≡ Done → Reached m k
+pub voted_reached : (m : Model) (k c : ℕ) → first_failing (vote_checks limits16 m k c) ≡ Done → Reached m k
 voted_reached m k c e =
     let cs : List Check = vote_checks limits16 m k c in
-    let two : firstFailing (rest (rest cs)) ≡ Done = two_pass (not (valid limits16 m)) BadCabinet (not (is_card limits16 m c)) NoSuchCard (rest (rest cs)) e in
+    let two : first_failing (rest (rest cs)) ≡ Done = two_pass (not (valid limits16 m)) BadCabinet (not (is_card limits16 m c)) NoSuchCard (rest (rest cs)) e in
     reached_by m k (not-false (valid limits16 m) (first_passes (not (valid limits16 m)) BadCabinet (not (is_card limits16 m c)) NoSuchCard (rest (rest cs)) e))
     (second_passes (not (is_up m.phase)) WrongPhase (not (is_known limits16 m k)) NotAwaited (rest (rest (rest (rest cs)))) two)
 
-pub withdrawn_slot : (whole : Bool) (m : Model) (k : ℕ) → firstFailing (after28 (not whole) (withdraw_checks limits16 m k)) ≡ Done → slot_of limits16 m k < 8
+pub withdrawn_slot : (whole : Bool) (m : Model) (k : ℕ) → first_failing (after28 (not whole) (withdraw_checks limits16 m k)) ≡ Done → slot_of limits16 m k < 8
 withdrawn_slot whole m k e =
     let cs : List Check = withdraw_checks limits16 m k in
-    let two : firstFailing (rest (rest cs)) ≡ Done = two_pass (not whole) BadCabinet (not (is_up m.phase)) WrongPhase (rest (rest cs)) e in
+    let two : first_failing (rest (rest cs)) ≡ Done = two_pass (not whole) BadCabinet (not (is_up m.phase)) WrongPhase (rest (rest cs)) e in
     (found m k (first_passes (not (is_known limits16 m k)) NotAwaited (decided limits16 (m.slot (slot_of limits16 m k))) AlreadyDecided [] two)).slot
 
 -- what is left where the change of one slot is written anew

@@ -6,7 +6,7 @@ use sheet_page_writer::Written;
 use sheet_writer::write_sheet;
 
 // Two frames of card 0 of two: the change of each, its own dependency and the other card's.
-#[derive(Drop)]
+#[derive(Clone, Copy)]
 struct Rows {
     change: u32,
     own: u32,

@@ -1,7 +1,7 @@
 // Each call as the demands speak of it: the contract of the method is what the lists of calls take it to be.
 #![tactic(auto)]
 ghost use Rattle.std.specs.Prelude.{min, [], take as takes};
-ghost use Rattle.cabinet_layout.specs.Answers.{reply_of, openReplyOf, safeReplyOf};
+ghost use Rattle.cabinet_layout.specs.Answers.{reply_of, open_reply_of, safe_reply_of};
 ghost use Rattle.cabinet_recovery.specs.Fix.{fix_reply_of};
 ghost use Rattle.cabinet_sheet.specs.Card.{sheet_reply_of};
 ghost use Rattle.cabinet.specs.Fresh.{Freshly};
@@ -23,7 +23,7 @@ pub fn fresh(cards: u32) -> Answer
 
 // 1. open
 pub fn open(c: Cabinet, reads: u16, writes: u16) -> OpenAnswer
-    ensures { Answered c (opening reads writes) (openReplyOf result.reply) result.cabinet nothing_lent }
+    ensures { Answered c (opening reads writes) (open_reply_of result.reply) result.cabinet nothing_lent }
 {
     c.open(reads, writes)
 }
@@ -79,7 +79,7 @@ pub fn trim(c: Cabinet) -> Answer
 
 // 7. safe
 pub fn safe(c: Cabinet, change: u32) -> SafeAnswer
-    ensures { Answered c (plain (safe_call change)) (safeReplyOf result.reply) result.cabinet nothing_lent }
+    ensures { Answered c (plain (safe_call change)) (safe_reply_of result.reply) result.cabinet nothing_lent }
 {
     c.safe(change)
 }

@@ -3,7 +3,7 @@ use Prim.Native.Nat.{ℕ, ◌+◌, ◌-◌}
 use mathlib.Core.Path.{◌≡◌, refl, sym, ◌∙◌, ap}
 use mathlib.Core.Bool.{Bool, true, false, not, cond}
 use mathlib.Core.List.{List, [], ◌∷◌, ◌++◌, append_assoc, append-nil}
-use borrow.Author.Tests.{eq-eqb, ne_eqb, not_true, not-false}
+use borrow.Author.Tests.{eq-eqb, ne_eqb, not-true, not-false}
 use Rattle.base_laws.specs.Below.{selected}
 use Rattle.base_laws.proofs.Logic.{cond_true, cond_false}
 use Rattle.base_decimal.specs.Digits.{decimal}
@@ -20,7 +20,7 @@ entries_more = selected_more entries_text entry_text entries_append (λ x. appen
 
 -- an entry that is written, and one that is not
 pub entry_absent : (there : Bool) (e : ℕ) → not there ≡ true → [] ≡ cond there (entry_text e) []
-entry_absent there e h = sym (cond_false (entry_text e) [] (not_true there h))
+entry_absent there e h = sym (cond_false (entry_text e) [] (not-true there h))
 
 pub entry_none : (there : Bool) (e : ℕ) → not there ≡ false → e ≡ 0 → 32 ∷ 45 ∷ [] ≡ cond there (entry_text e) []
 entry_none there e h z = sym (cond_true (entry_text e) [] (not-false there h) ∙ cond_true (32 ∷ 45 ∷ []) (spaced ((e - 1) ∷ [])) (eq-eqb e 0 z))

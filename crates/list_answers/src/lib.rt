@@ -1,6 +1,6 @@
 // How the answers of calls are written: lines of text into a lent buffer, cut off where the buffer ends.
 #![tactic(auto)]
-ghost use Rattle.cabinet_layout.specs.Answers.{reply_of, openReplyOf, safeReplyOf};
+ghost use Rattle.cabinet_layout.specs.Answers.{reply_of, open_reply_of, safe_reply_of};
 ghost use Rattle.base_text.specs.Put.{Put};
 ghost use Rattle.list_answers.specs.Texts.{reply_text};
 
@@ -20,7 +20,7 @@ pub fn put_reply(b: &mut [u8], w: Progress, r: Reply) -> Progress
 
 // The answer of open.
 pub fn put_open(b: &mut [u8], w: Progress, r: OpenReply) -> Progress
-    ensures { Put b.old w (reply_text (openReplyOf r)) result b.new }
+    ensures { Put b.old w (reply_text (open_reply_of r)) result b.new }
 {
     match r {
         OpenReply::Opened(k) => {
@@ -33,7 +33,7 @@ pub fn put_open(b: &mut [u8], w: Progress, r: OpenReply) -> Progress
 
 // The answer of safe.
 pub fn put_safe(b: &mut [u8], w: Progress, r: SafeReply) -> Progress
-    ensures { Put b.old w (reply_text (safeReplyOf r)) result b.new }
+    ensures { Put b.old w (reply_text (safe_reply_of r)) result b.new }
 {
     match r {
         SafeReply::Safe => base_text::put(b, w, b"safe\n"),

@@ -7,7 +7,7 @@ use base_text::Progress;
 use cabinet::Cabinet;
 
 // The present cabinet, and whether there is one.
-#[derive(Drop)]
+#[derive(Clone, Copy)]
 pub struct Replay {
     pub cabinet: Cabinet,
     pub begun: bool,

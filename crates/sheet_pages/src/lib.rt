@@ -10,7 +10,7 @@ use base_refusal::{Refusal, Reply};
 
 // A read-out: for each card its session, base and number of frames, and the frames of all cards. The frame of a
 // card's state stands at card * 48 + state % 48, with 16 entries for each.
-#[derive(Drop)]
+#[derive(Clone, Copy)]
 pub struct Readout {
     pub changes: [u32; Limits::FRAMES],
     pub entries: [u32; Limits::ENTRIES],

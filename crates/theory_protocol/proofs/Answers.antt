@@ -59,8 +59,8 @@ selected_same zero p f g e = refl
 selected_same {A = A} (suc n) p f g e = ap₂ (λ (a b : List A). a ++ b) (selected_same n p f g (λ k h t. e k (omega arith) t)) (test (p n) (λ t. ap (λ (x : A). cond (p n) (x ∷ []) []) (e n (omega arith) t)) (λ t. rw t))
 
 -- the line of a journal is a choice, and none is above it
-greatest-choice : (L : Limits) (m : Model) (j : Journal) → Recallable L m j → GreatestChoice L j (greatest_line L j)
-greatest-choice L m j q =
+greatest_choice : (L : Limits) (m : Model) (j : Journal) → Recallable L m j → GreatestChoice L j (greatest_line L j)
+greatest_choice L m j q =
     record {
       is_cut = line_cut L.width (H j) j.start (decisions j) sv sr j.stored (λ c l. le_trans (a.intact.from_start c l) (le_trans (a.intact.base_line c l) (le_trans (a.intact.line_stored c l) (a.intact.stored_least c l))));
       greatest = λ g k c l. cut_below L.width (H j) j.start (decisions j) sv sr j.stored g k c l;
@@ -77,8 +77,8 @@ greatest-choice L m j q =
     a = q.about (H j) (λ i h. refl)
 
 -- so is one that is the same on every card
-choice-same : (L : Limits) (j : Journal) (l l' : Numbers) → ((c : ℕ) → c < L.width → l' c ≡ l c) → GreatestChoice L j l → GreatestChoice L j l'
-choice-same L j l l' e g =
+choice_same : (L : Limits) (j : Journal) (l l' : Numbers) → ((c : ℕ) → c < L.width → l' c ≡ l c) → GreatestChoice L j l → GreatestChoice L j l'
+choice_same L j l l' e g =
     record {
       is_cut = record { consistent = cut_same L.width (H j) j.start (decisions j) l l' e g.is-cut.consistent; within = λ c h. rw (e c h) (g.is-cut.within c h) };
       greatest = λ x k c h. rw (e c h) (g.greatest x k c h);
@@ -110,16 +110,16 @@ module _ (L : Limits) (n : CardSet) (m : Model) (j : Journal) (v : Invariant L n
         ∙ selected_same L.width n (λ c. record { card = c; stored = m.numbers.stored c; line = recovery_line L m c }) (λ c. record { card = c; stored = j.stored c; line = line c })
         (λ c h e. ap₂ (λ (s l : ℕ). record { card = c; stored = s; line = l }) (sym (r.stored_is c h)) (line_is_lem c h))
 
-    lost-is : (k : ℕ) → is_lost L m k ≡ is_lost_number L.width (H j) j.start (decisions j) line k
-    lost-is = lost_number L m j r (H j) a is_down_lem line line_is_lem
+    lost_is : (k : ℕ) → is_lost L m k ≡ is_lost_number L.width (H j) j.start (decisions j) line k
+    lost_is = lost_number L m j r (H j) a is_down_lem line line_is_lem
 
-    fix-right : FixRight L n j (fixed (card_rows L m) (lost_numbers L m))
-    fix-right =
+    fix_right : FixRight L n j (fixed (card_rows L m) (lost_numbers L m))
+    fix_right =
         record {
           line = line;
           numbers = history.lost_numbers L.width (H j) j.start (decisions j) line;
           answered = ap₂ fixed rows_are (lost_numbers_are L m j r (H j) a is_down_lem line line_is_lem);
-          choice = greatest-choice L m j (recallable L n m j v);
+          choice = greatest_choice L m j (recallable L n m j v);
           numbers_are = refl;
           lost_listed = lost_numbers_lem L.width (H j) j.start (decisions j) line;
           rise = lost_numbers_rise L.width (H j) j.start (decisions j) line;
@@ -127,8 +127,8 @@ module _ (L : Limits) (n : CardSet) (m : Model) (j : Journal) (v : Invariant L n
         }
 
   -- ---- roll
-  roll-right : (c : ℕ) → c < L.width → is_rolling m.phase ≡ true → RollRight j c (edited_all L (lower c ∷ cond (all_rolled L m (with_card m.rolled c)) (renew ∷ []) []) m)
-  roll-right c l e =
+  roll_right : (c : ℕ) → c < L.width → is_rolling m.phase ≡ true → RollRight j c (edited_all L (lower c ∷ cond (all_rolled L m (with_card m.rolled c)) (renew ∷ []) []) m)
+  roll_right c l e =
       cond_case (λ (zs : List Edit). RollRight j c (edited_all L (lower c ∷ zs) m)) (all_rolled L m (with_card m.rolled c)) (λ y. four) (λ y. four')
     where
       r : RollingBack L m j
@@ -154,8 +154,8 @@ module _ (L : Limits) (n : CardSet) (m : Model) (j : Journal) (v : Invariant L n
           record { line = four.line; marked = four.marked; noted = four.noted; base = four.base; stored = four.stored; held = four.held; reached = four.reached }
 
   -- ---- restart
-  restart-right : (m' : Model) → Recalled L m m' → RestartRight L n j m'
-  restart-right m' k = ⊎_elim ran back v.state
+  restart_right : (m' : Model) → Recalled L m m' → RestartRight L n j m'
+  restart_right m' k = ⊎_elim ran back v.state
     where
       q : Recallable L m j
       q = recallable L n m j v
@@ -170,7 +170,7 @@ module _ (L : Limits) (n : CardSet) (m : Model) (j : Journal) (v : Invariant L n
             line = greatest_line L j;
             marked = no_cards;
             noted = ap (λ (f : Fixing). (note_restart_of L j f).fix) r.not_fixed;
-            choice = greatest-choice L m j q;
+            choice = greatest_choice L m j q;
             fixed_so = λ c l h. again c l;
           }
 
@@ -181,12 +181,12 @@ module _ (L : Limits) (n : CardSet) (m : Model) (j : Journal) (v : Invariant L n
             line = r.notes.line;
             marked = r.notes.marked;
             noted = ap (λ (f : Fixing). (note_restart_of L j f).fix) r.notes.is_noted ∙ r.notes.is_noted;
-            choice = choice-same L j (greatest_line L j) r.notes.line noted-line (greatest-choice L m j q);
-            fixed_so = λ c l h. again c l ∙ sym (noted-line c l);
+            choice = choice_same L j (greatest_line L j) r.notes.line noted_line (greatest_choice L m j q);
+            fixed_so = λ c l h. again c l ∙ sym (noted_line c l);
           }
         where
-          noted-line : (c : ℕ) → c < L.width → r.notes.line c ≡ greatest_line L j c
-          noted-line c l = r.notes.line_is_lem c l ∙ (r.rolls.about (H j) (λ i h. refl)).line_right c l
+          noted_line : (c : ℕ) → c < L.width → r.notes.line c ≡ greatest_line L j c
+          noted_line c l = r.notes.line_is_lem c l ∙ (r.rolls.about (H j) (λ i h. refl)).line_right c l
 
   -- ---- take
   module _ (r : Running L m j) (k c : ℕ) (is_slot : slot_of L m k < L.slots) (is_card_lem : c < L.width) (is_open_lem : is_open (m.slot (slot_of L m k)) ≡ true)
@@ -210,68 +210,68 @@ module _ (L : Limits) (n : CardSet) (m : Model) (j : Journal) (v : Invariant L n
     written_as : (H j (r.at p)).writes c ≡ o.change.writes c
     written_as = ap (λ (x : Change). x.writes c) st.change_is
 
-    next-made : (H j (r.at p)).writes c ≡ true → suc (m.numbers.reached c) ≡ made (H j) j.start (r.at p) c
-    next-made e =
+    next_made : (H j (r.at p)).writes c ≡ true → suc (m.numbers.reached c) ≡ made (H j) j.start (r.at p) c
+    next_made e =
         reached_next L.width (H j) j.start (decisions j) r.took t.orderly (r.at p) c st.in_history is_card_lem (st.taken_is c is_card_lem ∙ is-untaken) e t.levels
 
-    take-right : TakeRight j k c m (shared (o.change.writes c))
-    take-right =
+    take_right : TakeRight j k c m (shared (o.change.writes c))
+    take_right =
         record {
           i = r.at p;
           decided = st.in_history;
           number = ap (λ (x : Change). x.number) st.change_is ∙ is_number_lem;
-          reached_made = λ e. ap (λ (b : Bool). (shared b).numbers.reached c) (sym written_as ∙ e) ∙ put_same m.numbers.reached c (suc (m.numbers.reached c)) ∙ next-made e;
-          held_made = λ e. ap (λ (b : Bool). (shared b).numbers.held c) (sym written_as ∙ e) ∙ put_same m.numbers.held c (suc (m.numbers.reached c)) ∙ next-made e;
+          reached_made = λ e. ap (λ (b : Bool). (shared b).numbers.reached c) (sym written_as ∙ e) ∙ put_same m.numbers.reached c (suc (m.numbers.reached c)) ∙ next_made e;
+          held_made = λ e. ap (λ (b : Bool). (shared b).numbers.held c) (sym written_as ∙ e) ∙ put_same m.numbers.held c (suc (m.numbers.reached c)) ∙ next_made e;
           read_stays = λ e. ap (λ (b : Bool). (shared b).numbers.reached c) (sym written_as ∙ e);
         }
 
 -- ---- safe: not lost, if every card were lost now
 module _ (L : Limits) (n : CardSet) (m : Model) (j : Journal) (v : Invariant L n m j) (r : Running L m j) (is_up_lem : is_up m.phase ≡ true) (k : ℕ) where
-  after-runs : Running L (all_lost L m) (note_lose j)
-  after-runs = lose_up_keeps L m j r m.present is_up_lem
+  after_runs : Running L (all_lost L m) (note_lose j)
+  after_runs = lose_up_keeps L m j r m.present is_up_lem
 
-  after-loss : Invariant L n (all_lost L m) (note_lose j)
-  after-loss = record { present_is = v.present_is; absent_start = v.absent_start; state = inl after-runs; writes = λ c l here ne. let w : _ = v.writes c l here ne in (refl, w.1, w.2) }
+  after_loss : Invariant L n (all_lost L m) (note_lose j)
+  after_loss = record { present_is = v.present_is; absent_start = v.absent_start; state = inl after_runs; writes = λ c l here ne. let w : _ = v.writes c l here ne in (refl, w.1, w.2) }
 
   b : About L m j.start (decisions j) r.took r.at (H j)
   b = r.about (H j) (λ i h. refl)
 
   -- a number stands for one change
-  one-change : (i i' : ℕ) → i < decisions j → i' < decisions j → (H j i).number ≡ k → (H j i').number ≡ k → i ≡ i'
-  one-change i i' h h' e e' =
+  one_change : (i i' : ℕ) → i < decisions j → i' < decisions j → (H j i).number ≡ k → (H j i').number ≡ k → i ≡ i'
+  one_change i i' h h' e e' =
       by_cases (dec_lt i i') (λ z. absurd (b.numbered.distinct i i' z h' (e ∙ sym e')))
       (λ z. by_cases (dec_lt i' i) (λ y. absurd (b.numbered.distinct i' i y h (e' ∙ sym e))) (λ y. omega (arith, z, y)))
 
-  abbrev lostThen : ℕ → Bool
-  lostThen i = lost L.width (H j) j.start (greatest_line L j) i
+  abbrev lost_then : ℕ → Bool
+  lost_then i = lost L.width (H j) j.start (greatest_line L j) i
 
-  abbrev lostAs : ℕ → Bool
-  lostAs i = lostThen i && eqb (H j i).number k
+  abbrev lost_as : ℕ → Bool
+  lost_as i = lost_then i && eqb (H j i).number k
 
-  lost-then : is_lost L (all_lost L m) k ≡ any_below (decisions j) lostAs
-  lost-then = lost-is L n (all_lost L m) (note_lose j) after-loss after-runs refl k
+  lost_then_lem : is_lost L (all_lost L m) k ≡ any_below (decisions j) lost_as
+  lost_then_lem = lost_is L n (all_lost L m) (note_lose j) after_loss after_runs refl k
 
   module _ (i : ℕ) (h : i < decisions j) (e : (H j i).number ≡ k) where
-    safe-on : is_safe L m k ≡ true → (c : ℕ) → c < L.width → (H j i).writes c ≡ true → On (H j) j.start (greatest_line L j) i c
-    safe-on z c l wr =
+    safe_on : is_safe L m k ≡ true → (c : ℕ) → c < L.width → (H j i).writes c ≡ true → On (H j) j.start (greatest_line L j) i c
+    safe_on z c l wr =
         by_cases (dec_le (made (H j) j.start i c) (greatest_line L j c)) (λ y. y)
-        (λ y. clash (any_intro (decisions j) lostAs i h (and_intro
+        (λ y. clash (any_intro (decisions j) lost_as i h (and_intro
         (above_lost L.width (H j) j.start (greatest_line L j) i (record { c = c; is_card_lem = l; wrote_it = wr; is_above = omega (arith, y) })) (eq-eqb (H j i).number k e)))
-        (sym lost-then ∙ not_true (is_lost L (all_lost L m) k) z))
+        (sym lost_then_lem ∙ not_true (is_lost L (all_lost L m) k) z))
 
-    on-safe : ((c : ℕ) → c < L.width → (H j i).writes c ≡ true → On (H j) j.start (greatest_line L j) i c) → is_safe L m k ≡ true
-    on-safe all = not_intro (lost-then ∙ fails (any_below (decisions j) lostAs) none)
+    on_safe : ((c : ℕ) → c < L.width → (H j i).writes c ≡ true → On (H j) j.start (greatest_line L j) i c) → is_safe L m k ≡ true
+    on_safe all = not_intro (lost_then_lem ∙ fails (any_below (decisions j) lost_as) none)
       where
-        none : any_below (decisions j) lostAs ≡ true → ⊥
+        none : any_below (decisions j) lost_as ≡ true → ⊥
         none y =
-            let f : Found (decisions j) lostAs = any_elim (decisions j) lostAs y in
-            let s : f.0 ≡ i = one-change f.0 i f.1 h (eqb-true (H j f.0).number k (and_right (lostThen f.0) (eqb (H j f.0).number k) f.2)) e in
-            let u : Above L.width (H j) j.start (greatest_line L j) f.0 = lost_above L.width (H j) j.start (greatest_line L j) f.0 (and_left (lostThen f.0) (eqb (H j f.0).number k) f.2) in
+            let f : Found (decisions j) lost_as = any_elim (decisions j) lost_as y in
+            let s : f.0 ≡ i = one_change f.0 i f.1 h (eqb-true (H j f.0).number k (and_right (lost_then f.0) (eqb (H j f.0).number k) f.2)) e in
+            let u : Above L.width (H j) j.start (greatest_line L j) f.0 = lost_above L.width (H j) j.start (greatest_line L j) f.0 (and_left (lost_then f.0) (eqb (H j f.0).number k) f.2) in
             let w : Above L.width (H j) j.start (greatest_line L j) i = rw s at u in
             omega (arith, all w.c w.is_card_lem w.wrote-it, w.is_above)
 
-  safe-right : has_frame L m k ≡ true → SafeRight L j k (cond (is_safe L m k) safe unsafe)
-  safe-right z =
+  safe_right : has_frame L m k ≡ true → SafeRight L j k (cond (is_safe L m k) safe unsafe)
+  safe_right z =
       let q : (y : Numbered-as (H j) (decisions j) k) × Above L.width (H j) j.start m.numbers.base y.i =
       frames_above L m j r (H j) b m.numbers.base (λ c l. le_refl (m.numbers.base c)) k (and_right (not (eqb k 0)) (some_frame_above L m k m.numbers.base) z) in
       record {
@@ -279,12 +279,12 @@ module _ (L : Limits) (n : CardSet) (m : Model) (j : Journal) (v : Invariant L n
         decided = q.0.in_history;
         number = q.0.is_number_lem;
         line = greatest_line L j;
-        choice = greatest-choice L m j (recallable L n m j v);
-        right = (λ e. safe-on q.0.i q.0.in_history q.0.is_number_lem (is-safe e), λ all. rw (on-safe q.0.i q.0.in_history q.0.is_number_lem all));
+        choice = greatest_choice L m j (recallable L n m j v);
+        right = (λ e. safe_on q.0.i q.0.in_history q.0.is_number_lem (is_safe_lem e), λ all. rw (on_safe q.0.i q.0.in_history q.0.is_number_lem all));
       }
     where
-      is-safe : cond (is_safe L m k) safe unsafe ≡ safe → is_safe L m k ≡ true
-      is-safe e = test (is_safe L m k) (λ y. y) (λ y. let d : unsafe ≡ safe = sym (ap (λ (x : Bool). cond x safe unsafe) y) ∙ e in let u : ◌≡◌ {A = ℕ} 0 1 = cc in absurd (omega arith))
+      is_safe_lem : cond (is_safe L m k) safe unsafe ≡ safe → is_safe L m k ≡ true
+      is_safe_lem e = test (is_safe L m k) (λ y. y) (λ y. let d : unsafe ≡ safe = sym (ap (λ (x : Bool). cond x safe unsafe) y) ∙ e in let u : ◌≡◌ {A = ℕ} 0 1 = cc in absurd (omega arith))
 
 -- ---- each accepted call of a list
 call_right : (C : Codec) (L : Limits) (n : CardSet) → Carded L n → CodecLaw C L n → {cs : Calls} {m : Model} (r : Run C L n cs m) (call : Call)
@@ -296,7 +296,7 @@ call_right C L n carded law {cs} {m} r (plain (take_call k c)) a e =
     (λ ps.
     let kp : (slot_of L m k < L.slots) × (is_open (m.slot (slot_of L m k)) ≡ true) × ((m.slot (slot_of L m k)).change.number ≡ k) = known_slot L m k (not_not (is_known L m k) ps.1.1.1.0) in
     let aw : touches (m.slot (slot_of L m k)).change c && not ((m.slot (slot_of L m k)).taken c) ≡ true = not_not (touches (m.slot (slot_of L m k)).change c && not ((m.slot (slot_of L m k)).taken c)) ps.1.1.1.1.1.0 in
-    take-right L n m (journal L n cs) v (runs L n m (journal L n cs) v (up_only m.phase (not_not (is_up m.phase) ps.1.1.0))) k c kp.0 (card_below L m c (not_not (is_card L m c) ps.1.0)) kp.1 kp.2
+    take_right L n m (journal L n cs) v (runs L n m (journal L n cs) v (up_only m.phase (not_not (is_up m.phase) ps.1.1.0))) k c kp.0 (card_below L m c (not_not (is_card L m c) ps.1.0)) kp.1 kp.2
     (not_not (decided L (m.slot (slot_of L m k))) ps.1.1.1.1.0) (not_true ((m.slot (slot_of L m k)).taken c) (and_right (touches (m.slot (slot_of L m k)).change c) (not ((m.slot (slot_of L m k)).taken c)) aw))) a e
   where
     v : Invariant L n m (journal L n cs)
@@ -317,39 +317,39 @@ call_right C L n carded law {cs} {m} r (plain (end_call c x)) a e =
 call_right C L n carded law r (plain trim_call) a e = tt
 call_right C L n carded law {cs} {m} r (plain (safe_call k)) a e =
     answered (λ (b : Answer) (q : Plan). SafeRight L (journal L n cs) k b) (safe_checks L m k) _ _
-    (λ ps. safe-right L n m (journal L n cs) v (runs L n m (journal L n cs) v (up-runs (not_not (is_up m.phase) ps.1.0))) (not_not (is_up m.phase) ps.1.0) k (not_not (has_frame L m k) ps.1.1.0)) a e
+    (λ ps. safe_right L n m (journal L n cs) v (runs L n m (journal L n cs) v (up_runs (not_not (is_up m.phase) ps.1.0))) (not_not (is_up m.phase) ps.1.0) k (not_not (has_frame L m k) ps.1.1.0)) a e
   where
     v : Invariant L n m (journal L n cs)
     v = run_invariant carded law r
 
-    up-runs : is_up m.phase ≡ true → is_rolling m.phase ≡ false
-    up-runs = up_only m.phase
+    up_runs : is_up m.phase ≡ true → is_rolling m.phase ≡ false
+    up_runs = up_only m.phase
 call_right C L n carded law {cs} {m} r (lose_call cards) a e =
     answered (λ (b : Answer) (q : Plan). (c : ℕ) → c < L.width → n c ≡ true → cards c ≡ true → (after_plan L q m).numbers.held c ≡ last_kept L n cs c) (lose_checks L m cards) _ _
-    (λ ps c lw h here. held-falls c here ∙ stored_last carded law r c lw h) a e
+    (λ ps c lw h here. held_falls c here ∙ stored_last carded law r c lw h) a e
   where
-    held-falls : (c : ℕ) → cards c ≡ true → (edited_all L (fall cards ∷ cond (is_up m.phase) (halt ∷ []) []) m).numbers.held c ≡ m.numbers.stored c
-    held-falls c here =
+    held_falls : (c : ℕ) → cards c ≡ true → (edited_all L (fall cards ∷ cond (is_up m.phase) (halt ∷ []) []) m).numbers.held c ≡ m.numbers.stored c
+    held_falls c here =
         cond_case (λ (es : List Edit). (edited_all L (fall cards ∷ es) m).numbers.held c ≡ m.numbers.stored c) (is_up m.phase) (λ y. rw here) (λ y. rw here)
 call_right C L n carded law {cs} {m} r (fix_call u z) a e =
     answered (λ (b : Answer) (q : Plan). FixRight L n (journal L n cs) b) (fix_checks L m u z) _ _
-    (λ ps. fix-right L n m (journal L n cs) v (runs L n m (journal L n cs) v (down-runs m.phase (not_not (is_down m.phase) ps.1.0))) (not_not (is_down m.phase) ps.1.0)) a e
+    (λ ps. fix_right L n m (journal L n cs) v (runs L n m (journal L n cs) v (down_runs m.phase (not_not (is_down m.phase) ps.1.0))) (not_not (is_down m.phase) ps.1.0)) a e
   where
     v : Invariant L n m (journal L n cs)
     v = run_invariant carded law r
 
-    down-runs : (q : Phase) → is_down q ≡ true → is_rolling q ≡ false
-    down-runs up z = refl
-    down-runs down z = refl
-    down-runs rolling z = clash z refl
+    down_runs : (q : Phase) → is_down q ≡ true → is_rolling q ≡ false
+    down_runs up z = refl
+    down_runs down z = refl
+    down_runs rolling z = clash z refl
 call_right C L n carded law {cs} {m} r (plain (roll_call c)) a e =
     answered (λ (b : Answer) (q : Plan). RollRight (journal L n cs) c (after_plan L q m)) (roll_checks L m c) _ _
-    (λ ps. roll-right L n m (journal L n cs) (run_invariant carded law r) c (card_below L m c (not_not (is_card L m c) ps.1.0)) (not_not (is_rolling m.phase) ps.1.1.0)) a e
+    (λ ps. roll_right L n m (journal L n cs) (run_invariant carded law r) c (card_below L m c (not_not (is_card L m c) ps.1.0)) (not_not (is_rolling m.phase) ps.1.1.0)) a e
 call_right C L n carded law r (sheet_call c places) a e = tt
 call_right C L n carded law {cs} {m} r restart_call a e =
     by_cases (dec_lt m.session L.greatest_number)
     (λ z. let q : Remade C L m = law.remade m (journal L n cs) v.present_is (recallable L n m (journal L n cs) v) z in
-    rw (restart_reply_lem C L m Done fine q.accepts) (restart-right L n m (journal L n cs) v (C.restarted L (C.joined L m)) q.recalled))
+    rw (restart_reply_lem C L m Done fine q.accepts) (restart_right L n m (journal L n cs) v (C.restarted L (C.joined L m)) q.recalled))
     (λ z. not_both a LimitReached (sym e ∙ restart_reply_lem C L m (Refused LimitReached) fine (law.last_session m (journal L n cs) v.present_is (recallable L n m (journal L n cs) v) (omega (arith, z)))))
   where
     v : Invariant L n m (journal L n cs)
@@ -368,7 +368,7 @@ cabinet_right C L n carded law {cs} {m} r =
       sheet_kept = λ c lw h. law.last_stored m c (base_stored L n m (journal L n cs) v c lw) ∙ stored_last carded law r c lw h;
       sheets_give_line = λ line marked e. ⊎_elim
           (λ (q : Running L m (journal L n cs)). let z : ◌≡◌ {A = ℕ} 0 1 = cc (e, q.not_fixed) in absurd (omega arith))
-          (λ (q : RollingBack L m (journal L n cs)). give-line line marked e q) v.state;
+          (λ (q : RollingBack L m (journal L n cs)). give_line line marked e q) v.state;
       restart_accepted = λ z. (law.remade m (journal L n cs) v.present_is (recallable L n m (journal L n cs) v) z).accepts;
       restart_last = λ z. law.last_session m (journal L n cs) v.present_is (recallable L n m (journal L n cs) v) z;
     }
@@ -376,8 +376,8 @@ cabinet_right C L n carded law {cs} {m} r =
     v : Invariant L n m (journal L n cs)
     v = run_invariant carded law r
 
-    give-line : (line : Numbers) (marked : CardSet) → (journal L n cs).fix ≡ fixing line marked → RollingBack L m (journal L n cs) → RestartsTo C L n m line
-    give-line line marked e q =
+    give_line : (line : Numbers) (marked : CardSet) → (journal L n cs).fix ≡ fixing line marked → RollingBack L m (journal L n cs) → RestartsTo C L n m line
+    give_line line marked e q =
         let same : q.notes.line ≡ line = cc (e, q.notes.is_noted) in
         let e : Remade C L m = law.remade m (journal L n cs) v.present_is (recallable L n m (journal L n cs) v) q.rolls.session_left in
         record {

@@ -202,11 +202,11 @@ module _ (L : Limits) (n : CardSet) (m : Model) (j : Journal) (v : Invariant L n
             notes = record { line = r.notes.line; marked = r.notes.marked; is_noted = r.notes.is_noted; line_is_lem = r.notes.line_is_lem; marked_is = r.notes.marked_is };
           }
 
-  pub next_fix : (cardPlaces lostPlaces : ℕ) → Next (note_fix j (card_rows L m)) (fix_plan L m cardPlaces lostPlaces)
-  next_fix cardPlaces lostPlaces =
+  pub next_fix : (card_places lost_places : ℕ) → Next (note_fix j (card_rows L m)) (fix_plan L m card_places lost_places)
+  next_fix card_places lost_places =
       record {
         present_is = λ c. checked_case (SameCards L m) cs _ _ (λ x i. refl) (λ ps i. refl) c ∙ v.present_is c;
-        absent_start = same_start (note_fix j (card_rows L m)) (λ c. refl) (fix_plan L m cardPlaces lostPlaces).reply;
+        absent_start = same_start (note_fix j (card_rows L m)) (λ c. refl) (fix_plan L m card_places lost_places).reply;
         state = checked_case (λ (p : Plan). Running L (after_plan L p m) (noted j (note_fix j (card_rows L m)) p.reply) ⊎ RollingBack L (after_plan L p m) (noted j (note_fix j (card_rows L m)) p.reply)) cs _ _ (λ x. v.state)
             (λ ps. inr (fixes (not_not (is_down m.phase) ps.1.0) (leb-false L.greatest_number m.session ps.1.1.0)));
         writes = checked_case Wrote cs _ _ (λ x. v.writes)
@@ -215,7 +215,7 @@ module _ (L : Limits) (n : CardSet) (m : Model) (j : Journal) (v : Invariant L n
       }
     where
       cs : List Check
-      cs = fix_checks L m cardPlaces lostPlaces
+      cs = fix_checks L m card_places lost_places
 
       fixes : is_down m.phase ≡ true → m.session < L.greatest_number → RollingBack L (edited_all L (fix (lines L m) ∷ []) m) (note_fix j (card_rows L m))
       fixes d s =

@@ -54,7 +54,7 @@ module _ (L : Limits) (m : Model) where
       }
 
   -- a fix that is accepted lists these
-  listed_so : (cardPlaces lostPlaces : ℕ) (rows : List CardRow) (numbers : List ℕ) → (fix_plan L m cardPlaces lostPlaces).reply ≡ accepted (fixed rows numbers) → lost_numbers L m ≡ numbers
+  listed_so : (card_places lost_places : ℕ) (rows : List CardRow) (numbers : List ℕ) → (fix_plan L m card_places lost_places).reply ≡ accepted (fixed rows numbers) → lost_numbers L m ≡ numbers
   listed_so x y rows numbers =
       checked_case (λ (p : Plan). p.reply ≡ accepted (fixed rows numbers) → lost_numbers L m ≡ numbers) (fix_checks L m x y) (fixed (card_rows L m) (lost_numbers L m)) _ (λ r z. not_both (fixed rows numbers) r (sym z)) (λ ps z. cc)
 

@@ -23,13 +23,13 @@ SafeAgreesWithFix =
     (L : Limits) (m : Model) (k : ℕ) (a : Answer) → (safe_plan L m k).reply ≡ accepted a
     → (cards : CardSet) (b : Answer) → (lose_plan L m cards).reply ≡ accepted b
     → (n : Model) → Reported L (after_plan L (lose_plan L m cards) m) n
-    → (cardPlaces lostPlaces : ℕ) (rows : List CardRow) (numbers : List ℕ)
-    → (fix_plan L n cardPlaces lostPlaces).reply ≡ accepted (fixed rows numbers)
+    → (card_places lost_places : ℕ) (rows : List CardRow) (numbers : List ℕ)
+    → (fix_plan L n card_places lost_places).reply ≡ accepted (fixed rows numbers)
     → Agrees k a numbers
 
 -- of every list of calls that ends with these three
 abbrev pub AgreesInLists : Codec → Limits → CardSet → Type 0
 AgreesInLists C L n =
-    (cs : Calls) (k : ℕ) (a : Answer) (cards : CardSet) (b : Answer) (cardPlaces lostPlaces : ℕ) (rows : List CardRow) (numbers : List ℕ) (m : Model)
-    → Run C L n (further (further (further cs (plain (safe_call k)) (accepted a)) (lose_call cards) (accepted b)) (fix_call cardPlaces lostPlaces) (accepted (fixed rows numbers))) m
+    (cs : Calls) (k : ℕ) (a : Answer) (cards : CardSet) (b : Answer) (card_places lost_places : ℕ) (rows : List CardRow) (numbers : List ℕ) (m : Model)
+    → Run C L n (further (further (further cs (plain (safe_call k)) (accepted a)) (lose_call cards) (accepted b)) (fix_call card_places lost_places) (accepted (fixed rows numbers))) m
     → Agrees k a numbers

@@ -250,17 +250,17 @@ abbrev pub some_writing : Limits → Model → Bool
 some_writing L m = any_below L.width (λ c. m.present c && is_writing m c)
 
 abbrev pub fix_checks : Limits → Model → ℕ → ℕ → List Check
-fix_checks L m cardPlaces lostPlaces =
+fix_checks L m card_places lost_places =
     not (valid L m) ⇒ BadCabinet
     ∷ not (is_down m.phase) ⇒ WrongPhase
     ∷ leb L.greatest_number m.session ⇒ LimitReached
     ∷ some_writing L m ⇒ WriteUnreported
-    ∷ (ltb cardPlaces (length (card_rows L m)) || ltb lostPlaces (length (lost_numbers L m))) ⇒ TooShort
+    ∷ (ltb card_places (length (card_rows L m)) || ltb lost_places (length (lost_numbers L m))) ⇒ TooShort
     ∷ []
 
-abbrev pub fix_plan : Limits → Model → (cardPlaces lostPlaces : ℕ) → Plan
-fix_plan L m cardPlaces lostPlaces =
-    checked (fix_checks L m cardPlaces lostPlaces) (fixed (card_rows L m) (lost_numbers L m))
+abbrev pub fix_plan : Limits → Model → (card_places lost_places : ℕ) → Plan
+fix_plan L m card_places lost_places =
+    checked (fix_checks L m card_places lost_places) (fixed (card_rows L m) (lost_numbers L m))
     (fix (lines L m) ∷ [])
 
 -- ---- 10. roll

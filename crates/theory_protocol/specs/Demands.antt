@@ -53,8 +53,8 @@ pub record ListedRight (L : Limits) (m : Model) (numbers : List ℕ) : Type 0 wh
 -- for any cabinet, a forged one too, and any number of places
 abbrev pub ListsRising : Type 0
 ListsRising =
-    (L : Limits) (m : Model) (cardPlaces lostPlaces : ℕ) (rows : List CardRow) (numbers : List ℕ)
-    → (fix_plan L m cardPlaces lostPlaces).reply ≡ accepted (fixed rows numbers) → ListedRight L m numbers
+    (L : Limits) (m : Model) (card_places lost_places : ℕ) (rows : List CardRow) (numbers : List ℕ)
+    → (fix_plan L m card_places lost_places).reply ≡ accepted (fixed rows numbers) → ListedRight L m numbers
 
 -- ---- the history of the journal: "the changes decided since the last recovery"
 abbrev pub H : Journal → History

@@ -17,5 +17,5 @@ FewLost = (L : Limits) (m : Model) → valid L m ≡ true → length (lost_numbe
 -- so whoever lends a record for each card and that many numbers never gets 4, whatever the cabinet
 abbrev pub NeverShort : Type 0
 NeverShort =
-    (L : Limits) (m : Model) (cardPlaces lostPlaces : ℕ) → L.width ≤ cardPlaces → most_lost L ≤ lostPlaces
-    → (fix_plan L m cardPlaces lostPlaces).reply ≡ refused TooShort → ⊥
+    (L : Limits) (m : Model) (card_places lost_places : ℕ) → L.width ≤ card_places → most_lost L ≤ lost_places
+    → (fix_plan L m card_places lost_places).reply ≡ refused TooShort → ⊥

@@ -25,7 +25,7 @@ pub data Call : Type 0 where
   open_call : (reads writes : CardSet) → Call
   plain : Plain → Call
   lose_call : (cards : CardSet) → Call
-  fix_call : (cardPlaces lostPlaces : ℕ) → Call
+  fix_call : (card_places lost_places : ℕ) → Call
   sheet_call : (card places : ℕ) → Call
   -- restart from the sheets of all cards as this cabinet writes them, joined
   restart_call : Call

@@ -19,8 +19,8 @@ pub record WritesRefused (L : Limits) (m : Model) : Type 0 where
   pub end : (c x : ℕ) → is_card L m c ≡ true → is_rolling m.phase ≡ false → (is_writing m c ≡ false) ⊎ ((x < m.numbers.stored c) ⊎ (writes_to m c < x))
       → (end_plan L m c x).reply ≡ refused EndOutside
   -- whatever is lent, and whichever card it is: 4 comes after it
-  pub fix : (cardPlaces lostPlaces : ℕ) → is_down m.phase ≡ true → m.session < L.greatest_number → some_writing L m ≡ true
-      → (fix_plan L m cardPlaces lostPlaces).reply ≡ refused WriteUnreported
+  pub fix : (card_places lost_places : ℕ) → is_down m.phase ≡ true → m.session < L.greatest_number → some_writing L m ≡ true
+      → (fix_plan L m card_places lost_places).reply ≡ refused WriteUnreported
 
 abbrev pub RefusedWhileWriting : Type 0
 RefusedWhileWriting = (L : Limits) (m : Model) → valid L m ≡ true → WritesRefused L m

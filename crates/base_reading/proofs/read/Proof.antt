@@ -3,7 +3,7 @@ use borrow.Author.Rules.{rules}
 use Prim.Native.Nat.{◌-◌, ◌≤◌}
 use mathlib.Core.Path.{sym, ◌∙◌}
 use native.Mathlib.Omega.{arith}
-use borrow.Author.Tests.{not_true, not-false}
+use borrow.Author.Tests.{not-true, not-false}
 use lib.ListN.{length}
 use Rattle.base_reading.specs.Reads.{limit}
 use Rattle.base_reading.proofs.Runs.{SoFar, read_none, read_more, read_all, read_over, run_stops, run_out, digit_from}
@@ -32,7 +32,7 @@ returns : tie.Need-returns invariant-loop decreases-loop
 returns c =
     c.ended.ensures
     ∙ read_all c.before.before.before.before.before.loop.invariant.0
-    (run_stops _ _ c.before.before.before.before.loop-test.true (sym c.before.before.is_digit.ensures ∙ not_true _ c.before.if1.true))
+    (run_stops _ _ c.before.before.before.before.loop-test.true (sym c.before.before.is_digit.ensures ∙ not-true _ c.before.if1.true))
 
 cast-v : tie.Need-overflow-cast-v invariant-loop decreases-loop
 cast-v c = search rules

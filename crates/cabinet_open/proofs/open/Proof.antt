@@ -9,7 +9,7 @@ use Rattle.theory_protocol.specs.Plan.{opened, accepted, Check}
 use Rattle.theory_protocol.specs.Calls.{open_checks, opened_change}
 use Rattle.base_refusal.specs.declared.Reply.{Reply}
 use Rattle.base_refusal.specs.declared.Reply.TheVariants.{Done}
-use Rattle.cabinet_layout.specs.Answers.{openReplyOf, firstFailing, after28}
+use Rattle.cabinet_layout.specs.Answers.{open_reply_of, first_failing, after28}
 use Rattle.cabinet_parts.specs.Opening.{open_answer}
 use Rattle.cabinet_plans.proofs.Call.{core_as, core_not}
 use Rattle.cabinet_open.proofs.Opened.{Opens, opens, open_next}
@@ -24,7 +24,7 @@ use Rattle.cabinet_open.proofs.open.Statement.{statement}
 use Rattle.cabinet_open.proofs.open.Tie as tie
 
 -- the first of its checks that fails
-first : (c : tie.After-open-verdict) → c.open-verdict.result ≡ firstFailing (after28 (not c.before.before.before.before.before.args.valid) (open_checks limits16 (alone c.before.before.before.before.before.args.t2) (member c.before.before.before.before.before.args.reads) (member c.before.before.before.before.before.args.writes)))
+first : (c : tie.After-open-verdict) → c.open-verdict.result ≡ first_failing (after28 (not c.before.before.before.before.before.args.valid) (open_checks limits16 (alone c.before.before.before.before.before.args.t2) (member c.before.before.before.before.before.args.reads) (member c.before.before.before.before.before.args.writes)))
 first c = c.open-verdict.ensures
 
 facts : (c : tie.After-open-verdict) → c.open-verdict.result ≡ Done → Opens (alone c.before.before.before.before.before.args.t2)
@@ -64,10 +64,10 @@ enum-told-2 : tie.Need-enum-told-2
 enum-told-2 c = search rules
 
 returns : tie.Need-returns
-returns c = let a : _ = c.before.before.before.before.before.before.before.before.before.before.before.before.args in let s : _ = a.t2 in let R : CardSet = member a.reads in let W : CardSet = member a.writes in let cs : List Check = after28 (not a.valid) (open_checks limits16 (alone s) R W) in core_as s _ cs (opened (suc s.head.latest)) (place (free_at limits16 (alone s)) (opened_change (suc s.head.latest) R W) ∷ latest (suc s.head.latest) ∷ []) _ (sym (first c.before.before.before.before.before.before.before) ∙ c.before.before.before.before.enum_told.given.1) (ap openReplyOf (c.before.before.before.before.before.before.open-answer.ensures ∙ ap (λ (r : Reply). open_answer r s.head.latest) c.before.before.before.before.enum_told.given.1) ∙ ap (λ (n : ℕ). accepted (opened n)) (add-one s.head.latest)) (open_next s c.before.before.before.free-at.result (free_at limits16 (alone s)) (s.head.latest + 1) (suc s.head.latest) _ _ R W c.before.before.before.free-at.ensures (add-one s.head.latest) c.before.opened.ensures c.counted.ensures)
+returns c = let a : _ = c.before.before.before.before.before.before.before.before.before.before.before.before.args in let s : _ = a.t2 in let R : CardSet = member a.reads in let W : CardSet = member a.writes in let cs : List Check = after28 (not a.valid) (open_checks limits16 (alone s) R W) in core_as s _ cs (opened (suc s.head.latest)) (place (free_at limits16 (alone s)) (opened_change (suc s.head.latest) R W) ∷ latest (suc s.head.latest) ∷ []) _ (sym (first c.before.before.before.before.before.before.before) ∙ c.before.before.before.before.enum_told.given.1) (ap open_reply_of (c.before.before.before.before.before.before.open-answer.ensures ∙ ap (λ (r : Reply). open_answer r s.head.latest) c.before.before.before.before.enum_told.given.1) ∙ ap (λ (n : ℕ). accepted (opened n)) (add-one s.head.latest)) (open_next s c.before.before.before.free-at.result (free_at limits16 (alone s)) (s.head.latest + 1) (suc s.head.latest) _ _ R W c.before.before.before.free-at.ensures (add-one s.head.latest) c.before.opened.ensures c.counted.ensures)
 
 returns-2 : tie.Need-returns-2
-returns-2 c = let a : _ = c.before.before.before.before.before.before.before.before.args in let s : _ = a.t2 in let R : CardSet = member a.reads in let W : CardSet = member a.writes in let cs : List Check = after28 (not a.valid) (open_checks limits16 (alone s) R W) in core_not s _ cs (opened (suc s.head.latest)) (place (free_at limits16 (alone s)) (opened_change (suc s.head.latest) R W) ∷ latest (suc s.head.latest) ∷ []) _ _ (sym (first c.before.before.before) ∙ c.enum-told2.given.1) (ap openReplyOf (c.before.before.open-answer.ensures ∙ ap (λ (r : Reply). open_answer r s.head.latest) c.enum-told2.given.1)) refl
+returns-2 c = let a : _ = c.before.before.before.before.before.before.before.before.args in let s : _ = a.t2 in let R : CardSet = member a.reads in let W : CardSet = member a.writes in let cs : List Check = after28 (not a.valid) (open_checks limits16 (alone s) R W) in core_not s _ cs (opened (suc s.head.latest)) (place (free_at limits16 (alone s)) (opened_change (suc s.head.latest) R W) ∷ latest (suc s.head.latest) ∷ []) _ _ (sym (first c.before.before.before) ∙ c.enum-told2.given.1) (ap open_reply_of (c.before.before.open-answer.ensures ∙ ap (λ (r : Reply). open_answer r s.head.latest) c.enum-told2.given.1)) refl
 
 pub open_spec : {M : Type 1} → statement M
 open_spec =

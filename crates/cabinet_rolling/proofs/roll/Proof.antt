@@ -12,7 +12,7 @@ use mathlib.Core.Bool.{not}
 use mathlib.Core.List.{List}
 use Rattle.theory_protocol.specs.Plan.{Check}
 use Rattle.theory_protocol.specs.Valid.{valid}
-use Rattle.cabinet_layout.specs.Answers.{firstFailing, after28}
+use Rattle.cabinet_layout.specs.Answers.{first_failing, after28}
 use Rattle.cabinet_layout.specs.Shape.{head_of, limits16, model_of}
 use Rattle.cabinet_plans.specs.Plans.{alone}
 use borrow.Author.Rules.{rules}
@@ -20,7 +20,7 @@ use Rattle.cabinet_rolling.proofs.roll.Statement.{statement}
 use Rattle.cabinet_rolling.proofs.roll.Tie as tie
 
 -- the first of its checks that fails
-first : (c : tie.After-roll-verdict) → c.roll-verdict.result ≡ firstFailing (after28 (not c.before.before.args.valid) (roll_checks limits16 (alone c.before.before.args.t2) c.before.before.args.card))
+first : (c : tie.After-roll-verdict) → c.roll-verdict.result ≡ first_failing (after28 (not c.before.before.args.valid) (roll_checks limits16 (alone c.before.before.args.t2) c.before.before.args.card))
 first c = c.roll-verdict.ensures
 
 -- the checks pass over frames that the core stands with

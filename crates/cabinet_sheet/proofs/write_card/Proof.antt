@@ -2,7 +2,7 @@
 use Prim.Native.Nat.{◌<◌}
 use mathlib.Core.Path.{sym, ◌∙◌}
 use native.Mathlib.Omega.{arith}
-use borrow.Author.Tests.{not_true, not-false}
+use borrow.Author.Tests.{not-true, not-false}
 use Rattle.cabinet_sheet.proofs.Told.{card_there, told_invalid, told_absent, passes_7, told_whole}
 use borrow.Author.Rules.{rules}
 use Rattle.cabinet_sheet.proofs.write_card.Statement.{statement}
@@ -11,7 +11,7 @@ use Rattle.cabinet_sheet.proofs.write_card.Tie as tie
 returns : tie.Need-returns
 returns c =
     let a = c.before.before.args in
-    told_invalid a.valid a.entries.now a.changes.now a.head a.rolled a.base a.stored a.card a.b.now (not_true _ c.if1.true)
+    told_invalid a.valid a.entries.now a.changes.now a.head a.rolled a.base a.stored a.card a.b.now (not-true _ c.if1.true)
 
 is-card-requires : tie.Need-is-card-requires
 is-card-requires c κs = search rules
@@ -19,7 +19,7 @@ is-card-requires c κs = search rules
 returns-2 : tie.Need-returns-2
 returns-2 c =
     let a = c.before.before.before.before.args in
-    told_absent a.valid a.entries.now a.changes.now a.head a.rolled a.base a.stored a.card a.b.now (not-false _ c.before.before.if1.false) (sym c.before.is_card.ensures ∙ not_true _ c.if2.true)
+    told_absent a.valid a.entries.now a.changes.now a.head a.rolled a.base a.stored a.card a.b.now (not-false _ c.before.before.if1.false) (sym c.before.is_card.ensures ∙ not-true _ c.if2.true)
 
 at-requires : tie.Need-at-requires
 at-requires c κs = search rules

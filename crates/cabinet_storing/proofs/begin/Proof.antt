@@ -9,7 +9,7 @@ use mathlib.Core.Path.{◌≡◌, refl, sym, ◌∙◌, ap}
 use mathlib.Core.Bool.{not}
 use mathlib.Core.List.{List, [], ◌∷◌}
 use Rattle.theory_protocol.specs.Plan.{Check}
-use Rattle.cabinet_layout.specs.Answers.{firstFailing, after28}
+use Rattle.cabinet_layout.specs.Answers.{first_failing, after28}
 use Rattle.cabinet_layout.specs.Shape.{limits16, model_of, with_writing}
 use Rattle.cabinet_plans.specs.Plans.{alone}
 use borrow.Author.Rules.{rules}
@@ -17,7 +17,7 @@ use Rattle.cabinet_storing.proofs.begin.Statement.{statement}
 use Rattle.cabinet_storing.proofs.begin.Tie as tie
 
 -- the first of its checks that fails
-first : (c : tie.After-store-verdict) → c.store-verdict.result ≡ firstFailing (after28 (not c.before.before.before.before.before.args.valid) (store_checks limits16 (alone c.before.before.before.before.before.args.t2) c.before.before.before.before.before.args.card c.before.before.before.before.before.args.last))
+first : (c : tie.After-store-verdict) → c.store-verdict.result ≡ first_failing (after28 (not c.before.before.before.before.before.args.valid) (store_checks limits16 (alone c.before.before.before.before.before.args.t2) c.before.before.before.before.before.args.card c.before.before.before.before.before.args.last))
 first c = c.store-verdict.ensures
 
 -- the checks pass over frames that the core stands with

@@ -6,7 +6,7 @@ use mathlib.Core.Path.{◌≡◌, refl, sym, ◌∙◌}
 use mathlib.Core.Bool.{not}
 use mathlib.Core.List.{List, [], ◌∷◌}
 use Rattle.theory_protocol.specs.Plan.{Check}
-use Rattle.cabinet_layout.specs.Answers.{firstFailing, after28}
+use Rattle.cabinet_layout.specs.Answers.{first_failing, after28}
 use Rattle.cabinet_layout.specs.Shape.{limits16}
 use Rattle.cabinet_plans.specs.Plans.{alone}
 use borrow.Author.Rules.{rules}
@@ -14,7 +14,7 @@ use Rattle.cabinet_storing.proofs.end.Statement.{statement}
 use Rattle.cabinet_storing.proofs.end.Tie as tie
 
 -- the first of its checks that fails
-first : (c : tie.After-end-verdict) → c.end-verdict.result ≡ firstFailing (after28 (not c.before.before.before.before.before.args.valid) (end_checks limits16 (alone c.before.before.before.before.before.args.t2) c.before.before.before.before.before.args.card c.before.before.before.before.before.args.reported))
+first : (c : tie.After-end-verdict) → c.end-verdict.result ≡ first_failing (after28 (not c.before.before.before.before.before.args.valid) (end_checks limits16 (alone c.before.before.before.before.before.args.t2) c.before.before.before.before.before.args.card c.before.before.before.before.before.args.reported))
 first c = c.end-verdict.ensures
 
 end-verdict-requires : tie.Need-end-verdict-requires

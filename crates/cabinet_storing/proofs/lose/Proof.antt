@@ -8,7 +8,7 @@ use mathlib.Core.Bool.{not}
 use mathlib.Core.List.{List}
 use Rattle.theory_protocol.specs.Plan.{Check}
 use Rattle.theory_protocol.specs.Valid.{valid}
-use Rattle.cabinet_layout.specs.Answers.{firstFailing, after28}
+use Rattle.cabinet_layout.specs.Answers.{first_failing, after28}
 use Rattle.cabinet_layout.specs.Shape.{limits16}
 use Rattle.cabinet_plans.specs.Plans.{alone}
 use borrow.Author.Rules.{rules}
@@ -16,7 +16,7 @@ use Rattle.cabinet_storing.proofs.lose.Statement.{statement}
 use Rattle.cabinet_storing.proofs.lose.Tie as tie
 
 -- the first of its checks that fails
-first : (c : tie.After-lose-verdict) → c.lose-verdict.result ≡ firstFailing (after28 (not c.before.before.before.before.before.args.valid) (lose_checks limits16 (alone c.before.before.before.before.before.args.core) (member c.before.before.before.before.before.args.cards)))
+first : (c : tie.After-lose-verdict) → c.lose-verdict.result ≡ first_failing (after28 (not c.before.before.before.before.before.args.valid) (lose_checks limits16 (alone c.before.before.before.before.before.args.core) (member c.before.before.before.before.before.args.cards)))
 first c = c.lose-verdict.ensures
 
 lose-verdict-requires : tie.Need-lose-verdict-requires

@@ -7,7 +7,7 @@ use mathlib.Core.Bool.{not}
 use mathlib.Core.List.{List, [], ◌∷◌}
 use Rattle.theory_protocol.specs.Plan.{Check}
 use Rattle.theory_protocol.specs.Valid.{valid}
-use Rattle.cabinet_layout.specs.Answers.{firstFailing, after28}
+use Rattle.cabinet_layout.specs.Answers.{first_failing, after28}
 use Rattle.cabinet_layout.specs.Shape.{limits16}
 use Rattle.cabinet_plans.specs.Plans.{alone}
 use borrow.Author.Rules.{rules}
@@ -15,7 +15,7 @@ use Rattle.cabinet_storing.proofs.store.Statement.{statement}
 use Rattle.cabinet_storing.proofs.store.Tie as tie
 
 -- the first of its checks that fails
-first : (c : tie.After-store-verdict) → c.store-verdict.result ≡ firstFailing (after28 (not c.before.before.before.before.before.args.valid) (store_checks limits16 (alone c.before.before.before.before.before.args.t2) c.before.before.before.before.before.args.card c.before.before.before.before.before.args.state))
+first : (c : tie.After-store-verdict) → c.store-verdict.result ≡ first_failing (after28 (not c.before.before.before.before.before.args.valid) (store_checks limits16 (alone c.before.before.before.before.before.args.t2) c.before.before.before.before.before.args.card c.before.before.before.before.before.args.state))
 first c = c.store-verdict.ensures
 
 store-verdict-requires : tie.Need-store-verdict-requires

@@ -6,7 +6,7 @@ use mathlib.Core.Bool.{true, not}
 use lib.ListN.{get_or}
 use Rattle.base_bits.specs.Member.{member}
 use Rattle.theory_protocol.specs.Calls.{take_checks}
-use Rattle.cabinet_layout.specs.Answers.{firstFailing, after28}
+use Rattle.cabinet_layout.specs.Answers.{first_failing, after28}
 use Rattle.cabinet_layout.specs.declared.Slot.{Slot}
 use Rattle.cabinet_layout.specs.Shape.{limits16, at, model_of, empty_slot}
 use Rattle.cabinet_plans.specs.Plans.{alone}
@@ -18,7 +18,7 @@ use Rattle.cabinet_taking.proofs.take.Statement.{statement}
 use Rattle.cabinet_taking.proofs.take.Tie as tie
 
 -- the first of its checks that fails
-first : (c : tie.After-take-verdict) → c.take-verdict.result ≡ firstFailing (after28 (not c.before.before.before.args.valid) (take_checks limits16 (alone c.before.before.before.args.t2) c.before.before.before.args.change c.before.before.before.args.card))
+first : (c : tie.After-take-verdict) → c.take-verdict.result ≡ first_failing (after28 (not c.before.before.before.args.valid) (take_checks limits16 (alone c.before.before.before.args.t2) c.before.before.before.args.change c.before.before.before.args.card))
 first c = c.take-verdict.ensures
 
 -- the checks pass over frames that the core stands with

@@ -7,7 +7,7 @@ use Rattle.theory_history.specs.Change.{Numbers}
 use Rattle.theory_protocol.specs.Edit.{rebase}
 use Rattle.theory_protocol.specs.Calls.{trim_checks, lines}
 use Rattle.cabinet_layout.specs.declared.Core.{Core}
-use Rattle.cabinet_layout.specs.Answers.{firstFailing, after28}
+use Rattle.cabinet_layout.specs.Answers.{first_failing, after28}
 use Rattle.cabinet_layout.specs.Shape.{limits16, list_of, head_model, model_of, with_numbers}
 use Rattle.cabinet_layout.specs.Applied.{applied_all}
 use Rattle.cabinet_plans.proofs.Call.{core_done, core_refused}
@@ -20,10 +20,10 @@ trimmed : (s : Core) (bases : Numbers) (base : List ℕ) → base ≡ list_of ba
 trimmed s bases base e = λ i. with_numbers s (e i) s.stored s.held s.reached
 
 -- the first of its checks that fails
-first : (c : tie.After-trim-verdict) → let a : _ = c.before.before.before.before.before.before.args in c.trim-verdict.result ≡ firstFailing (trim_checks limits16 (model_of a.entries.now a.changes.now a.core))
+first : (c : tie.After-trim-verdict) → let a : _ = c.before.before.before.before.before.before.args in c.trim-verdict.result ≡ first_failing (trim_checks limits16 (model_of a.entries.now a.changes.now a.core))
 first c =
     c.trim-verdict.ensures
-    ∙ ap (λ (x : Bool). firstFailing (after28 (not x) (trim_checks limits16 (head_model c.before.before.before.before.before.before.args.core.head)))) c.before.before.before.before.before.cabinet-valid.ensures
+    ∙ ap (λ (x : Bool). first_failing (after28 (not x) (trim_checks limits16 (head_model c.before.before.before.before.before.before.args.core.head)))) c.before.before.before.before.before.cabinet-valid.ensures
 
 cabinet-valid-requires : tie.Need-cabinet-valid-requires
 cabinet-valid-requires c κs = search rules

@@ -13,14 +13,14 @@ use mathlib.Core.Bool.{not}
 use mathlib.Core.List.{List, [], ◌∷◌}
 use Rattle.theory_protocol.specs.Plan.{Check}
 use Rattle.theory_protocol.specs.Valid.{valid}
-use Rattle.cabinet_layout.specs.Answers.{firstFailing, after28}
+use Rattle.cabinet_layout.specs.Answers.{first_failing, after28}
 use Rattle.cabinet_plans.specs.Plans.{alone}
 use borrow.Author.Rules.{rules}
 use Rattle.cabinet_voting.proofs.vote.Statement.{statement}
 use Rattle.cabinet_voting.proofs.vote.Tie as tie
 
 -- the first of its checks that fails
-first : (c : tie.After-vote-verdict) → c.vote-verdict.result ≡ firstFailing (after28 (not c.before.before.before.before.before.before.args.valid) (vote_checks limits16 (alone c.before.before.before.before.before.before.args.t2) c.before.before.before.before.before.before.args.change c.before.before.before.before.before.before.args.card))
+first : (c : tie.After-vote-verdict) → c.vote-verdict.result ≡ first_failing (after28 (not c.before.before.before.before.before.before.args.valid) (vote_checks limits16 (alone c.before.before.before.before.before.before.args.t2) c.before.before.before.before.before.before.args.change c.before.before.before.before.before.before.args.card))
 first c = c.vote-verdict.ensures
 
 -- the checks pass over frames that the core stands with

@@ -11,14 +11,14 @@ use mathlib.Core.Bool.{not}
 use mathlib.Core.List.{List, [], ◌∷◌}
 use Rattle.theory_protocol.specs.Plan.{Check}
 use Rattle.theory_protocol.specs.Valid.{valid}
-use Rattle.cabinet_layout.specs.Answers.{firstFailing, after28}
+use Rattle.cabinet_layout.specs.Answers.{first_failing, after28}
 use Rattle.cabinet_plans.specs.Plans.{alone}
 use borrow.Author.Rules.{rules}
 use Rattle.cabinet_voting.proofs.withdraw.Statement.{statement}
 use Rattle.cabinet_voting.proofs.withdraw.Tie as tie
 
 -- the first of its checks that fails
-first : (c : tie.After-withdraw-verdict) → c.withdraw-verdict.result ≡ firstFailing (after28 (not c.before.before.before.args.valid) (withdraw_checks limits16 (alone c.before.before.before.args.t2) c.before.before.before.args.change))
+first : (c : tie.After-withdraw-verdict) → c.withdraw-verdict.result ≡ first_failing (after28 (not c.before.before.before.args.valid) (withdraw_checks limits16 (alone c.before.before.before.args.t2) c.before.before.before.args.change))
 first c = c.withdraw-verdict.ensures
 
 in-slots : (c : tie.After-slot-of) → c.slot_of.result < 8

@@ -1,6 +1,6 @@
 -- `list_answer_frames::put_frames` writes what the states in hand of a card hang on. Assumes nothing.
 use Prim.Native.Nat.{ℕ, suc, ◌+◌}
-use borrow.Author.Tests.{not_true, not-false}
+use borrow.Author.Tests.{not-true, not-false}
 use Rattle.base_laws.specs.Below.{tabulate}
 use Rattle.base_lines.specs.Lines.{joined}
 use Rattle.base_text.proofs.Puts.{put_then, put_as}
@@ -22,7 +22,7 @@ same_length c = search rules
 returns : tie.Need-returns
 returns c =
     let a = c.before.before.before.before.before.before.before.args in
-    put_as (refused_28 a.entries.now a.changes.now a.core a.card _ c.before.before.before.before.before.cabinet-valid.ensures (not_true _ c.before.before.before.before.if1.true)) c.before.before.put-refusal.ensures
+    put_as (refused_28 a.entries.now a.changes.now a.core a.card _ c.before.before.before.before.before.cabinet-valid.ensures (not-true _ c.before.before.before.before.if1.true)) c.before.before.put-refusal.ensures
 
 is-card-requires : tie.Need-is-card-requires
 is-card-requires c κs = search rules
@@ -36,7 +36,7 @@ same-length-2 c = search rules
 returns-2 : tie.Need-returns-2
 returns-2 c =
     let a = c.before.before.before.before.before.before.before.before.before.before.args in
-    put_as (refused_2 a.entries.now a.changes.now a.core a.card _ _ c.before.before.before.before.before.before.before.before.cabinet-valid.ensures (not-false _ c.before.before.before.before.before.before.before.if1.false) c.before.before.before.before.before.is_card.ensures (not_true _ c.before.before.before.before.if2.true)) c.before.before.put-refusal2.ensures
+    put_as (refused_2 a.entries.now a.changes.now a.core a.card _ _ c.before.before.before.before.before.before.before.before.cabinet-valid.ensures (not-false _ c.before.before.before.before.before.before.before.if1.false) c.before.before.before.before.before.is_card.ensures (not-true _ c.before.before.before.before.if2.true)) c.before.before.put-refusal2.ensures
 
 at-requires : tie.Need-at-requires
 at-requires c κs = search rules

@@ -1,7 +1,7 @@
 -- `list_answers::put_open` writes the answer of open. Assumes nothing.
 use mathlib.Core.Path.{sym, ap}
 use Rattle.cabinet_layout.specs.declared.OpenReply.{OpenReply}
-use Rattle.cabinet_layout.specs.Answers.{openReplyOf}
+use Rattle.cabinet_layout.specs.Answers.{open_reply_of}
 use Rattle.list_answers.specs.Texts.{reply_text}
 use Rattle.base_text.proofs.Puts.{put_as}
 use borrow.Author.Rules.{rules}
@@ -30,13 +30,13 @@ same_length : tie.Need-same-length
 same_length c = search rules
 
 returns : tie.Need-returns
-returns c = put_as (ap (λ (x : OpenReply). reply_text (openReplyOf x)) (sym c.before.before.before.before.before.before.before.r.given.1)) c.before.before.put-line.ensures
+returns c = put_as (ap (λ (x : OpenReply). reply_text (open_reply_of x)) (sym c.before.before.before.before.before.before.before.r.given.1)) c.before.before.put-line.ensures
 
 same-length-2 : tie.Need-same-length-2
 same-length-2 c = search rules
 
 returns-2 : tie.Need-returns-2
-returns-2 c = put_as (ap (λ (x : OpenReply). reply_text (openReplyOf x)) (sym c.before.before.before.before.before.r2.given.1)) c.before.before.put-refusal.ensures
+returns-2 c = put_as (ap (λ (x : OpenReply). reply_text (open_reply_of x)) (sym c.before.before.before.before.before.r2.given.1)) c.before.before.put-refusal.ensures
 
 pub put-open-spec : {M : Type 1} → statement M
 put-open-spec =

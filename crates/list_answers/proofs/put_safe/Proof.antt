@@ -1,7 +1,7 @@
 -- `list_answers::put_safe` writes the answer of safe. Assumes nothing.
 use mathlib.Core.Path.{sym, ap}
 use Rattle.cabinet_layout.specs.declared.SafeReply.{SafeReply}
-use Rattle.cabinet_layout.specs.Answers.{safeReplyOf}
+use Rattle.cabinet_layout.specs.Answers.{safe_reply_of}
 use Rattle.list_answers.specs.Texts.{reply_text}
 use Rattle.base_text.proofs.Puts.{put_as}
 use borrow.Author.Rules.{rules}
@@ -36,19 +36,19 @@ same_length : tie.Need-same-length
 same_length c = search rules
 
 returns : tie.Need-returns
-returns c = put_as (ap (λ (x : SafeReply). reply_text (safeReplyOf x)) (sym c.before.before.before.before.before.enum_told.given.1)) c.before.before.put.ensures
+returns c = put_as (ap (λ (x : SafeReply). reply_text (safe_reply_of x)) (sym c.before.before.before.before.before.enum_told.given.1)) c.before.before.put.ensures
 
 same-length-2 : tie.Need-same-length-2
 same-length-2 c = search rules
 
 returns-2 : tie.Need-returns-2
-returns-2 c = put_as (ap (λ (x : SafeReply). reply_text (safeReplyOf x)) (sym c.before.before.before.before.before.enum-told2.given.1)) c.before.before.put2.ensures
+returns-2 c = put_as (ap (λ (x : SafeReply). reply_text (safe_reply_of x)) (sym c.before.before.before.before.before.enum-told2.given.1)) c.before.before.put2.ensures
 
 same-length-3 : tie.Need-same-length-3
 same-length-3 c = search rules
 
 returns-3 : tie.Need-returns-3
-returns-3 c = put_as (ap (λ (x : SafeReply). reply_text (safeReplyOf x)) (sym c.before.before.before.before.before.r.given.1)) c.before.before.put-refusal.ensures
+returns-3 c = put_as (ap (λ (x : SafeReply). reply_text (safe_reply_of x)) (sym c.before.before.before.before.before.r.given.1)) c.before.before.put-refusal.ensures
 
 pub put-safe-spec : {M : Type 1} → statement M
 put-safe-spec =

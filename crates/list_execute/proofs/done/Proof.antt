@@ -1,5 +1,5 @@
 -- `list_execute::done` does what a line says. Assumes nothing.
-use borrow.Author.Tests.{not_true, not-false}
+use borrow.Author.Tests.{not-true, not-false}
 use Rattle.list_commands.specs.declared.Command.{Command}
 use Rattle.list_results.specs.Step.{Steps}
 use Rattle.list_results.proofs.Steps.{told_for, asked_here, asked_nowhere}
@@ -29,7 +29,7 @@ same_length : tie.Need-same-length
 same_length c = search rules
 
 returns : tie.Need-returns
-returns c = asked_nowhere c.before.before.before.before.before.before.before.before.before.args.r _ c.before.before.before.before.before.before.said2.given.1 (not_true _ c.before.before.before.before.if1.true) c.before.before.none.ensures
+returns c = asked_nowhere c.before.before.before.before.before.before.before.before.before.args.r _ c.before.before.before.before.before.before.said2.given.1 (not-true _ c.before.before.before.before.if1.true) c.before.before.none.ensures
 
 enum-known-q : tie.Need-enum-known-q
 enum-known-q c = search rules

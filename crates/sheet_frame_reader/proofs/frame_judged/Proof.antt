@@ -2,7 +2,7 @@
 use mathlib.Core.Path.{refl, sym, ◌∙◌, ap}
 use borrow.Author.Rules.{rules}
 use native.Mathlib.Omega.{arith}
-use borrow.Author.Tests.{not_true, not-false}
+use borrow.Author.Tests.{not-true, not-false}
 use Prim.Native.Nat.{◌+◌}
 use lib.ListN.{drop}
 use Rattle.sheet_lines.specs.Lines.{padded}
@@ -29,7 +29,7 @@ frame-refused-requires c κs = search rules
 returns : tie.Need-returns
 returns c =
     let a = c.before.before.before.before.args in
-    c.Frame-refused.ensures ∙ frame_reply_lem (format_of a.f) a.start a.card a.n a.state a.last (drop a.at a.s.now) c.before.before.before.before.requires.3 (sym (not_true _ c.before.if1.true) ∙ c.before.before.check-at.ensures) refl
+    c.Frame-refused.ensures ∙ frame_reply_lem (format_of a.f) a.start a.card a.n a.state a.last (drop a.at a.s.now) c.before.before.before.before.requires.3 (sym (not-true _ c.before.if1.true) ∙ c.before.before.check-at.ensures) refl
 
 number-at-requires : tie.Need-number-at-requires
 number-at-requires c κs = search rules
@@ -58,7 +58,7 @@ frame-refused-requires-2 c κs = search rules
 returns-2 : tie.Need-returns-2
 returns-2 c =
     let a = c.before.before.before.before.before.before.before.before.before.args in
-    c.frame-refused2.ensures ∙ frame_reply_lem (format_of a.f) a.start a.card a.n a.state a.last (drop a.at a.s.now) c.before.before.before.before.before.before.before.before.before.requires.3 (sym (not-false _ c.before.before.before.before.before.before.if1.false) ∙ c.before.before.before.before.before.before.before.check-at.ensures) (frame_taken (format_of a.f) a.card a.n a.state a.at a.last a.s.now (omega arith) (sym (not_true _ c.before.if2.true) ∙ c.before.before.frame-allowed.ensures) c.before.before.before.before.before.number_at.ensures c.before.before.before.before.number-at2.ensures (c.before.before.before.entries_at.ensures ∙ ap padded (entries_by_lem (format_of a.f) a.n (drop (a.at + (a.f.width + 8)) a.s.now) c.before.before.before.before.before.before.before.before.before.requires.0.none)))
+    c.frame-refused2.ensures ∙ frame_reply_lem (format_of a.f) a.start a.card a.n a.state a.last (drop a.at a.s.now) c.before.before.before.before.before.before.before.before.before.requires.3 (sym (not-false _ c.before.before.before.before.before.before.if1.false) ∙ c.before.before.before.before.before.before.before.check-at.ensures) (frame_taken (format_of a.f) a.card a.n a.state a.at a.last a.s.now (omega arith) (sym (not-true _ c.before.if2.true) ∙ c.before.before.frame-allowed.ensures) c.before.before.before.before.before.number_at.ensures c.before.before.before.before.number-at2.ensures (c.before.before.before.entries_at.ensures ∙ ap padded (entries_by_lem (format_of a.f) a.n (drop (a.at + (a.f.width + 8)) a.s.now) c.before.before.before.before.before.before.before.before.before.requires.0.none)))
 
 returns-3 : tie.Need-returns-3
 returns-3 c =

@@ -4,7 +4,7 @@ use mathlib.Core.Bool.{true}
 use mathlib.Core.Path.{◌≡◌, refl, sym, ◌∙◌, ap}
 use borrow.Author.Rules.{rules}
 use native.Mathlib.Omega.{arith}
-use borrow.Author.Tests.{not_true, not-false}
+use borrow.Author.Tests.{not-true, not-false}
 use lib.ListN.{get_or}
 use Rattle.base_laws.specs.Below.{all_below}
 use Rattle.sheet_lines.specs.Format.{format_of}
@@ -44,7 +44,7 @@ returns : tie.Need-returns invariant-loop decreases-loop
 unfolding entries_allowed
 returns c =
     let a = c.before.before.before.before.args in
-    below_stop c.before.before.before.loop.j a.n (λ i. entry_allowed (format_of a.f) a.card a.state i (get_or a.t5 i 0) (get_or a.t6 i 0)) c.before.before.loop-test.true c.before.entry-allowed.ensures (not_true _ c.if1.true)
+    below_stop c.before.before.before.loop.j a.n (λ i. entry_allowed (format_of a.f) a.card a.state i (get_or a.t5 i 0) (get_or a.t6 i 0)) c.before.before.loop-test.true c.before.entry-allowed.ensures (not-true _ c.if1.true)
 
 add-j : tie.Need-overflow-add-j invariant-loop decreases-loop
 add-j c = search rules

@@ -1,7 +1,7 @@
 -- `sheet_frame_rules::entry_allowed` judges an entry. Assumes nothing.
 use mathlib.Core.Path.{refl, sym, ◌∙◌}
 use borrow.Author.Rules.{rules}
-use borrow.Author.Tests.{le-leb, lt-leb, eq-eqb, ne_eqb, not_true, not-false}
+use borrow.Author.Tests.{le-leb, lt-leb, eq-eqb, ne_eqb, not-true, not-false}
 use Rattle.sheet_lines.specs.Format.{format_of}
 use Rattle.sheet_lines.proofs.Judged.{entry_tests}
 use Rattle.sheet_frame_rules.proofs.entry_allowed.Statement.{statement}
@@ -13,7 +13,7 @@ follows-requires c κs = search rules
 returns : tie.Need-returns
 returns c =
     let a = c.before.before.args in
-    entry_tests (format_of a.f) a.card a.state a.j a.p a.e (sym c.before.follows.ensures ∙ not_true _ c.if1.true) refl refl refl
+    entry_tests (format_of a.f) a.card a.state a.j a.p a.e (sym c.before.follows.ensures ∙ not-true _ c.if1.true) refl refl refl
 
 returns-2 : tie.Need-returns-2
 returns-2 c =

@@ -1,7 +1,7 @@
 -- `sheet_frame_rules::frame_allowed` judges a frame. Assumes nothing.
 use mathlib.Core.Path.{◌≡◌, refl}
 use borrow.Author.Rules.{rules}
-use borrow.Author.Tests.{lt-ltb, le-ltb, eq-eqb, ne_eqb, not_true, not-false}
+use borrow.Author.Tests.{lt-ltb, le-ltb, eq-eqb, ne_eqb, not-true, not-false}
 use native.Mathlib.Omega.{arith}
 use lib.ListN.{length}
 use Rattle.sheet_lines.specs.Format.{format_of}
@@ -32,7 +32,7 @@ returns-3 c =
     let x : length a.last.entries ≡ 16 = search rules in
     let y : length a.next.entries ≡ 16 = search rules in
     frame_tests (format_of a.f) a.card a.n a.state a.told a.last a.next (eq-eqb _ _ c.before.before.before.before.before.before.before.before.if1.false) (lt-ltb _ _ c.before.before.before.before.before.if2.false)
-    (entries_fail (format_of a.f) a.card a.state a.n a.last.entries a.next.entries x y c.before.before.at-most-16.ensures c.before.entries-allowed.ensures (not_true _ c.if3.true))
+    (entries_fail (format_of a.f) a.card a.state a.n a.last.entries a.next.entries x y c.before.before.at-most-16.ensures c.before.entries-allowed.ensures (not-true _ c.if3.true))
 
 absent-allowed-requires : tie.Need-absent-allowed-requires
 absent-allowed-requires c κs = search rules

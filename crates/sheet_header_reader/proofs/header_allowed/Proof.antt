@@ -3,7 +3,7 @@ use mathlib.Core.Path.{refl, sym, ◌∙◌}
 use borrow.Author.Rules.{rules}
 use native.Mathlib.Omega.{arith}
 use Prim.Native.Nat.{◌+◌}
-use borrow.Author.Tests.{lt-ltb, le-ltb, le-leb, lt-leb, eq-eqb, ne_eqb, not_true, not-false}
+use borrow.Author.Tests.{lt-ltb, le-ltb, le-leb, lt-leb, eq-eqb, ne_eqb, not-true, not-false}
 use Rattle.sheet_lines.specs.Format.{format_of}
 use Rattle.sheet_lines.proofs.Judged.{header_tests, within}
 use Rattle.sheet_header_reader.proofs.header_allowed.Statement.{statement}
@@ -38,7 +38,7 @@ agrees-requires c κs = search rules
 returns-5 : tie.Need-returns-5
 returns-5 c =
     let a = c.before.before.before.before.before.before.before.before.before.before.args in
-    header_tests (format_of a.f) a.due a.first a.h c.before.before.before.before.before.before.before.before.before.unraised.ensures (ne_eqb _ _ c.before.before.before.before.before.before.before.if1.false) (eq-eqb _ _ c.before.before.before.before.before.if2.false) (lt-ltb _ _ c.before.before.before.if3.false) (le-leb _ _ c.before.before.if4.false) (sym c.before.agrees.ensures ∙ not_true _ c.if5.true) refl refl
+    header_tests (format_of a.f) a.due a.first a.h c.before.before.before.before.before.before.before.before.before.unraised.ensures (ne_eqb _ _ c.before.before.before.before.before.before.before.if1.false) (eq-eqb _ _ c.before.before.before.before.before.if2.false) (lt-ltb _ _ c.before.before.before.if3.false) (le-leb _ _ c.before.before.if4.false) (sym c.before.agrees.ensures ∙ not-true _ c.if5.true) refl refl
 
 returns-6 : tie.Need-returns-6
 returns-6 c =

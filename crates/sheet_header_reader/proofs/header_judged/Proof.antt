@@ -1,7 +1,7 @@
 -- `sheet_header_reader::header_judged` judges a header line whose shape is right. Assumes nothing.
 use mathlib.Core.Path.{refl, sym, ◌∙◌}
 use borrow.Author.Rules.{rules}
-use borrow.Author.Tests.{not_true, not-false}
+use borrow.Author.Tests.{not-true, not-false}
 use lib.ListN.{drop}
 use Rattle.sheet_lines.specs.Format.{format_of}
 use Rattle.sheet_lines.proofs.Judged.{header_reply_lem}
@@ -23,7 +23,7 @@ check-at-requires c κs = search rules
 returns : tie.Need-returns
 returns c =
     let a = c.before.before.before.before.before.before.args in
-    header_reply_lem (format_of a.f) a.due a.first (drop a.at a.s.now) c.before.before.before.before.before.before.requires.2 c.before.before.before.header-in.ensures c.before.before.start_of_lem.ensures (sym (not_true _ c.if1.true) ∙ c.before.check-at.ensures) refl
+    header_reply_lem (format_of a.f) a.due a.first (drop a.at a.s.now) c.before.before.before.before.before.before.requires.2 c.before.before.before.header-in.ensures c.before.before.start_of_lem.ensures (sym (not-true _ c.if1.true) ∙ c.before.check-at.ensures) refl
 
 header-allowed-requires : tie.Need-header-allowed-requires
 header-allowed-requires c κs = search rules
@@ -31,7 +31,7 @@ header-allowed-requires c κs = search rules
 returns-2 : tie.Need-returns-2
 returns-2 c =
     let a = c.before.before.before.before.before.before.before.before.args in
-    header_reply_lem (format_of a.f) a.due a.first (drop a.at a.s.now) c.before.before.before.before.before.before.before.before.requires.2 c.before.before.before.before.before.header-in.ensures c.before.before.before.before.start_of_lem.ensures (sym (not-false _ c.before.before.if1.false) ∙ c.before.before.before.check-at.ensures) (sym (not_true _ c.if2.true) ∙ c.before.header-allowed.ensures)
+    header_reply_lem (format_of a.f) a.due a.first (drop a.at a.s.now) c.before.before.before.before.before.before.before.before.requires.2 c.before.before.before.before.before.header-in.ensures c.before.before.before.before.start_of_lem.ensures (sym (not-false _ c.before.before.if1.false) ∙ c.before.before.before.check-at.ensures) (sym (not-true _ c.if2.true) ∙ c.before.header-allowed.ensures)
 
 returns-3 : tie.Need-returns-3
 returns-3 c =

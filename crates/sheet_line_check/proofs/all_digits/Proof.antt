@@ -3,7 +3,7 @@ use Rattle.std.proofs.Common.{◌≡◌, ◌-◌, ◌≤◌, take, drop, sym, ap
 use Rattle.base_laws.proofs.Seq.{left, left_none, left_all}
 use Rattle.sheet_digits.specs.Digits.{all_digits}
 use Rattle.sheet_line_check.proofs.Steps.{all_step, all_stop}
-use borrow.Author.Tests.{not_true, not-false}
+use borrow.Author.Tests.{not-true, not-false}
 use Rattle.sheet_line_check.proofs.all_digits.Statement.{statement}
 use Rattle.sheet_line_check.proofs.all_digits.Tie as tie
 
@@ -28,7 +28,7 @@ is-digit-requires c κs = search rules
 returns : tie.Need-returns invariant-loop decreases-loop
 returns c =
     let a = c.before.before.before.before.before.before.args in
-    all_stop a.s.now a.at a.n c.before.before.before.before.loop.i (omega arith) c.before.before.before.before.before.before.requires c.before.before.before.before.loop.invariant.1 (sym c.before.is_digit.ensures ∙ not_true _ c.if1.true)
+    all_stop a.s.now a.at a.n c.before.before.before.before.loop.i (omega arith) c.before.before.before.before.before.before.requires c.before.before.before.before.loop.invariant.1 (sym c.before.is_digit.ensures ∙ not-true _ c.if1.true)
 
 add-i : tie.Need-overflow-add-i invariant-loop decreases-loop
 add-i c = search rules

@@ -1,6 +1,6 @@
 -- `sheet_line_check::shape_at` tells the shape of the line that is due. Assumes nothing.
 use Rattle.std.proofs.Common.{◌+◌, ◌-◌, length, sym, refl, ◌∙◌, arith, rules, eq-eqb, ne_eqb, le-leb}
-use borrow.Author.Tests.{lt-leb, not_true, not-false}
+use borrow.Author.Tests.{lt-leb, not-true, not-false}
 use Rattle.sheet_line_check.proofs.Steps.{shape_end, shape_tests}
 use Rattle.sheet_line_check.proofs.shape_at.Statement.{statement}
 use Rattle.sheet_line_check.proofs.shape_at.Tie as tie
@@ -36,7 +36,7 @@ all-digits-requires c κs = search rules
 returns-4 : tie.Need-returns-4
 returns-4 c =
     let a = c.before.before.before.before.before.before.args in
-    shape_tests a.n a.at a.s.now (omega arith) (le-leb (a.n + 5) (length a.s.now - a.at) (omega (arith, c.before.before.if3.false))) (sym c.before.all_digits.ensures ∙ not_true _ c.if4.true) refl
+    shape_tests a.n a.at a.s.now (omega arith) (le-leb (a.n + 5) (length a.s.now - a.at) (omega (arith, c.before.before.if3.false))) (sym c.before.all_digits.ensures ∙ not-true _ c.if4.true) refl
 
 add-if5 : tie.Need-overflow-add-if5
 add-if5 c = search rules

@@ -2,7 +2,7 @@
 use Prim.Native.Nat.{◌-◌, ◌≤◌, ◌<◌, zero-le}
 use mathlib.Core.Path.{◌≡◌, refl}
 use borrow.Author.Rules.{rules}
-use borrow.Author.Tests.{not_true, not-false}
+use borrow.Author.Tests.{not-true, not-false}
 use native.Mathlib.Omega.{arith}
 use Rattle.sheet_lines.specs.Format.{format_of}
 use Rattle.sheet_lines.specs.Lines.{cards_of, no_frame}
@@ -47,7 +47,7 @@ returns c =
     let l = c.before.before.before.before.loop in
     judged_all (format_of a.f) a.h.card u.result a.h.base a.h.count (rows_of a.changes.now a.entries.now a.h.card a.h.base) no_frame (cards_of (format_of a.f) a.h) u.ensures
     (judging_stop (format_of a.f) a.h.card u.result a.h.base a.h.count (rows_of a.changes.now a.entries.now a.h.card a.h.base) l.last no_frame l.k c.before.before.before.loop-test.true l.invariant.1
-    (next_row a.changes.now a.entries.now a.h.card a.h.base l.k (is_card_lem c.before.before.before.before.before) c.before.before.frame_of.ensures) c.before.frame-allowed.ensures (not_true _ c.if1.true))
+    (next_row a.changes.now a.entries.now a.h.card a.h.base l.k (is_card_lem c.before.before.before.before.before) c.before.before.frame_of.ensures) c.before.frame-allowed.ensures (not-true _ c.if1.true))
 
 add-k : tie.Need-overflow-add-k invariant-loop decreases-loop
 add-k c = search rules

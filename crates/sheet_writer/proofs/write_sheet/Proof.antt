@@ -1,7 +1,7 @@
 -- `sheet_writer::write_sheet` writes the sheet that a ring holds for a header, or refuses it and changes no byte. Assumes nothing.
 use mathlib.Core.Path.{sym, ◌∙◌, ap}
 use borrow.Author.Rules.{rules}
-use borrow.Author.Tests.{not_true, not-false}
+use borrow.Author.Tests.{not-true, not-false}
 use Rattle.sheet_lines.specs.Format.{Format}
 use Rattle.sheet_lines.specs.Lines.{header_allowed}
 use Rattle.sheet_writer.proofs.Single.{told_7, told_9, told_passed}
@@ -17,7 +17,7 @@ header-allowed-requires c κs = search rules
 returns : tie.Need-returns
 returns c =
     let a = c.before.before.before.before.args in
-    told_7 a.changes.now a.entries.now a.h a.b.now c.before.before.layout_of.ensures.0 c.before.header-allowed.ensures (not_true _ c.if1.true)
+    told_7 a.changes.now a.entries.now a.h a.b.now c.before.before.layout_of.ensures.0 c.before.header-allowed.ensures (not-true _ c.if1.true)
 
 frames-pass-requires : tie.Need-frames-pass-requires
 frames-pass-requires c κs = (c.before.before.layout_of.ensures.1, sym c.before.header-allowed.ensures ∙ not-false _ c.if1.false)
@@ -25,7 +25,7 @@ frames-pass-requires c κs = (c.before.before.layout_of.ensures.1, sym c.before.
 returns-2 : tie.Need-returns-2
 returns-2 c =
     let a = c.before.before.before.before.before.before.args in
-    told_9 a.changes.now a.entries.now a.h a.b.now c.before.before.before.before.layout_of.ensures.0 c.before.before.before.header-allowed.ensures (not-false _ c.before.before.if1.false) c.before.frames_pass.ensures (not_true _ c.if2.true)
+    told_9 a.changes.now a.entries.now a.h a.b.now c.before.before.before.before.layout_of.ensures.0 c.before.before.before.header-allowed.ensures (not-false _ c.before.before.if1.false) c.before.frames_pass.ensures (not-true _ c.if2.true)
 
 write-page-requires : tie.Need-write-page-requires
 write-page-requires c κs =
