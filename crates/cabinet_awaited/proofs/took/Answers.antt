@@ -1,0 +1,20 @@
+use Rattle.theory_protocol.specs.Model.{free_slot, with_card}
+use Rattle.cabinet_layout.proofs.Held.{all_put, set_put}
+use Rattle.base_laws.proofs.Logic.{cond_true, cond_false}
+use Rattle.base_bits.specs.Sets.{either}
+use Rattle.base_bits.specs.Member.{member}
+use borrow.Author.Tests.{eq-eqb, ne_eqb}
+use Rattle.cabinet_layout.specs.Shape.{limits16, slot_for}
+use Rattle.cabinet_layout.proofs.Held.{list_known, set_known, slot_by}
+use Rattle.base_laws.specs.Below.{all_below}
+use mathlib.Core.Path.{◌≡◌, refl, sym, ◌∙◌, ap}
+use mathlib.Core.Bool.{true, false, not, ◌||◌}
+use Rattle.cabinet_awaited.proofs.Votes.{none_awaited}
+use borrow.Author.Rules.{rules}
+use Rattle.cabinet_awaited.proofs.took.Goals as goal
+
+pub returns-then-n-eq0 : goal.returns-then-n-eq0
+returns-then-n-eq0 c = let o : _ = c.args.o in let e : all_below limits16.width (λ k. not ((either (member c.args.o.reads) (member c.args.o.writes)) k) || with_card (member o.taken) c.args.c k) ≡ true = sym (all_put (either (member c.args.o.reads) (member c.args.o.writes)) o.taken c.with-taken.result c.args.c c.with-taken.ensures) ∙ sym (none_awaited limits16.width (either (member c.args.o.reads) (member c.args.o.writes)) (member c.with-taken.result) c.awaited-n.ensures) ∙ eq-eqb c.awaited-n.result 0 c.if-n-eq0.true in c.free_slot.ensures ∙ sym (ap slot_for (cond_true free_slot _ e))
+
+pub returns-else-n-eq0 : goal.returns-else-n-eq0
+returns-else-n-eq0 c = let o : _ = c.args.o in let e : all_below limits16.width (λ k. not ((either (member c.args.o.reads) (member c.args.o.writes)) k) || with_card (member o.taken) c.args.c k) ≡ false = sym (all_put (either (member c.args.o.reads) (member c.args.o.writes)) o.taken c.with-taken.result c.args.c c.with-taken.ensures) ∙ sym (none_awaited limits16.width (either (member c.args.o.reads) (member c.args.o.writes)) (member c.with-taken.result) c.awaited-n.ensures) ∙ ne_eqb c.awaited-n.result 0 c.if-n-eq0.false in slot_by (list_known o.vector (search rules)) refl (set_known o.reads (search rules)) (set_known o.writes (search rules)) (set_known o.yes (search rules)) (set_put o.taken c.with-taken.result c.args.c (search rules) c.with-taken.ensures) ∙ sym (ap slot_for (cond_false free_slot _ e))

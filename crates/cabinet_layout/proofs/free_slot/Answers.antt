@@ -1,0 +1,7 @@
+use mathlib.Core.Path.{refl}
+use Rattle.cabinet_layout.specs.Shape.{limits16}
+use Rattle.cabinet_layout.proofs.free_slot.Goals as goal
+
+pub returns : goal.returns
+unfolding limits16
+returns c = refl

@@ -1,0 +1,7 @@
+use Rattle.cabinet_layout.specs.Shape.{limits16}
+use mathlib.Core.Path.{refl}
+use Rattle.cabinet_replies.proofs.is_card.Goals as goal
+
+pub returns : goal.returns
+unfolding limits16
+returns c = refl

@@ -1,0 +1,27 @@
+use Prim.Native.Nat.{suc, ◌+◌, ◌-◌, ◌%◌}
+use mathlib.Core.Path.{◌≡◌, refl}
+use mathlib.Core.Bool.{◌&&◌, ◌||◌}
+use native.Mathlib.Omega.{arith}
+use lib.Dec.{eqb}
+use Rattle.base_laws.proofs.Fill.{AllSoFar, all_none, all_more, all_done}
+use Rattle.theory_protocol.specs.Model.{up}
+use Rattle.theory_protocol.specs.Valid.{frame_valid, rises_valid}
+use Rattle.cabinet_layout.specs.Shape.{limits16, ring, numbers_of, part_of}
+use Rattle.cabinet_valid_frames.proofs.Steps.{next_slot, step_whole}
+use borrow.Author.Rules.{rules}
+use Rattle.cabinet_valid_frames.proofs.frames_valid.Goals as goal
+
+pub loop-k-init : goal.loop-k-init
+loop-k-init c = (all_none, omega arith)
+
+pub frame_valid-frame-requires : goal.frame_valid-frame-requires
+frame_valid-frame-requires c = let q : _ = next_slot _ _ _ c.loop-k.invariant.1 c.after-slot.ensures in (c.requires.0, omega (arith, q, c.requires.0))
+
+pub rises_valid-rises-requires : goal.rises_valid-rises-requires
+rises_valid-rises-requires c = let q : _ = next_slot _ _ _ c.loop-k.invariant.1 c.after-slot.ensures in (omega (arith, c.loop-k.invariant.1, c.requires.0), omega (arith, q, c.requires.0))
+
+pub loop-k-preserved : goal.loop-k-preserved
+loop-k-preserved c = let a : _ = c.args in let i : _ = c.loop-k.invariant in let q : _ = next_slot (a.base + c.loop-k.k) _ _ i.1 c.after-slot.ensures in (all_more i.0 c.loop-k-test.true (step_whole a.entries.now a.changes.now a.cards a.c a.base a.reached c.loop-k.k _ _ _ _ i.1 q c.frame_valid-frame.ensures c.rises_valid-rises.ensures), omega (arith, q))
+
+pub returns : goal.returns
+returns c = all_done c.loop-k.invariant.0 c.loop-k-test.false refl

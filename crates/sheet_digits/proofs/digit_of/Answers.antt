@@ -1,0 +1,13 @@
+-- `sheet_digits::digit_of` gives a digit's byte. Assumes nothing.
+use borrow.Author.Rules.{rules}
+use borrow.Author.Tests.{lt-ltb, le-ltb}
+use Rattle.sheet_digits.specs.Digits.{digit}
+use Rattle.sheet_digits.proofs.digit_of.Goals as goal
+
+pub returns-then-v-lt10 : goal.returns-then-v-lt10
+unfolding digit
+returns-then-v-lt10 c = rw (lt-ltb c.args.v 10 c.if-v-lt10.true)
+
+pub returns-else-v-lt10 : goal.returns-else-v-lt10
+unfolding digit
+returns-else-v-lt10 c = rw (le-ltb c.args.v 10 c.if-v-lt10.false)

@@ -1,0 +1,39 @@
+-- `sheet_frame_rules::frame_allowed` judges a frame. Assumes nothing.
+use mathlib.Core.Path.{◌≡◌, refl}
+use borrow.Author.Rules.{rules}
+use borrow.Author.Tests.{lt-ltb, le-ltb, eq-eqb, ne_eqb, not-true, not-false}
+use native.Mathlib.Omega.{arith}
+use lib.ListN.{length}
+use Rattle.sheet_lines.specs.Format.{format_of}
+use Rattle.sheet_frame_rules.proofs.Absent.{entries_fail, entries_pass}
+use Rattle.sheet_lines.proofs.Judged.{frame_tests}
+use Rattle.sheet_frame_rules.proofs.frame_allowed.Goals as goal
+
+pub returns-then-told-state : goal.returns-then-told-state
+returns-then-told-state c =
+    let a = c.args in
+    frame_tests (format_of a.f) a.card a.n a.state a.told a.last a.next (ne_eqb _ _ c.if-told-state.true) refl refl
+
+pub returns-then-next-last : goal.returns-then-next-last
+returns-then-next-last c =
+    let a = c.args in
+    frame_tests (format_of a.f) a.card a.n a.state a.told a.last a.next (eq-eqb _ _ c.if-told-state.false) (le-ltb _ _ c.if-next-last.true) refl
+
+pub entries_allowed-requires : goal.entries_allowed-requires
+entries_allowed-requires c = omega (arith, c.at_most_16.ensures)
+
+pub returns-then-not-entries_allowed : goal.returns-then-not-entries_allowed
+returns-then-not-entries_allowed c =
+    let a = c.args in
+    let x : length a.last.entries ≡ 16 = search rules in
+    let y : length a.next.entries ≡ 16 = search rules in
+    frame_tests (format_of a.f) a.card a.n a.state a.told a.last a.next (eq-eqb _ _ c.if-told-state.false) (lt-ltb _ _ c.if-next-last.false)
+    (entries_fail (format_of a.f) a.card a.state a.n a.last.entries a.next.entries x y c.at_most_16.ensures c.entries_allowed.ensures (not-true _ c.if-not-entries_allowed.true))
+
+pub returns : goal.returns
+returns c =
+    let a = c.args in
+    let x : length a.last.entries ≡ 16 = search rules in
+    let y : length a.next.entries ≡ 16 = search rules in
+    frame_tests (format_of a.f) a.card a.n a.state a.told a.last a.next (eq-eqb _ _ c.if-told-state.false) (lt-ltb _ _ c.if-next-last.false)
+    (entries_pass (format_of a.f) a.card a.state a.n a.last.entries a.next.entries x y c.at_most_16.ensures c.entries_allowed.ensures (not-false _ c.if-not-entries_allowed.false) c.absent_allowed.ensures)
