@@ -16,10 +16,10 @@ pub returns-then-not-is_digit : goal.returns-then-not-is_digit
 returns-then-not-is_digit c =
     c.ended.ensures
     ∙ read_all c.loop-i.invariant.0
-    (run_stops _ _ c.loop-i-test.true (sym c.is_digit.ensures ∙ not-true _ c.if-not-is_digit.true))
+    (run_stops _ _ c.loop-i-test.true (sym c.is_digit.ensures ∙ c.if-not-is_digit.true))
 
 pub overflow_sub-v : goal.overflow_sub-v
-overflow_sub-v c = digit_from _ (sym c.is_digit.ensures ∙ not-false _ c.if-not-is_digit.false)
+overflow_sub-v c = digit_from _ (sym c.is_digit.ensures ∙ c.if-not-is_digit.false)
 
 pub overflow_cast-v-in-loop-i : goal.overflow_cast-v-in-loop-i
 overflow_cast-v-in-loop-i c = omega (arith, c.type_inv.s c.loop-i.i)
@@ -31,14 +31,14 @@ pub returns-then-v-gt4294967295 : goal.returns-then-v-gt4294967295
 returns-then-v-gt4294967295 c =
     read_over
     (read_more c.loop-i.invariant.0 c.loop-i-test.true
-    (sym c.is_digit.ensures ∙ not-false _ c.if-not-is_digit.false))
+    (sym c.is_digit.ensures ∙ c.if-not-is_digit.false))
     c.if-v-gt4294967295.true
 
 pub loop-i-preserved : goal.loop-i-preserved
 loop-i-preserved c =
     (
   read_more c.loop-i.invariant.0 c.loop-i-test.true
-      (sym c.is_digit.ensures ∙ not-false _ c.if-not-is_digit.false),
+      (sym c.is_digit.ensures ∙ c.if-not-is_digit.false),
   c.if-v-gt4294967295.false,
 )
 

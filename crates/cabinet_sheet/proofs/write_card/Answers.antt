@@ -10,18 +10,18 @@ use Rattle.cabinet_sheet.proofs.write_card.Goals as goal
 pub returns-then-not-valid : goal.returns-then-not-valid
 returns-then-not-valid c =
     let a = c.args in
-    told_invalid a.valid a.entries.now a.changes.now a.head a.rolled a.base a.stored a.card a.b.now (not-true _ c.if-not-valid.true)
+    told_invalid a.valid a.entries.now a.changes.now a.head a.rolled a.base a.stored a.card a.b.now c.if-not-valid.true
 
 pub returns-then-not-there : goal.returns-then-not-there
 returns-then-not-there c =
     let a = c.args in
-    told_absent a.valid a.entries.now a.changes.now a.head a.rolled a.base a.stored a.card a.b.now (not-false _ c.if-not-valid.false) (sym c.is_card-there.ensures ∙ not-true _ c.if-not-there.true)
+    told_absent a.valid a.entries.now a.changes.now a.head a.rolled a.base a.stored a.card a.b.now c.if-not-valid.false (sym c.is_card-there.ensures ∙ c.if-not-there.true)
 
 pub header_of-h-requires : goal.header_of-h-requires
 header_of-h-requires c =
     let a = c.args in
-    let w = c.requires (not-false _ c.if-not-valid.false) in
-    let n = sym c.is_card-there.ensures ∙ not-false _ c.if-not-there.false in
+    let w = c.requires c.if-not-valid.false in
+    let n = sym c.is_card-there.ensures ∙ c.if-not-there.false in
     let t : a.card < a.head.cards = card_there a.head a.card n in
     let x = w.low t in
     let p = c.at-low.ensures in
@@ -31,14 +31,14 @@ header_of-h-requires c =
 pub write_page-requires : goal.write_page-requires
 write_page-requires c =
     let a = c.args in
-    let w = c.requires (not-false _ c.if-not-valid.false) in
-    let n = sym c.is_card-there.ensures ∙ not-false _ c.if-not-there.false in
+    let w = c.requires c.if-not-valid.false in
+    let n = sym c.is_card-there.ensures ∙ c.if-not-there.false in
     passes_7 a.valid a.entries.now a.changes.now a.head a.rolled a.base a.stored a.card a.b.now c.header_of-h.result c.at-low.result c.at-high.result c.header_of-h.ensures c.at-low.ensures c.at-high.ensures w n
 
 pub returns : goal.returns
 returns c =
     let a = c.args in
-    let t = not-false _ c.if-not-valid.false in
+    let t = c.if-not-valid.false in
     let w = c.requires t in
-    let n = sym c.is_card-there.ensures ∙ not-false _ c.if-not-there.false in
+    let n = sym c.is_card-there.ensures ∙ c.if-not-there.false in
     told_whole a.valid a.entries.now a.changes.now a.head a.rolled a.base a.stored a.card a.b.now c.header_of-h.result c.at-low.result c.at-high.result c.header_of-h.ensures c.at-low.ensures c.at-high.ensures w n t c.write_page.new.0 c.write_page.result c.write_page.ensures

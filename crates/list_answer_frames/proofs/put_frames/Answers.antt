@@ -12,20 +12,20 @@ use Rattle.list_answer_frames.proofs.put_frames.Goals as goal
 pub returns-then-not-valid : goal.returns-then-not-valid
 returns-then-not-valid c =
     let a = c.args in
-    put_as (refused_28 a.entries.now a.changes.now a.core a.card _ c.cabinet_valid-valid.ensures (not-true _ c.if-not-valid.true)) c.put_refusal.ensures
+    put_as (refused_28 a.entries.now a.changes.now a.core a.card _ c.cabinet_valid-valid.ensures c.if-not-valid.true) c.put_refusal.ensures
 
 pub returns-then-not-there : goal.returns-then-not-there
 returns-then-not-there c =
     let a = c.args in
-    put_as (refused_2 a.entries.now a.changes.now a.core a.card _ _ c.cabinet_valid-valid.ensures (not-false _ c.if-not-valid.false) c.is_card-there.ensures (not-true _ c.if-not-there.true)) c.put_refusal-then-not-there.ensures
+    put_as (refused_2 a.entries.now a.changes.now a.core a.card _ _ c.cabinet_valid-valid.ensures c.if-not-valid.false c.is_card-there.ensures c.if-not-there.true) c.put_refusal-then-not-there.ensures
 
 pub put_states-requires : goal.put_states-requires
-put_states-requires c = let a = c.args in (card_below a.entries.now a.changes.now a.core a.card _ c.is_card-there.ensures (not-false _ c.if-not-there.false), search rules)
+put_states-requires c = let a = c.args in (card_below a.entries.now a.changes.now a.core a.card _ c.is_card-there.ensures c.if-not-there.false, search rules)
 
 pub returns : goal.returns
 returns c =
     let a = c.args in
     put_as
-    (told_frames a.entries.now a.changes.now a.core a.card _ _ _ _ _ c.cabinet_valid-valid.ensures (not-false _ c.if-not-valid.false) c.is_card-there.ensures (not-false _ c.if-not-there.false)
+    (told_frames a.entries.now a.changes.now a.core a.card _ _ _ _ _ c.cabinet_valid-valid.ensures c.if-not-valid.false c.is_card-there.ensures c.if-not-there.false
     c.at-base.ensures c.at-reached.ensures c.in_hand-count.ensures)
     (put_then {u = joined (tabulate c.in_hand-count.result (λ (k : ℕ). ring_text a.changes.now a.entries.now a.core.head.cards a.card (suc (c.at-base.result + k))))} c.put_line-w.ensures c.put_states.ensures)

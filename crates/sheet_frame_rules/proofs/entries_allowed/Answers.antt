@@ -19,12 +19,12 @@ pub returns-then-not-entry_allowed : goal.returns-then-not-entry_allowed
 unfolding entries_allowed
 returns-then-not-entry_allowed c =
     let a = c.args in
-    below_stop c.loop-j.j a.n (λ i. entry_allowed (format_of a.f) a.card a.state i (get_or a.last i 0) (get_or a.next i 0)) c.loop-j-test.true c.entry_allowed.ensures (not-true _ c.if-not-entry_allowed.true)
+    below_stop c.loop-j.j a.n (λ i. entry_allowed (format_of a.f) a.card a.state i (get_or a.last i 0) (get_or a.next i 0)) c.loop-j-test.true c.entry_allowed.ensures c.if-not-entry_allowed.true
 
 pub loop-j-preserved : goal.loop-j-preserved
 loop-j-preserved c =
     let a = c.args in
-    (omega arith, below_step c.loop-j.j (λ i. entry_allowed (format_of a.f) a.card a.state i (get_or a.last i 0) (get_or a.next i 0)) c.loop-j.invariant.1 c.entry_allowed.ensures (not-false _ c.if-not-entry_allowed.false))
+    (omega arith, below_step c.loop-j.j (λ i. entry_allowed (format_of a.f) a.card a.state i (get_or a.last i 0) (get_or a.next i 0)) c.loop-j.invariant.1 c.entry_allowed.ensures c.if-not-entry_allowed.false)
 
 pub returns : goal.returns
 unfolding entries_allowed

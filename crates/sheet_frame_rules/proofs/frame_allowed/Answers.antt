@@ -28,7 +28,7 @@ returns-then-not-entries_allowed c =
     let x : length a.last.entries ≡ 16 = search rules in
     let y : length a.next.entries ≡ 16 = search rules in
     frame_tests (format_of a.f) a.card a.n a.state a.told a.last a.next (eq-eqb _ _ c.if-told-state.false) (lt-ltb _ _ c.if-next-last.false)
-    (entries_fail (format_of a.f) a.card a.state a.n a.last.entries a.next.entries x y c.at_most_16.ensures c.entries_allowed.ensures (not-true _ c.if-not-entries_allowed.true))
+    (entries_fail (format_of a.f) a.card a.state a.n a.last.entries a.next.entries x y c.at_most_16.ensures c.entries_allowed.ensures c.if-not-entries_allowed.true)
 
 pub returns : goal.returns
 returns c =
@@ -36,4 +36,4 @@ returns c =
     let x : length a.last.entries ≡ 16 = search rules in
     let y : length a.next.entries ≡ 16 = search rules in
     frame_tests (format_of a.f) a.card a.n a.state a.told a.last a.next (eq-eqb _ _ c.if-told-state.false) (lt-ltb _ _ c.if-next-last.false)
-    (entries_pass (format_of a.f) a.card a.state a.n a.last.entries a.next.entries x y c.at_most_16.ensures c.entries_allowed.ensures (not-false _ c.if-not-entries_allowed.false) c.absent_allowed.ensures)
+    (entries_pass (format_of a.f) a.card a.state a.n a.last.entries a.next.entries x y c.at_most_16.ensures c.entries_allowed.ensures c.if-not-entries_allowed.false c.absent_allowed.ensures)

@@ -31,19 +31,19 @@ returns-then-cards-gt-CARDS_U32 c =
 pub returns-then-not-agrees : goal.returns-then-not-agrees
 returns-then-not-agrees c =
     let a = c.args in
-    header_tests (format_of a.f) a.due a.first a.h c.unraised-cards.ensures (ne_eqb _ _ c.if-h-eq0.false) (eq-eqb _ _ c.if-h-due.false) (lt-ltb _ _ c.if-cards-h.false) (le-leb _ _ c.if-cards-gt-CARDS_U32.false) (sym c.agrees.ensures ∙ not-true _ c.if-not-agrees.true) refl refl
+    header_tests (format_of a.f) a.due a.first a.h c.unraised-cards.ensures (ne_eqb _ _ c.if-h-eq0.false) (eq-eqb _ _ c.if-h-due.false) (lt-ltb _ _ c.if-cards-h.false) (le-leb _ _ c.if-cards-gt-CARDS_U32.false) (sym c.agrees.ensures ∙ c.if-not-agrees.true) refl refl
 
 pub returns-then-h-gt-IN_HAND_U32 : goal.returns-then-h-gt-IN_HAND_U32
 returns-then-h-gt-IN_HAND_U32 c =
     let a = c.args in
-    header_tests (format_of a.f) a.due a.first a.h c.unraised-cards.ensures (ne_eqb _ _ c.if-h-eq0.false) (eq-eqb _ _ c.if-h-due.false) (lt-ltb _ _ c.if-cards-h.false) (le-leb _ _ c.if-cards-gt-CARDS_U32.false) (sym c.agrees.ensures ∙ not-false _ c.if-not-agrees.false) (lt-leb _ _ c.if-h-gt-IN_HAND_U32.true) refl
+    header_tests (format_of a.f) a.due a.first a.h c.unraised-cards.ensures (ne_eqb _ _ c.if-h-eq0.false) (eq-eqb _ _ c.if-h-due.false) (lt-ltb _ _ c.if-cards-h.false) (le-leb _ _ c.if-cards-gt-CARDS_U32.false) (sym c.agrees.ensures ∙ c.if-not-agrees.false) (lt-leb _ _ c.if-h-gt-IN_HAND_U32.true) refl
 
 pub returns-then-states-h : goal.returns-then-states-h
 returns-then-states-h c =
     let a = c.args in
-    header_tests (format_of a.f) a.due a.first a.h c.unraised-cards.ensures (ne_eqb _ _ c.if-h-eq0.false) (eq-eqb _ _ c.if-h-due.false) (lt-ltb _ _ c.if-cards-h.false) (le-leb _ _ c.if-cards-gt-CARDS_U32.false) (sym c.agrees.ensures ∙ not-false _ c.if-not-agrees.false) (le-leb _ _ c.if-h-gt-IN_HAND_U32.false) (lt-leb (a.h.base + a.h.count) a.f.states (omega arith))
+    header_tests (format_of a.f) a.due a.first a.h c.unraised-cards.ensures (ne_eqb _ _ c.if-h-eq0.false) (eq-eqb _ _ c.if-h-due.false) (lt-ltb _ _ c.if-cards-h.false) (le-leb _ _ c.if-cards-gt-CARDS_U32.false) (sym c.agrees.ensures ∙ c.if-not-agrees.false) (le-leb _ _ c.if-h-gt-IN_HAND_U32.false) (lt-leb (a.h.base + a.h.count) a.f.states (omega arith))
 
 pub returns : goal.returns
 returns c =
     let a = c.args in
-    header_tests (format_of a.f) a.due a.first a.h c.unraised-cards.ensures (ne_eqb _ _ c.if-h-eq0.false) (eq-eqb _ _ c.if-h-due.false) (lt-ltb _ _ c.if-cards-h.false) (le-leb _ _ c.if-cards-gt-CARDS_U32.false) (sym c.agrees.ensures ∙ not-false _ c.if-not-agrees.false) (le-leb _ _ c.if-h-gt-IN_HAND_U32.false) (within _ _ _ c.if-states-h.false)
+    header_tests (format_of a.f) a.due a.first a.h c.unraised-cards.ensures (ne_eqb _ _ c.if-h-eq0.false) (eq-eqb _ _ c.if-h-due.false) (lt-ltb _ _ c.if-cards-h.false) (le-leb _ _ c.if-cards-gt-CARDS_U32.false) (sym c.agrees.ensures ∙ c.if-not-agrees.false) (le-leb _ _ c.if-h-gt-IN_HAND_U32.false) (within _ _ _ c.if-states-h.false)

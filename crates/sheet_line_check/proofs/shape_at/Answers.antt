@@ -20,14 +20,14 @@ returns-then-s-at-2 c =
 pub returns-then-not-all_digits : goal.returns-then-not-all_digits
 returns-then-not-all_digits c =
     let a = c.args in
-    shape_tests a.n a.at a.s.now (omega arith) (le-leb (a.n + 5) (length a.s.now - a.at) (omega (arith, c.if-s-at-2.false))) (sym c.all_digits.ensures ∙ not-true _ c.if-not-all_digits.true) refl
+    shape_tests a.n a.at a.s.now (omega arith) (le-leb (a.n + 5) (length a.s.now - a.at) (omega (arith, c.if-s-at-2.false))) (sym c.all_digits.ensures ∙ c.if-not-all_digits.true) refl
 
 pub returns-then-s-at-ne10 : goal.returns-then-s-at-ne10
 returns-then-s-at-ne10 c =
     let a = c.args in
-    shape_tests a.n a.at a.s.now (omega arith) (le-leb (a.n + 5) (length a.s.now - a.at) (omega (arith, c.if-s-at-2.false))) (sym c.all_digits.ensures ∙ not-false _ c.if-not-all_digits.false) (ne_eqb _ _ c.if-s-at-ne10.true)
+    shape_tests a.n a.at a.s.now (omega arith) (le-leb (a.n + 5) (length a.s.now - a.at) (omega (arith, c.if-s-at-2.false))) (sym c.all_digits.ensures ∙ c.if-not-all_digits.false) (ne_eqb _ _ c.if-s-at-ne10.true)
 
 pub returns : goal.returns
 returns c =
     let a = c.args in
-    shape_tests a.n a.at a.s.now (omega arith) (le-leb (a.n + 5) (length a.s.now - a.at) (omega (arith, c.if-s-at-2.false))) (sym c.all_digits.ensures ∙ not-false _ c.if-not-all_digits.false) (eq-eqb _ _ c.if-s-at-ne10.false)
+    shape_tests a.n a.at a.s.now (omega arith) (le-leb (a.n + 5) (length a.s.now - a.at) (omega (arith, c.if-s-at-2.false))) (sym c.all_digits.ensures ∙ c.if-not-all_digits.false) (eq-eqb _ _ c.if-s-at-ne10.false)

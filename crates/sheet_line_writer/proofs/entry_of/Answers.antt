@@ -8,10 +8,10 @@ pub returns-then-d-eq0 : goal.returns-then-d-eq0
 returns-then-d-eq0 c = let a = c.args in shown_none a.short a.none a.d c.if-d-eq0.true
 
 pub returns-then-not-short : goal.returns-then-not-short
-returns-then-not-short c = let a = c.args in shown_long a.short a.none a.d c.if-d-eq0.false (not-true _ c.if-not-short.true)
+returns-then-not-short c = let a = c.args in shown_long a.short a.none a.d c.if-d-eq0.false c.if-not-short.true
 
 pub returns-then-d-none : goal.returns-then-d-none
-returns-then-d-none c = let a = c.args in shown_zero a.short a.none a.d (not-false _ c.if-not-short.false) c.if-d-none.true
+returns-then-d-none c = let a = c.args in shown_zero a.short a.none a.d c.if-not-short.false c.if-d-none.true
 
 pub returns-else-d-none : goal.returns-else-d-none
-returns-else-d-none c = let a = c.args in shown_need a.short a.none a.d c.if-d-eq0.false (not-false _ c.if-not-short.false) c.if-d-none.false
+returns-else-d-none c = let a = c.args in shown_need a.short a.none a.d c.if-d-eq0.false c.if-not-short.false c.if-d-none.false

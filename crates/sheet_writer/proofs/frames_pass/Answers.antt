@@ -28,7 +28,7 @@ returns-then-not-frame_allowed c =
     let l = c.loop-k in
     judged_all (format_of a.f) a.h.card u.result a.h.base a.h.count (rows_of a.changes.now a.entries.now a.h.card a.h.base) no_frame (cards_of (format_of a.f) a.h) u.ensures
     (judging_stop (format_of a.f) a.h.card u.result a.h.base a.h.count (rows_of a.changes.now a.entries.now a.h.card a.h.base) l.last no_frame l.k c.loop-k-test.true l.invariant.1
-    (next_row a.changes.now a.entries.now a.h.card a.h.base l.k (is_card_lem) c.frame_of-next.ensures) c.frame_allowed.ensures (not-true _ c.if-not-frame_allowed.true))
+    (next_row a.changes.now a.entries.now a.h.card a.h.base l.k (is_card_lem) c.frame_of-next.ensures) c.frame_allowed.ensures c.if-not-frame_allowed.true)
 
 pub loop-k-preserved : goal.loop-k-preserved
 loop-k-preserved c =
@@ -37,7 +37,7 @@ loop-k-preserved c =
     let l = c.loop-k in (
       omega (arith, c.loop-k-test.true),
       judging_again (format_of a.f) a.h.card c.unraised-n.result a.h.base a.h.count (rows_of a.changes.now a.entries.now a.h.card a.h.base) l.last no_frame l.k c.loop-k-test.true l.invariant.1
-          (next_row a.changes.now a.entries.now a.h.card a.h.base l.k (is_card_lem) c.frame_of-next.ensures) c.frame_allowed.ensures (not-false _ c.if-not-frame_allowed.false),
+          (next_row a.changes.now a.entries.now a.h.card a.h.base l.k (is_card_lem) c.frame_of-next.ensures) c.frame_allowed.ensures c.if-not-frame_allowed.false,
     )
 
 pub returns : goal.returns

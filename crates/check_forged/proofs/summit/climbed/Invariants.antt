@@ -1,0 +1,10 @@
+-- `check_forged::summit::climbed` ends after 100 sessions. Assumes nothing.
+use Prim.Native.Nat.{◌-◌}
+use borrow.Author.Rules.{rules}
+use Rattle.check_forged.proofs.summit.climbed.Given as goal
+
+abbrev pub invariant-loop-from : goal.invariant-loop-from
+invariant-loop-from l = Unit {0}
+
+abbrev pub decreases-loop-from : goal.decreases-loop-from
+decreases-loop-from l = 60000 - l.from

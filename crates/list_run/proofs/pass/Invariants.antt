@@ -1,0 +1,15 @@
+-- `list_run::pass` does the lines of a text one after the other. Assumes nothing.
+use Prim.Native.Nat.{◌-◌}
+use mathlib.Core.Path.{sym, ◌∙◌}
+use native.Mathlib.Omega.{arith}
+use lib.ListN.{length}
+use Rattle.list_parse.proofs.Lines.{token_forward}
+use Rattle.list_texts.proofs.Laws.{Going, going_none, going_more, going_ends}
+use borrow.Author.Rules.{rules}
+use Rattle.list_run.proofs.pass.Given as goal
+
+abbrev pub invariant-loop-w : goal.invariant-loop-w
+invariant-loop-w l = Going l.text l.initial.out l.initial.w l.at l.r l.w l.out
+
+abbrev pub decreases-loop-w : goal.decreases-loop-w
+decreases-loop-w l = length l.text - l.at
