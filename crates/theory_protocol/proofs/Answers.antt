@@ -80,7 +80,7 @@ greatest_choice L m j q =
 choice_same : (L : Limits) (j : Journal) (l l' : Numbers) → ((c : ℕ) → c < L.width → l' c ≡ l c) → GreatestChoice L j l → GreatestChoice L j l'
 choice_same L j l l' e g =
     record {
-      is_cut = record { consistent = cut_same L.width (H j) j.start (decisions j) l l' e g.is-cut.consistent; within = λ c h. rw (e c h) (g.is-cut.within c h) };
+      is_cut = record { consistent = cut_same L.width (H j) j.start (decisions j) l l' e g.is_cut.consistent; within = λ c h. rw (e c h) (g.is_cut.within c h) };
       greatest = λ x k c h. rw (e c h) (g.greatest x k c h);
       whole = λ i c c' h lc lc' wc wc' z. rw (e c' lc') (g.whole i c c' h lc lc' wc wc' (rw (e c lc) at z));
     }
@@ -268,7 +268,7 @@ module _ (L : Limits) (n : CardSet) (m : Model) (j : Journal) (v : Invariant L n
             let s : f.0 ≡ i = one_change f.0 i f.1 h (eqb-true (H j f.0).number k (and_right (lost_then f.0) (eqb (H j f.0).number k) f.2)) e in
             let u : Above L.width (H j) j.start (greatest_line L j) f.0 = lost_above L.width (H j) j.start (greatest_line L j) f.0 (and_left (lost_then f.0) (eqb (H j f.0).number k) f.2) in
             let w : Above L.width (H j) j.start (greatest_line L j) i = rw s at u in
-            omega (arith, all w.c w.is_card_lem w.wrote-it, w.is_above)
+            omega (arith, all w.c w.is_card_lem w.wrote_it, w.is_above)
 
   safe_right : has_frame L m k ≡ true → SafeRight L j k (cond (is_safe L m k) safe unsafe)
   safe_right z =
@@ -277,10 +277,10 @@ module _ (L : Limits) (n : CardSet) (m : Model) (j : Journal) (v : Invariant L n
       record {
         i = q.0.i;
         decided = q.0.in_history;
-        number = q.0.is_number_lem;
+        number = q.0.is_number;
         line = greatest_line L j;
         choice = greatest_choice L m j (recallable L n m j v);
-        right = (λ e. safe_on q.0.i q.0.in_history q.0.is_number_lem (is_safe_lem e), λ all. rw (on_safe q.0.i q.0.in_history q.0.is_number_lem all));
+        right = (λ e. safe_on q.0.i q.0.in_history q.0.is_number (is_safe_lem e), λ all. rw (on_safe q.0.i q.0.in_history q.0.is_number all));
       }
     where
       is_safe_lem : cond (is_safe L m k) safe unsafe ≡ safe → is_safe L m k ≡ true

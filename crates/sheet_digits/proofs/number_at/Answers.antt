@@ -19,12 +19,12 @@ overflow_mul-n c =
 pub overflow_add-n : goal.overflow_add-n
 overflow_add-n c =
     let a = c.args in
-    omega (arith, number_room a.s.now a.at a.width c.loop-i.i (omega arith) c.requires.0 c.requires.1, c.value_of.ensures.1)
+    omega (arith, number_room a.s.now a.at a.width c.loop-i.i (omega arith) c.requires.0 c.requires.1, c.value_of.ensures.small)
 
 pub loop-i-preserved : goal.loop-i-preserved
 loop-i-preserved c =
     let a = c.args in
-    (omega arith, number_step a.s.now a.at a.width c.loop-i.i (omega arith) c.requires.0 c.loop-i.invariant.1 c.value_of.ensures.0)
+    (omega arith, number_step a.s.now a.at a.width c.loop-i.i (omega arith) c.requires.0 c.loop-i.invariant.1 c.value_of.ensures.value)
 
 pub returns : goal.returns
 returns c =

@@ -6,4 +6,4 @@ use Rattle.sheet_lines.proofs.Layouts.{plain_format, plain_fits}
 use Rattle.sheet_lines.proofs.layout_of.Goals as goal
 
 pub returns : goal.returns
-returns c = (ap format_of c.plain.ensures ∙ plain_format, rw c.plain.ensures plain_fits)
+returns c = record { format = ap format_of c.plain.ensures ∙ plain_format; fits = rw c.plain.ensures plain_fits }
