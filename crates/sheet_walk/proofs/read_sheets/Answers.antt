@@ -38,7 +38,7 @@ line_at c = drop c.before.before.before.before.before.before.before.sheets.at c.
 
 -- the layout is the one that the header picks
 picks : (c : At-header) → format_of (layout c) ≡ format_in formats (line_at c)
-picks c = c.before.before.before.before.layout_of.ensures.0 ∙ ap formats c.before.before.before.before.before.told_at.ensures
+picks c = c.before.before.before.before.layout_of.ensures.format ∙ ap formats c.before.before.before.before.before.told_at.ensures
 
 -- the header that was read is accepted
 header_is : (c : At-header) → (header_verdict (format_of (layout c)) c.before.before.before.before.before.before.before.sheets.due c.before.before.before.before.before.before.before.sheets.first (line_at c) ≡ Done) × (header_in (format_of (layout c)) (line_at c) ≡ c.before.line.given.0.0)
@@ -102,7 +102,7 @@ room c e = whole_room (frame_digits (format-of c) (cards-of c)) c.before.before.
 
 -- the layout's numbers are those of its width
 fits : (c : At-header) → Fits (layout c)
-fits c = c.before.before.before.before.layout_of.ensures.1
+fits c = c.before.before.before.before.layout_of.ensures.fits
 
 pub sheets-init : goal.sheets-init
 sheets-init c = outer_start formats c.args.s.now c.args.card c.args.all
