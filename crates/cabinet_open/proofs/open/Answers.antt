@@ -23,19 +23,19 @@ use borrow.Author.Rules.{rules}
 use Rattle.cabinet_open.proofs.open.Goals as goal
 
 pub open_answer-answer-requires : goal.open_answer-answer-requires
-open_answer-answer-requires c = λ d. (facts d).count
+open_answer-answer-requires c = λ d. (opens c.args.valid (alone c.args.core) (member c.args.reads) (member c.args.writes) (sym c.open_verdict-r.ensures ∙ d)).count
 
 pub overflow_add-k : goal.overflow_add-k
-overflow_add-k c = let h : _ = (facts c.in-Done.is).count in search rules
+overflow_add-k c = let h : _ = (opens c.args.valid (alone c.args.core) (member c.args.reads) (member c.args.writes) (sym c.open_verdict-r.ensures ∙ c.in-Done.is)).count in search rules
 
 pub offset_bounds-core-at : goal.offset_bounds-core-at
 offset_bounds-core-at c =
-    let in-slots : c.free_at-at.result < 8 = let h : _ = (facts c.in-Done.is).slot in omega (arith, c.free_at-at.ensures) in
+    let in-slots : c.free_at-at.result < 8 = let h : _ = (opens c.args.valid (alone c.args.core) (member c.args.reads) (member c.args.writes) (sym c.open_verdict-r.ensures ∙ c.in-Done.is)).slot in omega (arith, c.free_at-at.ensures) in
     let h : c.free_at-at.result < 8 = in-slots in search rules
 
 pub bounds-core-at : goal.bounds-core-at
 bounds-core-at c =
-    let in-slots : c.free_at-at.result < 8 = let h : _ = (facts c.in-Done.is).slot in omega (arith, c.free_at-at.ensures) in
+    let in-slots : c.free_at-at.result < 8 = let h : _ = (opens c.args.valid (alone c.args.core) (member c.args.reads) (member c.args.writes) (sym c.open_verdict-r.ensures ∙ c.in-Done.is)).slot in omega (arith, c.free_at-at.ensures) in
     in-slots
 
 pub returns-in-Done : goal.returns-in-Done

@@ -12,7 +12,7 @@ use borrow.Author.Rules.{rules}
 use Rattle.cabinet_recalling.proofs.last_vectors.Given as goal
 
 abbrev pub invariant-loop-c : goal.invariant-loop-c
-invariant-loop-c l = FilledSoFar (record { l.entries = [] }) 16 (λ k. vector_for (cond (ltb (at l.base k) (at l.stored k)) (ring_frame l.entries k (at l.stored k)) no_entries)) l.out l.c
+invariant-loop-c l = FilledSoFar (record { entries = [] }) 16 (λ k. vector_for (cond (ltb (at l.base k) (at l.stored k)) (ring_frame l.entries k (at l.stored k)) no_entries)) l.out l.c
 
 abbrev pub decreases-loop-c : goal.decreases-loop-c
 decreases-loop-c l = 16 - l.c

@@ -14,5 +14,5 @@ pub returns : goal.returns
 returns c =
     let a = c.args in
     let l = line_length (115 ∷ 101 ∷ 115 ∷ 115 ∷ 105 ∷ 111 ∷ 110 ∷ []) (a.session + 1) (search rules) in
-    let r = c.put_cards-w.ensures.1 in
-    whole_text (put_then c.put_cards-w.ensures.0 c.put_line-w.ensures) (omega (arith, l, r, length-append (rows_text a.cards (at a.stored) (at a.line)) (session_text (a.session + 1)))) c.text_at.ensures
+    let r = c.put_cards-w.ensures.room in
+    whole_text (put_then c.put_cards-w.ensures.so c.put_line-w.ensures) (omega (arith, l, r, length-append (rows_text a.cards (at a.stored) (at a.line)) (session_text (a.session + 1)))) c.text_at.ensures

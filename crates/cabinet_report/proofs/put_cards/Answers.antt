@@ -10,7 +10,7 @@ pub loop-c-init : goal.loop-c-init
 loop-c-init c = record { within = zero-le; so = put_nothing _ _; room = zero-le }
 
 pub loop-c-preserved : goal.loop-c-preserved
-loop-c-preserved c = rows_more c.loop-c.invariant c.loop-c-test.true c.put_card-w.ensures.0 c.put_card-w.ensures.1
+loop-c-preserved c = rows_more c.loop-c.invariant c.loop-c-test.true c.put_card-w.ensures.so c.put_card-w.ensures.room
 
 pub shape_of-b : goal.shape_of-b
 shape_of-b c = put_length c.loop-c.invariant.so
@@ -18,4 +18,5 @@ shape_of-b c = put_length c.loop-c.invariant.so
 pub returns : goal.returns
 returns c =
     let i = c.loop-c.invariant in
-    rows_done i c.loop-c-test.false (search rules)
+    let d = rows_done i c.loop-c-test.false (search rules) in
+    record { so = d.0; room = d.1 }

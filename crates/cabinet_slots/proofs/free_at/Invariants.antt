@@ -9,7 +9,7 @@ use borrow.Author.Rules.{rules}
 use Rattle.cabinet_slots.proofs.free_at.Given as goal
 
 abbrev pub invariant-loop-p : goal.invariant-loop-p
-invariant-loop-p l = NoneSoFar 8 (λ l.p. not (is_open (open_at l.slots l.p))) l.p
+invariant-loop-p l = NoneSoFar 8 (λ p. not (is_open (open_at l.slots p))) l.p
 
 abbrev pub decreases-loop-p : goal.decreases-loop-p
 decreases-loop-p l = 8 - l.p

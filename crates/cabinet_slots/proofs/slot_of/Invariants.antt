@@ -10,7 +10,7 @@ use borrow.Author.Rules.{rules}
 use Rattle.cabinet_slots.proofs.slot_of.Given as goal
 
 abbrev pub invariant-loop-p : goal.invariant-loop-p
-invariant-loop-p l = NoneSoFar 8 (λ l.p. is_open (open_at l.slots l.p) && eqb (open_at l.slots l.p).change.number l.k) l.p
+invariant-loop-p l = NoneSoFar 8 (λ p. is_open (open_at l.slots p) && eqb (open_at l.slots p).change.number l.k) l.p
 
 abbrev pub decreases-loop-p : goal.decreases-loop-p
 decreases-loop-p l = 8 - l.p

@@ -12,7 +12,7 @@ use borrow.Author.Rules.{rules}
 use Rattle.cabinet_valid_frames.proofs.frames_valid.Given as goal
 
 abbrev pub invariant-loop-k : goal.invariant-loop-k
-invariant-loop-k l = AllSoFar l.n (λ l.k. frame_valid limits16 (part_of l.cards up (numbers_of l.base 0 0 l.reached) (ring l.entries l.changes) 0) l.c (suc (l.base + l.k)) && (eqb l.k 0 || rises_valid limits16 (ring l.entries l.changes) l.c (l.base + l.k))) l.ok l.k × (l.slot ≡ (l.base + l.k) % 48)
+invariant-loop-k l = AllSoFar l.n (λ k. frame_valid limits16 (part_of l.cards up (numbers_of l.base 0 0 l.reached) (ring l.entries l.changes) 0) l.c (suc (l.base + k)) && (eqb k 0 || rises_valid limits16 (ring l.entries l.changes) l.c (l.base + k))) l.ok l.k × (l.slot ≡ (l.base + l.k) % 48)
 
 abbrev pub decreases-loop-k : goal.decreases-loop-k
 decreases-loop-k l = l.n - l.k

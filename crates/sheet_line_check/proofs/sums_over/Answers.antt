@@ -11,7 +11,7 @@ loop-i-init c = (zero-le, ap (summed _) (left_none c.args.s.now c.args.at c.args
 pub loop-i-preserved : goal.loop-i-preserved
 loop-i-preserved c =
     let a = c.args in
-    (omega arith, sums_step a.s.now a.at a.n c.loop-i.i (omega arith) c.requires c.loop-i.first c.loop-i.second c.loop-i.invariant.1 c.wrapping_add_u8-first.ensures c.wrapping_add_u8-second.ensures)
+    (omega arith, sums_step a.s.now a.at a.n c.loop-i.i (omega arith) c.requires c.loop-i.first c.loop-i.second c.loop-i.invariant.1 c.wrapping_add_u8-first.ensures.value c.wrapping_add_u8-second.ensures.value)
 
 pub returns : goal.returns
 returns c =

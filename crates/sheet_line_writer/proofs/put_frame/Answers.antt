@@ -10,6 +10,6 @@ pub returns : goal.returns
 returns c =
     let a = c.args in
     let pre = c.requires in
-    let good = c.UNRESOLVED_well-formed in
+    let good = c.well_formed in
     let s : length a.next.entries ≡ 16 = search (rules, good) in
     frame_put (format_of a.f) a.b.now a.at a.n a.start a.state a.next pre.0.none s pre.1 pre.2 c.put_number.ensures c.put_number-2.ensures c.put_entries.ensures c.end_line.ensures

@@ -89,7 +89,7 @@ overflow_add-at-in-loop-k c =
     let l = c.loop-k in
     let g = lines_fit l.k c.args.h.count (frame_digits (format_of c.args.f) c.unraised-n.result + 5) c.loop-k-test.true in
     let x = l.invariant.2 in
-    omega (arith, l.invariant.1, x, g, fits, c.put_header.auto.1.0, c.UNRESOLVED_well-formed.1.0.0)
+    omega (arith, l.invariant.1, x, g, fits, c.put_header.auto.1.0, c.well_formed.1.0.0)
 
 pub overflow_add-k : goal.overflow_add-k
 overflow_add-k c =
