@@ -43,7 +43,7 @@ loop-j-preserved c =
     let a = c.args in
     let l = c.loop-j in
     let s : length a.entries ≡ 16 = search rules in
-    (omega arith, c.put_state.auto.0 ∙ l.invariant.1, entry_put a.width (shown_by a.short a.none) l.b a.entries a.at a.n l.j (omega arith) (omega arith) (c.put_state.ensures ∙ ap (λ (v : ℕ). sets l.b (a.at + l.j * a.width) (digits a.width v)) c.entry_of.ensures) ∙ l.invariant.2)
+    (omega arith, c.put_state.auto.b ∙ l.invariant.1, entry_put a.width (shown_by a.short a.none) l.b a.entries a.at a.n l.j (omega arith) (omega arith) (c.put_state.ensures ∙ ap (λ (v : ℕ). sets l.b (a.at + l.j * a.width) (digits a.width v)) c.entry_of.ensures) ∙ l.invariant.2)
 
 pub shape_of-b : goal.shape_of-b
 shape_of-b c = c.loop-j.invariant.1

@@ -81,7 +81,7 @@ put_frame-requires c =
     let l = c.loop-k in
     let g = lines_fit l.k c.args.h.count (frame_digits (format_of c.args.f) c.unraised-n.result + 5) c.loop-k-test.true in
     let x = l.invariant.2 in
-    (c.requires.0, few, omega (arith, l.invariant.1, x, g, fits, c.put_header.auto.1.0))
+    (c.requires.0, few, omega (arith, l.invariant.1, x, g, fits, c.put_header.auto.b))
 
 pub overflow_add-at-in-loop-k : goal.overflow_add-at-in-loop-k
 overflow_add-at-in-loop-k c =
@@ -89,7 +89,7 @@ overflow_add-at-in-loop-k c =
     let l = c.loop-k in
     let g = lines_fit l.k c.args.h.count (frame_digits (format_of c.args.f) c.unraised-n.result + 5) c.loop-k-test.true in
     let x = l.invariant.2 in
-    omega (arith, l.invariant.1, x, g, fits, c.put_header.auto.1.0, c.well_formed.1.0.0)
+    omega (arith, l.invariant.1, x, g, fits, c.put_header.auto.b, c.well_formed.1.0.0)
 
 pub overflow_add-k : goal.overflow_add-k
 overflow_add-k c =
@@ -108,7 +108,7 @@ loop-k-preserved c =
     let n = c.unraised-n.result in
     let l = c.loop-k in (
       omega (arith, c.loop-k-test.true),
-      c.put_frame.auto.1.0 ∙ l.invariant.1,
+      c.put_frame.auto.b ∙ l.invariant.1,
       next_line_lem (header_digits f + 5) l.k (frame_digits f n + 5) l.at l.invariant.2,
       writing_again f (f.start a.h.card a.h.session) n a.h.base a.h.count (rows_of a.changes.now a.entries.now a.h.card a.h.base) l.b l.at l.k c.loop-k-test.true (few) (row_length a.changes.now a.entries.now a.h.card a.h.base l.k)
           (next_row a.changes.now a.entries.now a.h.card a.h.base l.k (let m = limits in omega (arith, m.below, m.cards)) c.frame_of-next.ensures) c.start_of-start.ensures c.put_frame.ensures
@@ -116,7 +116,7 @@ loop-k-preserved c =
     )
 
 pub shape_of-b : goal.shape_of-b
-shape_of-b c = c.loop-k.invariant.1 ∙ c.put_header.auto.1.0
+shape_of-b c = c.loop-k.invariant.1 ∙ c.put_header.auto.b
 
 pub returns : goal.returns
 returns c =

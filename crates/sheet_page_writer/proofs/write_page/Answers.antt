@@ -9,9 +9,9 @@ use Rattle.sheet_page_writer.proofs.write_page.Goals as goal
 pub write_in-requires : goal.write_in-requires
 write_in-requires c =
     let h = c.args.h in
-    (c.layout_of-f.ensures.1, ap (λ (f : Format). header_allowed f h.card 0 h) c.layout_of-f.ensures.0 ∙ c.requires)
+    (c.layout_of-f.ensures.fits, ap (λ (f : Format). header_allowed f h.card 0 h) c.layout_of-f.ensures.format ∙ c.requires)
 
 pub returns : goal.returns
 returns c =
     let a = c.args in
-    told_page a.changes.now a.entries.now a.h a.b.now (format_of c.layout_of-f.result) c.layout_of-f.ensures.0 c.requires c.write_in.ensures
+    told_page a.changes.now a.entries.now a.h a.b.now (format_of c.layout_of-f.result) c.layout_of-f.ensures.format c.requires c.write_in.ensures
