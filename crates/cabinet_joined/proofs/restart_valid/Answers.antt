@@ -10,4 +10,4 @@ use Rattle.cabinet_joined.proofs.restart_valid.Goals as goal
 pub returns : goal.returns
 returns c =
     let z : c.join-n.result - 0 ≡ c.join-n.result = omega arith in
-    own_valid c.requires c.restart-a.ensures (ap (λ (n : ℕ). take n c.join-n.new.1.1.0) z ∙ c.join-n.ensures.1) c.going_on.ensures.0 c.going_on.ensures.1
+    own_valid c.requires c.restart-a.ensures (ap (λ (n : ℕ). take n c.join-n.new.buffer) z ∙ c.join-n.ensures.1) c.going_on.ensures.0 c.going_on.ensures.1

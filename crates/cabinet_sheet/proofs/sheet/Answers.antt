@@ -10,4 +10,4 @@ write_card-requires c = λ t. let a : _ = c.args in within a.entries.now a.chang
 pub returns : goal.returns
 returns c =
     let a : _ = c.args in
-    told_same a.entries.now a.changes.now a.core a.card a.b.now c.write_card.new.0 c.cabinet_valid-valid.result c.write_card.result c.cabinet_valid-valid.ensures c.write_card.ensures
+    told_same a.entries.now a.changes.now a.core a.card a.b.now c.write_card.new.b c.cabinet_valid-valid.result c.write_card.result c.cabinet_valid-valid.ensures c.write_card.ensures

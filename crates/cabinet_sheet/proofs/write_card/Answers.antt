@@ -41,4 +41,4 @@ returns c =
     let t = c.if-not-valid.false in
     let w = c.requires t in
     let n = sym c.is_card-there.ensures ∙ c.if-not-there.false in
-    told_whole a.valid a.entries.now a.changes.now a.head a.rolled a.base a.stored a.card a.b.now c.header_of-h.result c.at-low.result c.at-high.result c.header_of-h.ensures c.at-low.ensures c.at-high.ensures w n t c.write_page.new.0 c.write_page.result c.write_page.ensures
+    told_whole a.valid a.entries.now a.changes.now a.head a.rolled a.base a.stored a.card a.b.now c.header_of-h.result c.at-low.result c.at-high.result c.header_of-h.ensures c.at-low.ensures c.at-high.ensures w n t c.write_page.new.b c.write_page.result c.write_page.ensures

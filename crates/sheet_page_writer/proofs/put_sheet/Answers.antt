@@ -128,5 +128,5 @@ returns c =
     let l = c.loop-k in
     sym (ap (sets l.b l.at) (writing_none f start n a.h.base a.h.count g l.k c.loop-k-test.false))
     ∙ l.invariant.3
-    ∙ writing_start f start n a.h.base a.h.count g a.h a.b.now c.put_header.new.1.0 c.put_header.ensures
+    ∙ writing_start f start n a.h.base a.h.count g a.h a.b.now c.put_header.new.b c.put_header.ensures
     ∙ ap (λ (m : ℕ). sets a.b.now 0 (header_line f a.h ++ frames_bytes f start m (a.h.base + 1) (tabulate a.h.count g))) c.unraised-n.ensures
