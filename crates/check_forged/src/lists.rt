@@ -5,11 +5,11 @@ use base_text::Progress;
 use cabinet::Cabinet;
 use list_results::Replay;
 
-fn print(out: &[u8], w: Progress) {
+fn print(rt: &(impl Print + Eprint), out: &[u8], w: Progress) {
     match w {
         Progress::Next(n) => {
             if n <= out.len() {
-                base_streams::print(&out[0..n]);
+                base_streams::print(rt, &out[0..n]);
             }
         }
         Progress::Counting(_) => {}
@@ -18,11 +18,11 @@ fn print(out: &[u8], w: Progress) {
 }
 
 // Does a line and prints its answer.
-fn told(r: Replay, line: &[u8]) -> Replay {
-    let mut out = io::buffer();
+fn told(rt: &(impl Print + Eprint), r: Replay, line: &[u8]) -> Replay {
+    let mut out = [0u8; 4096];
     let s = list_step::step(r, line, &mut out);
     let w = s.written;
-    print(&out, w);
+    print(rt, &out, w);
     let next = s.replay;
     next
 }
@@ -43,7 +43,7 @@ fn find(text: &[u8], from: usize) -> usize
 }
 
 // Does the lines of a list.
-pub fn run(c: Cabinet, list: &[u8]) -> Cabinet {
+pub fn run(rt: &(impl Print + Eprint), c: Cabinet, list: &[u8]) -> Cabinet {
     let mut r = Replay {
         cabinet: c,
         begun: true,
@@ -51,7 +51,7 @@ pub fn run(c: Cabinet, list: &[u8]) -> Cabinet {
     let mut at = 0;
     while at < list.len() {
         let end = find(list, at);
-        let next = told(r, &list[at..end]);
+        let next = told(rt, r, &list[at..end]);
         r = next;
         at = end + 1;
     }

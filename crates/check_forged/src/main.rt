@@ -1,6 +1,7 @@
 // What no short list of calls from a fresh cabinet reaches: 28 of each kind, numbers at their limits, what is lent and kept
 // beyond an answer, sheets of a ring with any numbers, and state 60,000.
 #![tactic(auto)]
+
 use base_limits::Limits;
 use cabinet::Cabinet;
 use cabinet_layout::{Core, Head, Phase};
@@ -165,49 +166,57 @@ fn of_kind(k: u32) -> Cabinet {
 }
 
 // Each call, refused with 28, and what the cabinet is after them.
-pub fn all_calls(cabinet: Cabinet) {
+pub fn all_calls(rt: &(impl Print + Eprint), cabinet: Cabinet) {
     run(
+        rt,
         cabinet,
         b"open 0 1\nvote 1 0 1\ntake 1 0\nwithdraw 1\nstore 0 0\nbegin 0 0\nend 0 0\ntrim\nsafe 1\nlose 0\nfix 16 776\nroll 0\nsheet 0 65536\nrestart\n",
     );
 }
 
 // What is no fault: a frame more, and the last session while up. Then numbers at their limits.
-fn at_limits() {
-    run(with_frame(one_frame(Phase::Up), 22), b"lose 0\nfix 2 20\n");
+fn at_limits(rt: &(impl Print + Eprint)) {
     run(
+        rt,
+        with_frame(one_frame(Phase::Up), 22),
+        b"lose 0\nfix 2 20\n",
+    );
+    run(
+        rt,
         headed(head(LAST, Phase::Up, 0)),
         b"lose 0\nfix 0 0\nfix 2 20\n",
     );
     run(
+        rt,
         headed(head(LAST - 1, Phase::Down, 0)),
         b"fix 2 20\nroll 0\nroll 1\nshow\nrestart\n",
     );
     run(
+        rt,
         headed(head(1, Phase::Up, LAST - 1)),
         b"open 0 1\nopen 0 2\nopen 2 0\n",
     );
     let mut c = headed(head(1, Phase::Up, 0));
     c.core = at_top(c.core, 0);
-    run(c, b"open 0 1\nopen 1 2\nopen 0 3\nshow\n");
+    run(rt, c, b"open 0 1\nopen 1 2\nopen 0 3\nshow\n");
 }
 
-fn each_kind() {
+fn each_kind(rt: &(impl Print + Eprint)) {
     let mut k: u32 = 0;
     while k < 22 {
-        all_calls(of_kind(k));
+        all_calls(rt, of_kind(k));
         k += 1;
     }
 }
 
-fn main() {
-    each_kind();
-    all_calls(with_line(one_frame(Phase::Rolling)));
+fn main(rt: HostRuntime) {
+    each_kind(&rt);
+    all_calls(&rt, with_line(one_frame(Phase::Rolling)));
     let a = Cabinet::fresh(0);
-    all_calls(a.cabinet);
-    at_limits();
-    writes::check();
-    lent::check();
-    pages::check();
-    summit::check();
+    all_calls(&rt, a.cabinet);
+    at_limits(&rt);
+    writes::check(&rt);
+    lent::check(&rt);
+    pages::check(&rt);
+    summit::check(&rt);
 }

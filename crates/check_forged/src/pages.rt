@@ -54,12 +54,12 @@ fn write_within(rows: Rows, h: Header, b: &mut [u8], room: usize) -> Written {
 }
 
 // Writes into so many first bytes of 80.
-fn write(rows: Rows, h: Header, room: usize) {
+fn write(rt: &(impl Print + Eprint), rows: Rows, h: Header, room: usize) {
     let mut b = [46u8; 80];
     let w = write_within(rows, h, &mut b, room);
-    crate::lent::say_written(w);
-    base_streams::print(&b);
-    base_streams::print(b"\n");
+    crate::lent::say_written(rt, w);
+    base_streams::print(rt, &b);
+    base_streams::print(rt, b"\n");
 }
 
 // One frame.
@@ -75,59 +75,71 @@ fn one(change: u32, own: u32, other: u32) -> Rows {
 }
 
 // The header alone.
-fn head(session: u32, card: u32, cards: u32, base: u32, count: u32) {
-    write(one(0, 0, 0), header(session, card, cards, base, count), 80);
+fn head(rt: &(impl Print + Eprint), session: u32, card: u32, cards: u32, base: u32, count: u32) {
+    write(
+        rt,
+        one(0, 0, 0),
+        header(session, card, cards, base, count),
+        80,
+    );
 }
 
 // The first frames of card 0: into enough bytes and into too few.
-fn frames(rows: Rows, count: u32) {
-    write(rows, header(1, 0, 2, 0, count), 80);
-    write(rows, header(1, 0, 2, 0, count), 10);
+fn frames(rt: &(impl Print + Eprint), rows: Rows, count: u32) {
+    write(rt, rows, header(1, 0, 2, 0, count), 80);
+    write(rt, rows, header(1, 0, 2, 0, count), 10);
 }
 
 // A second frame after one of change 5 that hangs on this state of the other card.
-fn two(other: u32, next_change: u32, next_other: u32) {
+fn two(rt: &(impl Print + Eprint), other: u32, next_change: u32, next_other: u32) {
     let mut rows = one(5, 1, other);
     rows.next_change = next_change;
     rows.next_own = 2;
     rows.next_other = next_other;
-    frames(rows, 2);
+    frames(rt, rows, 2);
 }
 
 // Headers at their limits, and those that 7 refuses.
-fn heads() {
-    head(Limits::GREATEST_NUMBER, 0, 1, 0, 0);
-    head(1, 15, 16, 0, 0);
-    head(1, 0, 1, Limits::GREATEST_STATE, 0);
-    head(0, 0, 1, 0, 0);
-    head(1, 1, 1, 0, 0);
-    head(1, 16, 16, 0, 0);
-    head(1, Limits::GREATEST_NUMBER, 16, 0, 0);
-    head(1, 0, 0, 0, 0);
-    head(1, 0, Limits::CARDS_U32 + 1, 0, 0);
-    head(1, 0, 1, 0, Limits::IN_HAND_U32 + 1);
-    head(1, 0, 1, Limits::GREATEST_STATE + 1, 0);
-    head(1, 0, 1, Limits::GREATEST_STATE, 1);
-    head(1, 0, 1, Limits::GREATEST_NUMBER, 1);
-    head(1, 0, 1, Limits::GREATEST_NUMBER, Limits::GREATEST_NUMBER);
+fn heads(rt: &(impl Print + Eprint)) {
+    head(rt, Limits::GREATEST_NUMBER, 0, 1, 0, 0);
+    head(rt, 1, 15, 16, 0, 0);
+    head(rt, 1, 0, 1, Limits::GREATEST_STATE, 0);
+    head(rt, 0, 0, 1, 0, 0);
+    head(rt, 1, 1, 1, 0, 0);
+    head(rt, 1, 16, 16, 0, 0);
+    head(rt, 1, Limits::GREATEST_NUMBER, 16, 0, 0);
+    head(rt, 1, 0, 0, 0, 0);
+    head(rt, 1, 0, Limits::CARDS_U32 + 1, 0, 0);
+    head(rt, 1, 0, 1, 0, Limits::IN_HAND_U32 + 1);
+    head(rt, 1, 0, 1, Limits::GREATEST_STATE + 1, 0);
+    head(rt, 1, 0, 1, Limits::GREATEST_STATE, 1);
+    head(rt, 1, 0, 1, Limits::GREATEST_NUMBER, 1);
+    head(
+        rt,
+        1,
+        0,
+        1,
+        Limits::GREATEST_NUMBER,
+        Limits::GREATEST_NUMBER,
+    );
 }
 
 // Frames that 9 refuses, and those that it just does not.
-fn kinds() {
-    frames(one(1, 1, 60000), 1);
-    frames(one(0, 1, 0), 1);
-    frames(one(1, 0, 0), 1);
-    frames(one(1, 2, 0), 1);
-    frames(one(1, 1, 60001), 1);
-    frames(one(1, 1, 65536), 1);
-    two(0, Limits::GREATEST_NUMBER, 60000);
-    two(8, 5, 8);
-    two(8, 4, 8);
-    two(8, 6, 7);
-    two(8, 6, 0);
+fn kinds(rt: &(impl Print + Eprint)) {
+    frames(rt, one(1, 1, 60000), 1);
+    frames(rt, one(0, 1, 0), 1);
+    frames(rt, one(1, 0, 0), 1);
+    frames(rt, one(1, 2, 0), 1);
+    frames(rt, one(1, 1, 60001), 1);
+    frames(rt, one(1, 1, 65536), 1);
+    two(rt, 0, Limits::GREATEST_NUMBER, 60000);
+    two(rt, 8, 5, 8);
+    two(rt, 8, 4, 8);
+    two(rt, 8, 6, 7);
+    two(rt, 8, 6, 0);
 }
 
-pub fn check() {
-    heads();
-    kinds();
+pub fn check(rt: &(impl Print + Eprint)) {
+    heads(rt);
+    kinds(rt);
 }

@@ -64,8 +64,9 @@ fn climbed() -> Cabinet {
 }
 
 // At the last state the card can be read, and not written; its sheet, a loss, a restart and the rolls keep it there.
-pub fn check() {
+pub fn check(rt: &(impl Print + Eprint)) {
     run(
+        rt,
         climbed(),
         b"show\nopen 0 1\nopen 0 3\nopen 1 2\nvote 1 0 1\nvote 1 1 1\ntake 1 0\ntake 1 1\nopen 3 1\nsheet 0 65536\nlose 2\nfix 2 1\nrestart\nroll 1\nroll 0\nshow\n",
     );

@@ -34,34 +34,39 @@ fn fallen(cabinet: Cabinet) -> Cabinet {
 }
 
 // "A running s outside stored to reached, or a write running in phase rolling, is 28."
-fn outside() {
-    all_calls(writing(all_stored(one_frame(Phase::Up)), 0, 1));
-    all_calls(writing(one_frame(Phase::Up), 0, 3));
-    all_calls(writing(one_frame(Phase::Down), 1, 2));
-    all_calls(writing(one_frame(Phase::Rolling), 0, 2));
+fn outside(rt: &(impl Print + Eprint)) {
+    all_calls(rt, writing(all_stored(one_frame(Phase::Up)), 0, 1));
+    all_calls(rt, writing(one_frame(Phase::Up), 0, 3));
+    all_calls(rt, writing(one_frame(Phase::Down), 1, 2));
+    all_calls(rt, writing(one_frame(Phase::Rolling), 0, 2));
 }
 
-pub fn check() {
-    outside();
+pub fn check(rt: &(impl Print + Eprint)) {
+    outside(rt);
     run(
+        rt,
         writing(one_frame(Phase::Up), 0, 1),
         b"show\nstore 0 1\nbegin 0 2\nend 0 1\nend 0 0\nshow\n",
     );
     run(
+        rt,
         writing(fallen(one_frame(Phase::Down)), 0, 2),
         b"show\nstore 0 0\nfix 2 20\nend 0 2\nend 0 1\nshow\nfix 2 20\n",
     );
     // a card that is not there is not looked at
     run(
+        rt,
         writing(headed(head(1, Phase::Up, 0)), 5, 9),
         b"begin 5 0\nend 5 0\nlose 0\nfix 2 20\nroll 0\nroll 1\nshow\n",
     );
     // 24 before 33, and 33 before 4
     run(
+        rt,
         writing(headed(head(LAST, Phase::Down, 0)), 0, 1),
         b"fix 0 0\nend 0 0\nfix 2 20\n",
     );
     run(
+        rt,
         writing(headed(head(1, Phase::Down, 0)), 1, 1),
         b"fix 0 0\nend 1 0\nfix 0 0\nfix 2 20\n",
     );

@@ -3,15 +3,16 @@
 // `line`: they are a read-out, and what the line program prints is printed. `page`: they are the sheet of the card. What is read
 // is printed, how many numbers of the read-out handed back are not 0, and the sheet as it is written again into so much room.
 #![tactic(auto)]
+
 ghost use Rattle.std.specs.Prelude.{◌<◌};
 
 use base_limits::Limits;
 use base_reading::Reading;
 use base_refusal::{Refusal, Reply};
-use libc::STDOUT_FILENO;
 use sheet_lines::Header;
 use sheet_page_writer::Written;
 use sheet_pages::Readout;
+use std::io;
 
 // The number at a place of a record's line, and 0 where there is none.
 fn number_at(line: &[u8], at: usize) -> u32 {
@@ -33,44 +34,48 @@ fn place_of(card: u32, base: u32, k: usize) -> usize {
     base_limits::ring_place(card % Limits::CARDS_U32, state)
 }
 
-fn say(b: &[u8]) {
-    base_streams::print(b);
+fn say(rt: &(impl Print + Eprint), b: &[u8]) {
+    base_streams::print(rt, b);
 }
 
-fn say_number(n: u32) {
-    say(b" ");
-    io::print_decimal(STDOUT_FILENO, n as u64);
+fn say_number(rt: &(impl Print + Eprint), n: u32) {
+    say(rt, b" ");
+    let _ = rt.print(n);
 }
 
-fn say_refusal(r: Refusal) {
-    say(b"refused");
-    say_number(base_refusal::number(r));
-    say(b"\n");
+fn say_refusal(rt: &(impl Print + Eprint), r: Refusal) {
+    say(rt, b"refused");
+    say_number(rt, base_refusal::number(r));
+    say(rt, b"\n");
 }
 
 // A dependency: none, or a state.
-fn say_entry(e: u32) {
+fn say_entry(rt: &(impl Print + Eprint), e: u32) {
     if e == 0 {
-        say(b" -");
+        say(rt, b" -");
     } else {
-        say_number(e - 1);
+        say_number(rt, e - 1);
     }
 }
 
-fn say_row(entries: &[u32], place: usize, n: usize) {
+fn say_row(rt: &(impl Print + Eprint), entries: &[u32], place: usize, n: usize) {
     let mut j = 0;
     while j < n {
-        say_entry(entry(
-            entries,
-            place % Limits::FRAMES * Limits::CARDS + j % Limits::CARDS,
-        ));
+        say_entry(
+            rt,
+            entry(
+                entries,
+                place % Limits::FRAMES * Limits::CARDS + j % Limits::CARDS,
+            ),
+        );
         j += 1;
     }
-    say(b"\n");
+    say(rt, b"\n");
 }
 
 // Of each frame the change and the vector.
 fn say_frames<'a>(
+    rt: &(impl Print + Eprint),
     changes: &'a [u32],
     entries: &'a [u32],
     card: u32,
@@ -81,8 +86,8 @@ fn say_frames<'a>(
     let mut k = 0;
     while k < count {
         let place = place_of(card, base, k);
-        say_number(entry(changes, place));
-        say_row(entries, place, cards);
+        say_number(rt, entry(changes, place));
+        say_row(rt, entries, place, cards);
         k += 1;
     }
 }
@@ -99,16 +104,16 @@ fn header_of(r: Readout, card: u32) -> Header {
     }
 }
 
-fn say_sheet(r: Readout, h: Header) {
-    say(b"read");
-    say_number(h.session);
-    say_number(h.cards);
-    say_number(h.base);
-    say_number(h.count);
-    say(b"\n");
+fn say_sheet(rt: &(impl Print + Eprint), r: Readout, h: Header) {
+    say(rt, b"read");
+    say_number(rt, h.session);
+    say_number(rt, h.cards);
+    say_number(rt, h.base);
+    say_number(rt, h.count);
+    say(rt, b"\n");
     let cards = h.cards as usize;
     let count = h.count as usize;
-    say_frames(&r.changes, &r.entries, h.card, cards, h.base, count);
+    say_frames(rt, &r.changes, &r.entries, h.card, cards, h.base, count);
 }
 
 fn one_if(b: bool) -> u32
@@ -129,14 +134,14 @@ fn filled(s: &[u32]) -> u32 {
 }
 
 // How many sessions, bases, counts, changes and entries are not 0: those of one sheet, or none where it is refused.
-fn say_held(r: Readout) {
-    say(b"held");
-    say_number(filled(&r.sessions));
-    say_number(filled(&r.bases));
-    say_number(filled(&r.counts));
-    say_number(filled(&r.changes));
-    say_number(filled(&r.entries));
-    say(b"\n");
+fn say_held(rt: &(impl Print + Eprint), r: Readout) {
+    say(rt, b"held");
+    say_number(rt, filled(&r.sessions));
+    say_number(rt, filled(&r.bases));
+    say_number(rt, filled(&r.counts));
+    say_number(rt, filled(&r.changes));
+    say_number(rt, filled(&r.entries));
+    say(rt, b"\n");
 }
 
 // A buffer to write to.
@@ -160,17 +165,17 @@ fn altered(b: &[u8], from: usize) -> u32 {
     n
 }
 
-fn say_altered(b: &[u8], from: usize) {
-    say(b"altered");
-    say_number(altered(b, from));
-    say(b"\n");
+fn say_altered(rt: &(impl Print + Eprint), b: &[u8], from: usize) {
+    say(rt, b"altered");
+    say_number(rt, altered(b, from));
+    say(rt, b"\n");
 }
 
-fn say_written(b: &[u8], n: usize) {
+fn say_written(rt: &(impl Print + Eprint), b: &[u8], n: usize) {
     if n <= b.len() {
-        say(b"wrote\n");
-        say(&b[0..n]);
-        say_altered(b, n);
+        say(rt, b"wrote\n");
+        say(rt, &b[0..n]);
+        say_altered(rt, b, n);
     }
 }
 
@@ -183,63 +188,63 @@ fn write_within(b: &mut [u8], room: usize, r: Readout, h: Header) -> Written {
     }
 }
 
-fn write_again(r: Readout, h: Header, room: usize) {
+fn write_again(rt: &(impl Print + Eprint), r: Readout, h: Header, room: usize) {
     let mut b = paper();
     let w = write_within(&mut b, room, r, h);
     match w {
-        Written::Length(n) => say_written(&b, n),
+        Written::Length(n) => say_written(rt, &b, n),
         Written::Refused(x) => {
-            say_refusal(x);
-            say_altered(&b, 0);
+            say_refusal(rt, x);
+            say_altered(rt, &b, 0);
         }
     }
 }
 
-fn page(s: &[u8], card: u32, room: usize) {
+fn page(rt: &(impl Print + Eprint), s: &[u8], card: u32, room: usize) {
     let read = sheet_reader::read_sheet(s, card);
     let v = read.verdict;
     let r = read.readout;
     match v {
         Reply::Done => {
             let h = header_of(r, card);
-            say_sheet(r, h);
-            say_held(r);
-            write_again(r, h, room);
+            say_sheet(rt, r, h);
+            say_held(rt, r);
+            write_again(rt, r, h, room);
         }
         Reply::Refused(x) => {
-            say_refusal(x);
-            say_held(r);
+            say_refusal(rt, x);
+            say_held(rt, r);
         }
     }
 }
 
-fn say_text(text: &[u8], n: usize) {
+fn say_text(rt: &(impl Print + Eprint), text: &[u8], n: usize) {
     if n <= text.len() {
-        say(&text[0..n]);
+        say(rt, &text[0..n]);
     }
 }
 
-fn readout(s: &[u8]) {
+fn readout(rt: &(impl Print + Eprint), s: &[u8]) {
     let t = cabinet_report::line_text(s);
     let text = t.bytes;
-    say_text(&text, t.length);
+    say_text(rt, &text, t.length);
 }
 
 // Runs a record, whose bytes stand first in the input.
-fn run(word: u8, card: u32, room: usize, input: &[u8], total: usize) {
+fn run(rt: &(impl Print + Eprint), word: u8, card: u32, room: usize, input: &[u8], total: usize) {
     if total <= input.len() {
         if word == b'l' {
-            readout(&input[0..total]);
+            readout(rt, &input[0..total]);
         } else {
-            page(&input[0..total], card, room);
+            page(rt, &input[0..total], card, room);
         }
     }
 }
 
 // Reads n bytes to the front of the input.
-fn fill(input: &mut [u8], n: usize) {
+fn fill(rt: &(impl io::Input + Eprint), input: &mut [u8], n: usize) {
     if n <= input.len() {
-        base_streams::read_full(&mut input[0..n]);
+        base_streams::read_full(rt, &mut input[0..n]);
     }
 }
 
@@ -249,9 +254,9 @@ fn zeros() -> [u8; Limits::LONGEST + 4] {
 }
 
 // Reads one record and runs it; false where there is none left.
-fn step() -> bool {
+fn step(rt: &(impl io::Input + Print + Eprint)) -> bool {
     let mut line = [0u8; 26];
-    let got = base_streams::read_full(&mut line);
+    let got = base_streams::read_full(rt, &mut line);
     if got.count < 26 {
         return false;
     }
@@ -260,14 +265,14 @@ fn step() -> bool {
     let room = number_at(&line, 8) as usize;
     let card = number_at(&line, 5);
     let mut input = zeros();
-    fill(&mut input, n);
-    run(line[0], card, room, &input, total);
+    fill(rt, &mut input, n);
+    run(rt, line[0], card, room, &input, total);
     true
 }
 
-fn main() {
+fn main(rt: HostRuntime) {
     let mut turns: u32 = 65536;
-    while turns > 0 && step() {
+    while turns > 0 && step(&rt) {
         turns -= 1;
     }
 }

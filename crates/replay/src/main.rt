@@ -1,10 +1,12 @@
 // Reads a list of calls from standard input and prints the answers, a line at a time: lists of any length in bounded memory.
 // It ends where a read or a write fails, and a line that was cut off there is no call.
 #![tactic(auto)]
+
 ghost use Rattle.std.specs.Prelude.{◌<◌, ◌≤◌, length};
 
 use base_text::Progress;
 use list_results::Replay;
+use std::io;
 
 // The replay, the bytes of a line that has not ended yet (129 of them tell that it is too long), and whether a read or a
 // write failed.
@@ -32,9 +34,9 @@ struct Turned {
 }
 
 // Prints the answer to a line; false where that failed.
-fn print(out: &[u8], w: Progress) -> bool {
+fn print(rt: &(impl Print + Eprint), out: &[u8], w: Progress) -> bool {
     match w {
-        Progress::Next(n) => n <= out.len() && base_streams::print(&out[0..n]),
+        Progress::Next(n) => n <= out.len() && base_streams::print(rt, &out[0..n]),
         Progress::Counting(_) => false,
         Progress::TooShort => false,
     }
@@ -84,7 +86,7 @@ fn within(count: usize) -> usize
 
 // Does the lines of a part of the input, each where it ends: one whose answer has no room changes nothing. The cabinet goes by
 // value, so the step stands in the loop itself.
-fn feed(f: Reader, part: &[u8], out: &mut [u8]) -> Reader {
+fn feed(rt: &(impl Print + Eprint), f: Reader, part: &[u8], out: &mut [u8]) -> Reader {
     let mut r = f.replay;
     let mut line = f.line;
     let mut count = f.count;
@@ -104,7 +106,7 @@ fn feed(f: Reader, part: &[u8], out: &mut [u8]) -> Reader {
         let s = list_execute::done(r, said, out, Progress::Next(0));
         let w = s.written;
         r = s.replay;
-        if !print(out, w) {
+        if !print(rt, out, w) {
             return Reader {
                 replay: r,
                 line,
@@ -124,9 +126,9 @@ fn feed(f: Reader, part: &[u8], out: &mut [u8]) -> Reader {
 }
 
 // Reads a part of the input and does its lines.
-fn turn(mut f: Reader) -> Turned {
-    let mut part = io::buffer();
-    let input = base_streams::read(&mut part);
+fn turn(rt: &(impl io::Input + Print + Eprint), mut f: Reader) -> Turned {
+    let mut part = [0u8; 4096];
+    let input = base_streams::read(rt, &mut part);
     let n = input.count;
     if n == 0 {
         f.failed = input.failed;
@@ -135,36 +137,36 @@ fn turn(mut f: Reader) -> Turned {
             more: false,
         };
     }
-    let mut out = io::large_buffer();
-    let reader = feed(f, &part[0..n], &mut out);
+    let mut out = [0u8; 65536];
+    let reader = feed(rt, f, &part[0..n], &mut out);
     let more = !reader.failed;
     Turned { reader, more }
 }
 
 // Does what is left of the input as a line.
-fn do_rest(r: Replay, line: &[u8], count: usize) {
+fn do_rest(rt: &(impl Print + Eprint), r: Replay, line: &[u8], count: usize) {
     if 0 < count {
         if count <= line.len() {
-            let mut out = io::large_buffer();
+            let mut out = [0u8; 65536];
             let said = list_parse::parse(&line[0..count]);
             let s = list_execute::done(r, said, &mut out, Progress::Next(0));
             let w = s.written;
-            print(&out, w);
+            print(rt, &out, w);
         }
     }
 }
 
 // A last line with no byte 10 counts as a line.
-fn finish(f: Reader) {
+fn finish(rt: &(impl Print + Eprint), f: Reader) {
     let r = f.replay;
     let line = f.line;
     let count = f.count;
     if !f.failed {
-        do_rest(r, &line, count);
+        do_rest(rt, r, &line, count);
     }
 }
 
-fn main() {
+fn main(rt: HostRuntime) {
     let replay = list_results::begin();
     let line = [0u8; 129];
     let mut f = Reader {
@@ -175,10 +177,10 @@ fn main() {
     };
     let mut turns: u64 = 18446744073709551615;
     while turns > 0 {
-        let t = turn(f);
+        let t = turn(&rt, f);
         let next = t.reader;
         f = next;
         turns = if t.more { turns - 1 } else { 0 };
     }
-    finish(f);
+    finish(&rt, f);
 }
