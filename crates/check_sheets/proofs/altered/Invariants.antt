@@ -1,6 +1,5 @@
 -- `check_sheets::altered` counts the bytes that are altered: it is safe and ends. Assumes nothing.
-use Prim.Native.Nat.{◌-◌, ◌≤◌}
-use borrow.Author.Rules.{rules}
+use Rattle.std.proofs.Common.{◌-◌, ◌≤◌}
 use Rattle.check_sheets.proofs.altered.Given as goal
 
 abbrev pub invariant-loop-i : goal.invariant-loop-i

@@ -1,6 +1,5 @@
 -- `check_sheets::filled` counts the numbers that are not 0: it is safe and ends. Assumes nothing.
-use Prim.Native.Nat.{◌-◌, ◌≤◌}
-use borrow.Author.Rules.{rules}
+use Rattle.std.proofs.Common.{◌-◌, ◌≤◌}
 use Rattle.check_sheets.proofs.filled.Given as goal
 
 abbrev pub invariant-loop-i : goal.invariant-loop-i

@@ -1,5 +1,4 @@
 -- `check_sheets::main` ends: the turns fall. Assumes nothing.
-use borrow.Author.Rules.{rules}
 use Rattle.check_sheets.proofs.main.Given as goal
 
 abbrev pub invariant-loop-turns : goal.invariant-loop-turns

@@ -1,8 +1,5 @@
 -- `replay::gather` goes on by a byte at least. Assumes nothing.
-use Prim.Native.Nat.{◌-◌, ◌≤◌}
-use mathlib.Core.Path.{◌≡◌}
-use lib.ListN.{length}
-use borrow.Author.Rules.{rules}
+use Rattle.std.proofs.Common.{◌-◌, ◌≤◌, ◌≡◌, length}
 use Rattle.replay.proofs.gather.Given as goal
 
 abbrev pub invariant-loop-i : goal.invariant-loop-i

@@ -1,7 +1,5 @@
 -- `check_forged::lists::find` stops within the text. Assumes nothing.
-use Prim.Native.Nat.{◌≤◌, ◌-◌}
-use lib.ListN.{length}
-use borrow.Author.Rules.{rules}
+use Rattle.std.proofs.Common.{◌≤◌, ◌-◌, length}
 use Rattle.check_forged.proofs.lists.find.Given as goal
 
 abbrev pub invariant-loop-i : goal.invariant-loop-i

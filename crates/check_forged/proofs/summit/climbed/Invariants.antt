@@ -1,6 +1,5 @@
 -- `check_forged::summit::climbed` ends after 100 sessions. Assumes nothing.
-use Prim.Native.Nat.{◌-◌}
-use borrow.Author.Rules.{rules}
+use Rattle.std.proofs.Common.{◌-◌}
 use Rattle.check_forged.proofs.summit.climbed.Given as goal
 
 abbrev pub invariant-loop-from : goal.invariant-loop-from

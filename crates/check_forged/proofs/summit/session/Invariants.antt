@@ -1,6 +1,5 @@
 -- `check_forged::summit::session` ends after 600 changes. Assumes nothing.
-use Prim.Native.Nat.{◌-◌}
-use borrow.Author.Rules.{rules}
+use Rattle.std.proofs.Common.{◌-◌}
 use Rattle.check_forged.proofs.summit.session.Given as goal
 
 abbrev pub invariant-loop-k : goal.invariant-loop-k
