@@ -18,6 +18,8 @@ DECLARED = re.compile(r"^\s*(?:(?:pub|abbrev|unfoldable|opaque) )*([^\s(){}.;,@\
 # what a function's own folder holds: its walk, its invariants and its answers
 WALK = re.compile(r"/proofs/.+/(?:Proof|Answers|Invariants)\.antt$")
 IMPORTED = re.compile(r"^(?:ghost )?use ([^\s{;]+?)\.?\{([^}]*)\}", re.M | re.S)
+# variables of definitions and lemmas that stand in more than one file
+BOUND = ("listNow", "recordsNow", "cardPlaces", "lostPlaces")
 TICKED = re.compile(r"`[^`\n]*`")
 
 
@@ -55,6 +57,7 @@ def snake(name):
 def table(root):
     found = declared(root)
     own = {n: snake(n) for n in found if n[0].islower() and snake(n) != n}
+    own.update((n, snake(n)) for n in BOUND)
     groups = collections.defaultdict(list)
     for name in found:
         groups[own.get(name, name)].append(name)
