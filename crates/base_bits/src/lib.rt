@@ -1,6 +1,7 @@
 // Sets of cards as numbers: card i is in the set where the digit of the number at i is 1, card 0 the lowest.
 // Every function is total: a card or a number of cards outside the set's 16 digits is answered too.
 #![tactic(auto)]
+
 ghost use Rattle.std.specs.Prelude.{◌≡◌, not};
 ghost use Rattle.base_laws.specs.Below.{any_below};
 ghost use Rattle.base_bits.specs.Sets.{either, both, except, one, below, truncate};

@@ -1,5 +1,6 @@
 // Numbers written as decimal text, into a lent buffer at a place.
 #![tactic(auto)]
+
 ghost use Rattle.std.specs.Prelude.{◌+◌, ◌≤◌, ◌≡◌, length};
 ghost use Rattle.std.proofs.lemmas.List.Edits.{sets};
 ghost use Rattle.base_decimal.specs.Digits.{decimal, lowest};

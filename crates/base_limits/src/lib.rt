@@ -1,5 +1,6 @@
 // The limits of document 01 as constants: the one place where the code has these numbers.
 #![tactic(auto)]
+
 ghost use Rattle.std.specs.Prelude.{◌≡◌};
 ghost use Rattle.base_limits.specs.Constants.{constants};
 ghost use Rattle.base_limits.specs.Ring.{ring_place};

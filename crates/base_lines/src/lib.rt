@@ -1,5 +1,6 @@
 // Numbers and lines of text into a lent buffer, cut off where the buffer ends.
 #![tactic(auto)]
+
 ghost use Rattle.std.specs.Prelude.{cond, [], ltb};
 ghost use Rattle.base_decimal.specs.Digits.{decimal};
 ghost use Rattle.base_text.specs.Put.{Put};

@@ -1,5 +1,6 @@
 // One merge over the cards' frames, whose change numbers rise with the states: it meets each number once, rising.
 #![tactic(auto)]
+
 ghost use Rattle.std.specs.Prelude.{◌<◌, ◌≡◌, cond};
 ghost use Rattle.base_merge.specs.Merge.{lesser, change_at, ends_of, head_place, head_number, head_numbers, least_of, card_past, all_past};
 

@@ -1,5 +1,6 @@
 // Numbers read as decimal text, at a place of a text.
 #![tactic(auto)]
+
 ghost use Rattle.std.specs.Prelude.{◌≡◌};
 ghost use Rattle.base_reading.specs.Digits.{is_digit};
 ghost use Rattle.base_reading.specs.Reads.{reading, read_at};

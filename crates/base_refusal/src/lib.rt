@@ -1,5 +1,6 @@
 // The refusals of document 01, by name; what each is told by, a row of its two tables; and an answer that is acceptance or a refusal.
 #![tactic(auto)]
+
 ghost use Rattle.std.specs.Prelude.{◌≡◌};
 ghost use Rattle.base_refusal.specs.Number.{number_of, told_of};
 

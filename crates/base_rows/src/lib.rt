@@ -1,5 +1,6 @@
 // Rows of the ring: the entries of one frame, read and written at its place.
 #![tactic(auto)]
+
 ghost use Rattle.std.specs.Prelude.{◌≡◌};
 ghost use Rattle.base_rows.specs.Row.{row_at, row_put};
 

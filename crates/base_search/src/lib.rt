@@ -1,5 +1,6 @@
 // Bytes of texts: where one first stands, and whether two texts are the same.
 #![tactic(auto)]
+
 ghost use Rattle.std.specs.Prelude.{◌+◌, ◌≡◌, length, drop};
 ghost use Rattle.base_search.specs.Search.{before, same};
 

@@ -1,5 +1,6 @@
 // Told of a set of cards: how many they are, the lowest, and whether all are below a number.
 #![tactic(auto)]
+
 ghost use Rattle.std.specs.Prelude.{◌≡◌};
 ghost use Rattle.base_laws.specs.Below.{count_below, first_below};
 ghost use Rattle.base_bits.specs.Sets.{inside};

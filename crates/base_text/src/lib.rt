@@ -1,5 +1,6 @@
 // Text into a lent buffer, cut off where the buffer ends. What is to be whole is counted first.
 #![tactic(auto)]
+
 ghost use Rattle.std.specs.Prelude.{◌-◌, ◌≤◌, min, ◌≡◌, length, take};
 ghost use Rattle.std.proofs.lemmas.List.Edits.{sets};
 ghost use Rattle.base_text.specs.declared.Progress.TheVariants.{Next};

@@ -1,6 +1,7 @@
 // What bench/run.sh measures, exported to Rust: each call once, on a cabinet that was forged for it, and parts by themselves.
 // A cabinet has so many cards, and on each so many states in hand, each made by a change of its own.
 #![tactic(auto)]
+
 use base_limits::Limits;
 use base_refusal::Reply;
 use cabinet::Cabinet;

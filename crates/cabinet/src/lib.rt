@@ -1,5 +1,6 @@
 // The cabinet of 16 cards: its struct, and its calls as methods that hand it back, in the modules below.
 #![tactic(auto)]
+
 ghost use Rattle.std.specs.Prelude.{[], ◌∷◌, ◌≡◌};
 ghost use Rattle.base_limits.specs.Document.{most_cards, most_in_hand, most_open, last_state};
 ghost use Rattle.cabinet_layout.specs.Answers.{reply_of};

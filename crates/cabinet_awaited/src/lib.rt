@@ -1,5 +1,6 @@
 // The cards that an open change awaits: votes, and shares to be taken.
 #![tactic(auto)]
+
 ghost use Rattle.std.specs.Prelude.{◌≡◌, not, ◌&&◌, ◌||◌};
 ghost use Rattle.base_laws.specs.Below.{count_below};
 ghost use Rattle.base_bits.specs.Member.{member};

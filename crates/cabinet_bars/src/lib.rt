@@ -1,5 +1,6 @@
 // What an opening looks at: the cards that open changes bar, and the cards with no room for a state more.
 #![tactic(auto)]
+
 ghost use Rattle.std.specs.Prelude.{◌+◌, ◌≡◌, leb};
 ghost use Rattle.base_laws.specs.Below.{any_below};
 ghost use Rattle.base_bits.specs.Member.{member};

@@ -1,5 +1,6 @@
 // 2. vote: what it makes of a change.
 #![tactic(auto)]
+
 ghost use Rattle.std.specs.Prelude.{ℕ, ◌<◌, ◌≡◌, true};
 ghost use Rattle.base_bits.specs.Member.{member};
 ghost use Rattle.theory_protocol.specs.Calls.{voted_yes, voted};

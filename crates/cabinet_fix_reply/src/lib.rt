@@ -1,5 +1,6 @@
 // 9. fix: the checks that refuse it.
 #![tactic(auto)]
+
 ghost use Rattle.std.specs.Prelude.{◌≡◌, not, ◌||◌, [], ltb};
 ghost use Rattle.base_laws.specs.Below.{count_below};
 ghost use Rattle.theory_protocol.specs.Calls.{fix_checks};

@@ -1,5 +1,6 @@
 // Call 9 over lent frames and the core of a cabinet: fix, and what goes into the list of card records.
 #![tactic(auto)]
+
 ghost use Rattle.std.specs.Prelude.{◌≡◌};
 ghost use Rattle.cabinet_fixing.specs.Fixed.{numbers_of, CoreFixed};
 

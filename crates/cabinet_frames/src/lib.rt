@@ -1,5 +1,6 @@
 // The frame that a take makes, at its place in the ring.
 #![tactic(auto)]
+
 ghost use Rattle.std.specs.Prelude.{◌*◌, ◌≡◌, not, ◌&&◌, cond, eqb, ltb, set};
 ghost use Rattle.std.proofs.lemmas.List.Edits.{sets};
 ghost use Rattle.base_limits.specs.Ring.{ring_place};

@@ -1,5 +1,6 @@
 // Restart from the sheets of all cards as a cabinet writes them, joined.
 #![tactic(auto)]
+
 ghost use Rattle.std.specs.Prelude.{◌≤◌, ◌≡◌, true, length, take};
 ghost use Rattle.sheet_lines.specs.Format.{formats};
 ghost use Rattle.theory_protocol.specs.Valid.{valid};

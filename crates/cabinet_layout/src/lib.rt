@@ -1,5 +1,6 @@
 // What the calls are said with: phase, head, slots, vectors and replies; a head, a free slot and a core anew; reading a phase and a number by card.
 #![tactic(auto)]
+
 ghost use Rattle.std.specs.Prelude.{◌≡◌};
 ghost use Rattle.base_laws.specs.Below.{tabulate};
 ghost use Rattle.theory_history.specs.Vector.{no_entries};

@@ -1,5 +1,6 @@
 // The changes lost: one merge over the cards' frames above the line and the changes that a loss ended.
 #![tactic(auto)]
+
 ghost use Rattle.std.specs.Prelude.{◌≡◌, set};
 ghost use Rattle.base_merge.specs.Merge.{ends_of, Rises};
 ghost use Rattle.cabinet_listing.specs.Lost.{Listed, number_above, least_ended, next_lost, lost_by};

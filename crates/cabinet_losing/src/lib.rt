@@ -1,5 +1,6 @@
 // 8. lose: what it writes into a cabinet's lists.
 #![tactic(auto)]
+
 ghost use Rattle.std.specs.Prelude.{◌≡◌, cond};
 ghost use Rattle.base_laws.specs.Below.{tabulate};
 ghost use Rattle.base_bits.specs.Member.{member};

@@ -1,5 +1,6 @@
 // The core of fix, over numbers and lent arrays: the line of each card, and the changes lost.
 #![tactic(auto)]
+
 ghost use Rattle.std.specs.Prelude.{◌≡◌, length};
 ghost use Rattle.theory_protocol.specs.Calls.{fix_plan};
 ghost use Rattle.cabinet_layout.specs.Shape.{limits16, list_of, model_of};

@@ -1,5 +1,6 @@
 // What refusal 28 says of numbers by themselves: session, number of cards, state numbers, entries, room to write.
 #![tactic(auto)]
+
 ghost use Rattle.std.specs.Prelude.{◌≡◌, cond};
 ghost use Rattle.theory_protocol.specs.Valid.{session_valid, cards_valid, numbers_valid, entries_valid, room_to_write};
 ghost use Rattle.cabinet_layout.specs.Shape.{limits16, at, present_of, numbers_of, head_model};

@@ -1,5 +1,6 @@
 // Call 1 over the core of a cabinet: open. It is told what the check for 28 found.
 #![tactic(auto)]
+
 ghost use Rattle.base_bits.specs.Member.{member};
 ghost use Rattle.cabinet_layout.specs.Answers.{open_reply_of};
 ghost use Rattle.cabinet_layout.specs.Applied.{CoreCarried};

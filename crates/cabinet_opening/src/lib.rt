@@ -1,5 +1,6 @@
 // 1. open: its verdict, and the change that it puts into a slot.
 #![tactic(auto)]
+
 ghost use Rattle.std.specs.Prelude.{◌≡◌, not};
 ghost use Rattle.base_bits.specs.Member.{member};
 ghost use Rattle.theory_protocol.specs.Calls.{open_checks, opened_change};

@@ -1,5 +1,6 @@
 // The vectors that a take writes, what an opening answers, and how a cabinet begins.
 #![tactic(auto)]
+
 ghost use Rattle.std.specs.Prelude.{◌<◌, ◌≡◌, not};
 ghost use Rattle.theory_history.specs.Vector.{joined};
 ghost use Rattle.theory_protocol.specs.Calls.{fresh_refused};

@@ -1,5 +1,6 @@
 // What a restart works out of a read-out's lists: the vectors of the last frames, the cards that count as rolled.
 #![tactic(auto)]
+
 ghost use Rattle.std.specs.Prelude.{◌<◌, ◌≡◌, cond, ltb};
 ghost use Rattle.base_laws.specs.Below.{tabulate};
 ghost use Rattle.base_bits.specs.Member.{member};

@@ -1,5 +1,6 @@
 // "A list of card records that the caller lends": one record per card, in card order; places beyond keep what they held.
 #![tactic(auto)]
+
 ghost use Rattle.std.specs.Prelude.{◌≡◌, ◌<◌};
 ghost use Rattle.cabinet_records.specs.Records.{record_at, places_used, filled};
 

@@ -1,5 +1,6 @@
 // The recovery line from what is in hand, and what fix answers.
 #![tactic(auto)]
+
 ghost use Rattle.std.specs.Prelude.{◌+◌, ◌*◌, ◌<◌, ◌≤◌, ◌≡◌, cond, [], ltb};
 ghost use Rattle.theory_history.specs.Line.{orphan, line_from};
 ghost use Rattle.theory_protocol.specs.Model.{is_card};

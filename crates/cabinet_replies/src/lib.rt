@@ -1,5 +1,6 @@
 // The reply of a call: the first check that fails, in document 01's order. Of store, its beginning and its end, and of lose.
 #![tactic(auto)]
+
 ghost use Rattle.std.specs.Prelude.{◌≡◌, not, []};
 ghost use Rattle.base_bits.specs.Member.{member};
 ghost use Rattle.theory_protocol.specs.Model.{is_card};

@@ -1,5 +1,6 @@
 // The text of the line program: card, stored and line of each card and the session after recovery, or the refusal.
 #![tactic(auto)]
+
 ghost use Rattle.std.specs.Prelude.{◌+◌, ◌≤◌, ◌≡◌, ◌++◌, length};
 ghost use Rattle.base_text.specs.declared.Progress.TheVariants.{Next};
 ghost use Rattle.base_text.specs.Put.{Put};

@@ -1,5 +1,6 @@
 // Restart: the cabinet out of the sheets of all cards, joined.
 #![tactic(auto)]
+
 ghost use Rattle.std.specs.Prelude.{◌≡◌};
 ghost use Rattle.cabinet_layout.specs.Answers.{reply_of};
 ghost use Rattle.cabinet_restart.specs.Restart.{Within, restarted_cabinet, Restarted};

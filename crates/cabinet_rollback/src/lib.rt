@@ -1,5 +1,6 @@
 // The verdicts on trim and roll, and what a roll writes.
 #![tactic(auto)]
+
 ghost use Rattle.std.specs.Prelude.{◌≡◌, not, []};
 ghost use Rattle.base_bits.specs.Member.{member};
 ghost use Rattle.theory_protocol.specs.Model.{with_card};

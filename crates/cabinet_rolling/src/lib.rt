@@ -1,5 +1,6 @@
 // Call 10 over the core of a cabinet: roll. It is told what the check for 28 found.
 #![tactic(auto)]
+
 ghost use Rattle.std.specs.Prelude.{◌≡◌, true};
 ghost use Rattle.cabinet_layout.specs.Answers.{reply_of};
 ghost use Rattle.cabinet_layout.specs.Applied.{CoreCarried};

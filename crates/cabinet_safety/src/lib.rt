@@ -1,5 +1,6 @@
 // 7. safe: whether a change would be in the line if every card were lost now.
 #![tactic(auto)]
+
 ghost use Rattle.std.specs.Prelude.{◌-◌, ◌<◌, ◌≡◌, not, ◌&&◌, cond, [], eqb};
 ghost use Rattle.base_laws.specs.Below.{any_below};
 ghost use Rattle.theory_protocol.specs.Edit.{remembered};

@@ -1,5 +1,6 @@
 // A card's sheet out of a cabinet, and its bytes in a lent buffer.
 #![tactic(auto)]
+
 ghost use Rattle.std.specs.Prelude.{◌≡◌, true, length};
 ghost use Rattle.theory_protocol.specs.Codec.{sheet_plan};
 ghost use Rattle.theory_codec.specs.Sheets.{codec};

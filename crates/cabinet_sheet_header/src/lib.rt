@@ -1,5 +1,6 @@
 // The header of a card's sheet, out of a cabinet.
 #![tactic(auto)]
+
 ghost use Rattle.std.specs.Prelude.{◌≤◌, ◌≡◌, true};
 ghost use Rattle.theory_protocol.specs.Model.{is_rolling};
 ghost use Rattle.cabinet_layout.specs.Shape.{phase_of};

@@ -1,5 +1,6 @@
 // The replies of the calls on an open change: vote, take and withdraw.
 #![tactic(auto)]
+
 ghost use Rattle.std.specs.Prelude.{◌≡◌, not, []};
 ghost use Rattle.theory_protocol.specs.Calls.{vote_checks, take_checks, withdraw_checks};
 ghost use Rattle.cabinet_layout.specs.Shape.{limits16, slots_model};

@@ -1,5 +1,6 @@
 // Open changes in their eight slots.
 #![tactic(auto)]
+
 ghost use Rattle.std.specs.Prelude.{◌≡◌, not, ◌&&◌, eqb};
 ghost use Rattle.base_laws.specs.Below.{first_below};
 ghost use Rattle.theory_protocol.specs.Model.{is_open, awaits_write};

@@ -1,5 +1,6 @@
 // Calls 5 and 8 over the core of a cabinet: store, its beginning and its end (document 02, wish 5), lose. Each is told what the check for 28 found.
 #![tactic(auto)]
+
 ghost use Rattle.std.specs.Prelude.{◌≡◌, true};
 ghost use Rattle.base_bits.specs.Member.{member};
 ghost use Rattle.cabinet_layout.specs.Answers.{reply_of};

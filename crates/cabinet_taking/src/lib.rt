@@ -1,5 +1,6 @@
 // Call 3 over the core of a cabinet: take. It is told what the check for 28 found.
 #![tactic(auto)]
+
 ghost use Rattle.std.specs.Prelude.{◌≡◌, true};
 ghost use Rattle.cabinet_layout.specs.Answers.{reply_of};
 ghost use Rattle.cabinet_plans.specs.Plans.{Stands, TakeCarriedOn};

@@ -1,5 +1,6 @@
 // Calls 6 and 7 over lent frames and the core of a cabinet: trim, safe. They look at frames, and so work out 28 themselves.
 #![tactic(auto)]
+
 ghost use Rattle.std.specs.Prelude.{◌≡◌};
 ghost use Rattle.theory_protocol.specs.Calls.{trim_plan, safe_plan};
 ghost use Rattle.cabinet_layout.specs.Shape.{limits16, model_of};

@@ -1,5 +1,6 @@
 // The check for refusal 28: what a cabinet must be, level by level.
 #![tactic(auto)]
+
 ghost use Rattle.std.specs.Prelude.{◌<◌, ◌≡◌, not, ◌&&◌, ◌||◌, cond, []};
 ghost use Rattle.base_laws.specs.Below.{all_below};
 ghost use Rattle.theory_protocol.specs.Valid.{entries_valid, line_valid, card_valid, valid};

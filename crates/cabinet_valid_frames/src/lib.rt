@@ -1,5 +1,6 @@
 // What the check for refusal 28 says of the frames of a card, in their ring.
 #![tactic(auto)]
+
 ghost use Rattle.std.specs.Prelude.{◌+◌, ◌*◌, ◌<◌, ◌≤◌, ◌≡◌, not, ◌&&◌, cond, eqb, leb, ltb};
 ghost use Rattle.base_laws.specs.Below.{all_below};
 ghost use Rattle.theory_protocol.specs.Model.{up};

@@ -1,5 +1,6 @@
 // What the check for refusal 28 says of the eight slots.
 #![tactic(auto)]
+
 ghost use Rattle.std.specs.Prelude.{◌≡◌, not, ◌||◌, []};
 ghost use Rattle.base_laws.specs.Below.{all_below};
 ghost use Rattle.theory_protocol.specs.Model.{to_write};

@@ -1,5 +1,6 @@
 // Vectors of 16 entries by value, merged entry by entry.
 #![tactic(auto)]
+
 ghost use Rattle.std.specs.Prelude.{◌≡◌, true, cond, ℕ, ◌<◌, max};
 ghost use Rattle.base_bits.specs.Member.{member};
 ghost use Rattle.theory_history.specs.Vector.{joined, no_entries, with_own, vector_of};

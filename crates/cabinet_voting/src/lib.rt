@@ -1,5 +1,6 @@
 // Calls 2 and 4 over the core of a cabinet: vote, withdraw. Each is told what the check for 28 found.
 #![tactic(auto)]
+
 ghost use Rattle.std.specs.Prelude.{◌≡◌, true};
 ghost use Rattle.cabinet_layout.specs.Answers.{reply_of};
 ghost use Rattle.cabinet_layout.specs.Applied.{CoreCarried};

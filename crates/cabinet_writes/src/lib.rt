@@ -1,5 +1,6 @@
 // The writes that run (document 02, wish 5): up to which state one goes, what refusal 28 says of them, and whether there is one.
 #![tactic(auto)]
+
 ghost use Rattle.std.specs.Prelude.{◌-◌, ◌≡◌, []};
 ghost use Rattle.base_laws.specs.Below.{all_below};
 ghost use Rattle.theory_protocol.specs.Valid.{write_valid};

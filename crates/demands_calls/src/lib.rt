@@ -1,5 +1,6 @@
 // Each call as the demands speak of it: the contract of the method is what the lists of calls take it to be.
 #![tactic(auto)]
+
 ghost use Rattle.std.specs.Prelude.{min, [], take as takes};
 ghost use Rattle.cabinet_layout.specs.Answers.{reply_of, open_reply_of, safe_reply_of};
 ghost use Rattle.cabinet_recovery.specs.Fix.{fix_reply_of};

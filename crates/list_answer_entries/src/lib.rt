@@ -1,5 +1,6 @@
 // How the line of a state is written: its change, and the entries of its vector.
 #![tactic(auto)]
+
 ghost use Rattle.std.specs.Prelude.{cond, []};
 ghost use Rattle.base_laws.specs.Below.{selected};
 ghost use Rattle.cabinet_layout.specs.Shape.{limits16, at, present_of};

@@ -1,5 +1,6 @@
 // How the answer of fix is written, out of the lists that were lent.
 #![tactic(auto)]
+
 ghost use Rattle.std.specs.Prelude.{◌≡◌, take};
 ghost use Rattle.cabinet_recovery.specs.Fix.{rows_of, fix_reply_of};
 ghost use Rattle.base_text.specs.Put.{Put};

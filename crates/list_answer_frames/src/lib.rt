@@ -1,5 +1,6 @@
 // How the answer to a look at a card's frames is written: what its states in hand hang on.
 #![tactic(auto)]
+
 ghost use Rattle.std.specs.Prelude.{suc, ◌+◌, ◌-◌, ◌≤◌, ◌<◌, ◌≡◌};
 ghost use Rattle.base_laws.specs.Below.{tabulate};
 ghost use Rattle.cabinet_layout.specs.Shape.{limits16, model_of};

@@ -1,5 +1,6 @@
 // How the first line of a look at the cabinet is written.
 #![tactic(auto)]
+
 ghost use Rattle.base_text.specs.Put.{Put};
 ghost use Rattle.list_answer_head.specs.First.{phase_name, head_text};
 

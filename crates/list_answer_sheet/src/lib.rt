@@ -1,5 +1,6 @@
 // How the answer of sheet writing is written, out of the bytes that were lent.
 #![tactic(auto)]
+
 ghost use Rattle.std.specs.Prelude.{[], ◌∷◌, ◌++◌, take};
 ghost use Rattle.cabinet_sheet.specs.Card.{sheet_reply_of};
 ghost use Rattle.base_text.specs.Put.{Put};

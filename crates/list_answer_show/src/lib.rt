@@ -1,5 +1,6 @@
 // How the answer to a look at the cabinet is written.
 #![tactic(auto)]
+
 ghost use Rattle.std.specs.Prelude.{cond, [], ltb};
 ghost use Rattle.base_text.specs.Put.{Put};
 ghost use Rattle.list_answer_show.specs.Show.{card_text, cards_text, show_text};

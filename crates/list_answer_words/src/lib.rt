@@ -1,5 +1,6 @@
 // How the answers are written that any line can have: lines of text into a lent buffer, cut off where the buffer ends.
 #![tactic(auto)]
+
 ghost use Rattle.base_text.specs.Put.{Put};
 ghost use Rattle.list_answer_words.specs.Words.{refused_text, none_text, unreadable_text};
 

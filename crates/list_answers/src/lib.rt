@@ -1,5 +1,6 @@
 // How the answers of calls are written: lines of text into a lent buffer, cut off where the buffer ends.
 #![tactic(auto)]
+
 ghost use Rattle.cabinet_layout.specs.Answers.{reply_of, open_reply_of, safe_reply_of};
 ghost use Rattle.base_text.specs.Put.{Put};
 ghost use Rattle.list_answers.specs.Texts.{reply_text};

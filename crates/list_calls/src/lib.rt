@@ -1,5 +1,6 @@
 // Calls on the present cabinet that name no set and lend nothing, each with its answer written.
 #![tactic(auto)]
+
 ghost use Rattle.theory_protocol.specs.Calls.{store_plan, begin_plan, end_plan, take_plan, vote_plan, withdraw_plan, safe_plan, trim_plan, roll_plan};
 ghost use Rattle.cabinet_layout.specs.Shape.{limits16};
 ghost use Rattle.cabinet.specs.View.{view};

@@ -1,5 +1,6 @@
 // Fix and sheet writing with lists that a line lends, each with its answer written.
 #![tactic(auto)]
+
 ghost use Rattle.std.specs.Prelude.{min, ◌≡◌, length};
 ghost use Rattle.theory_protocol.specs.Calls.{fix_plan};
 ghost use Rattle.theory_protocol.specs.Codec.{sheet_plan};

@@ -1,5 +1,6 @@
 // Restart, and looks at the present cabinet, each with its answer written.
 #![tactic(auto)]
+
 ghost use Rattle.cabinet_layout.specs.Shape.{limits16};
 ghost use Rattle.cabinet.specs.View.{view};
 ghost use Rattle.list_answer_show.specs.Show.{show_text};

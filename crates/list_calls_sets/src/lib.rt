@@ -1,5 +1,6 @@
 // Calls on the present cabinet that name sets of cards, each with its answer written.
 #![tactic(auto)]
+
 ghost use Rattle.base_refusal.specs.declared.Refusal.TheVariants.{NoSuchCard};
 ghost use Rattle.list_answer_words.specs.Words.{refused_text};
 ghost use Rattle.list_results.specs.Result.{OpenResult, LoseResult, Kept, Written, Continuing};

@@ -1,5 +1,6 @@
 // What a line of a list of calls can say, with the limits of its numbers.
 #![tactic(auto)]
+
 ghost use Rattle.std.specs.Prelude.{◌≡◌};
 ghost use Rattle.list_commands.specs.Calls.{as_fix, as_sheet, as_vote};
 

@@ -1,5 +1,6 @@
 // The lines of a list: a call on the present cabinet, a fresh one, or none of them, each with its answer written.
 #![tactic(auto)]
+
 ghost use Rattle.list_answer_words.specs.Words.{none_text, unreadable_text};
 ghost use Rattle.list_results.specs.Result.{Written};
 ghost use Rattle.list_results.specs.Step.{Steps, Stays, Freshened};

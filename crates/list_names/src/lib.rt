@@ -1,5 +1,6 @@
 // Which call a word and the numbers after it are.
 #![tactic(auto)]
+
 ghost use Rattle.std.specs.Prelude.{◌≡◌};
 ghost use Rattle.list_names.specs.Names.{parse_bare, parse_one, parse_two, parse_three, parse_with};
 

@@ -1,5 +1,6 @@
 // What the lines of a list of calls say, and where they begin.
 #![tactic(auto)]
+
 ghost use Rattle.std.specs.Prelude.{◌≡◌};
 ghost use Rattle.list_parse.specs.Lines.{parse_line, token_at};
 

@@ -1,5 +1,6 @@
 // What a line of a list leaves behind, and what there is before the first.
 #![tactic(auto)]
+
 ghost use Rattle.std.specs.Prelude.{◌≡◌};
 ghost use Rattle.list_results.specs.Going.{nothing_yet};
 

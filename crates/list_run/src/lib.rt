@@ -1,5 +1,6 @@
 // Lists of calls as text, over slices: text in, answers out.
 #![tactic(auto)]
+
 ghost use Rattle.list_results.specs.Going.{nothing_yet};
 ghost use Rattle.list_texts.specs.Steps.{Passed, Replayed, Counted};
 

@@ -1,5 +1,6 @@
 // A line of a list, done where its answer has room.
 #![tactic(auto)]
+
 ghost use Rattle.base_text.specs.declared.Progress.TheVariants.{Next};
 ghost use Rattle.list_parse.specs.Lines.{parse_line};
 ghost use Rattle.list_texts.specs.Executed.{Executed};

@@ -1,5 +1,6 @@
 // The answers of calls that are one line, each written whole or not at all: it is counted first, and written where the buffer has room for all of it.
 #![tactic(auto)]
+
 ghost use Rattle.cabinet_layout.specs.Answers.{reply_of, open_reply_of, safe_reply_of};
 ghost use Rattle.base_text.specs.Put.{Whole};
 ghost use Rattle.list_answers.specs.Texts.{reply_text};

@@ -1,5 +1,6 @@
 // The answers told out of lists, each written whole or not at all: it is counted first, and written where the buffer has room for all of it.
 #![tactic(auto)]
+
 ghost use Rattle.std.specs.Prelude.{take};
 ghost use Rattle.cabinet_layout.specs.Shape.{limits16, model_of};
 ghost use Rattle.cabinet_recovery.specs.Fix.{fix_reply_of};

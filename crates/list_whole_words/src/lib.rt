@@ -1,5 +1,6 @@
 // The answers that any line can have, each written whole or not at all: it is counted first, and written where the buffer has room for all of it.
 #![tactic(auto)]
+
 ghost use Rattle.base_text.specs.Put.{Whole};
 ghost use Rattle.list_answer_words.specs.Words.{refused_text, none_text, unreadable_text};
 

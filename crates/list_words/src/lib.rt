@@ -1,5 +1,6 @@
 // The numbers of a line, each after one space.
 #![tactic(auto)]
+
 ghost use Rattle.std.specs.Prelude.{◌≡◌};
 ghost use Rattle.list_words.specs.Line.{next_figure, after_three, after_two, after_one, figures_at};
 

@@ -1,5 +1,6 @@
 // Numbers in upper-case digits, read and written; the two sums of a line's check, and what stands where a line is due.
 #![tactic(auto)]
+
 ghost use Rattle.std.specs.Prelude.{◌≡◌, ◌+◌, ◌≤◌, ◌<◌, length, take, drop};
 ghost use Rattle.std.proofs.lemmas.List.Edits.{sets};
 ghost use Rattle.sheet_digits.specs.Digits.{is_digit, digit, digit_value, digits, number};

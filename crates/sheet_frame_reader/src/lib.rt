@@ -1,5 +1,6 @@
 // The reader of a sheet's frame line.
 #![tactic(auto)]
+
 ghost use Rattle.std.specs.Prelude.{◌≡◌, ◌+◌, ◌*◌, ◌-◌, ◌^◌, ◌≤◌, length, drop};
 ghost use Rattle.sheet_digits.specs.Line.{shape_of};
 ghost use Rattle.sheet_digits.specs.declared.Line.TheVariants.{Whole};

@@ -1,5 +1,6 @@
 // What refusal 9 lets pass: a frame after another.
 #![tactic(auto)]
+
 ghost use Rattle.std.specs.Prelude.{◌≡◌, ◌+◌, ◌-◌, ◌≤◌, min, not, ◌||◌, eqb, leb};
 ghost use Rattle.base_laws.specs.Below.{all_below};
 ghost use Rattle.sheet_lines.specs.Format.{format_of};

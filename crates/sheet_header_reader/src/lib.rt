@@ -1,5 +1,6 @@
 // The reader of a sheet's header line.
 #![tactic(auto)]
+
 ghost use Rattle.std.specs.Prelude.{◌≡◌, ◌+◌, ◌-◌, ◌≤◌, length, take, drop, eqb, ◌||◌};
 ghost use Rattle.sheet_digits.specs.Digits.{number};
 ghost use Rattle.sheet_digits.specs.Line.{shape_of};

@@ -1,5 +1,6 @@
 // The shape of a line and the check over it: judged, and written at a line's end.
 #![tactic(auto)]
+
 ghost use Rattle.std.specs.Prelude.{◌≡◌, ◌+◌, ◌≤◌, [], ◌∷◌, ◌++◌, length, take, drop};
 ghost use Rattle.std.proofs.lemmas.List.Edits.{sets};
 ghost use Rattle.sheet_digits.specs.Digits.{all_digits, digits};

@@ -1,5 +1,6 @@
 // The header line and the frame line of a card's sheet: what they hold, and what their readers answer.
 #![tactic(auto)]
+
 ghost use Rattle.std.specs.Prelude.{◌≡◌};
 ghost use Rattle.sheet_lines.specs.Format.{format, format_of, Fits, plain, formats};
 ghost use Rattle.sheet_lines.specs.Lines.{header_reply, frame_reply};

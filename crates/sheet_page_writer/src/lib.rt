@@ -1,5 +1,6 @@
 // The sheet that a ring of frames holds for a header, written as bytes.
 #![tactic(auto)]
+
 ghost use Rattle.std.specs.Prelude.{◌≡◌, ◌+◌, ◌*◌, ◌≤◌, ◌<◌, true, length};
 ghost use Rattle.std.proofs.lemmas.List.Edits.{sets};
 ghost use Rattle.sheet_lines.specs.Format.{formats, format_of, Fits};

@@ -1,5 +1,6 @@
 // A read-out by value, and what a refusal hands back.
 #![tactic(auto)]
+
 ghost use Rattle.std.specs.Prelude.{◌≡◌, [], drop};
 ghost use Rattle.sheet_pages.specs.Pages.{ended};
 ghost use Rattle.base_refusal.specs.declared.Reply.{Reply};

@@ -1,5 +1,6 @@
 // The reader of one sheet, told its card.
 #![tactic(auto)]
+
 ghost use Rattle.std.specs.Prelude.{◌≡◌};
 ghost use Rattle.sheet_reader.specs.Single.{sheet_read_of};
 

@@ -1,5 +1,6 @@
 // The reader of a joined read-out: its lines, and then the sheets beside each other.
 #![tactic(auto)]
+
 ghost use Rattle.std.specs.Prelude.{◌≡◌, ◌≤◌};
 ghost use Rattle.sheet_pages.specs.Ring.{pages_of};
 ghost use Rattle.sheet_vectors.specs.Heads.{Orderly, lists_read};

@@ -1,5 +1,6 @@
 // The sessions of a read-out's sheets: the lowest, and refusal 11.
 #![tactic(auto)]
+
 ghost use Rattle.std.specs.Prelude.{◌≡◌, ◌+◌, min, ◌&&◌, ◌||◌, get_or, ltb};
 ghost use Rattle.sheet_sessions.specs.Sessions.{lowest_to, apart};
 

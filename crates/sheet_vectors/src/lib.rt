@@ -1,5 +1,6 @@
 // Refusal 10: whether one change has two vectors on two sheets of a read-out.
 #![tactic(auto)]
+
 ghost use Rattle.std.specs.Prelude.{◌≡◌, ℕ, ◌+◌, ◌≤◌, ◌<◌, not, ◌&&◌, [], eqb};
 ghost use Rattle.base_laws.specs.Below.{any_below};
 ghost use Rattle.base_merge.specs.Merge.{at, head_place};

@@ -1,5 +1,6 @@
 // The walk over the lines of sheets, into a read-out by value.
 #![tactic(auto)]
+
 ghost use Rattle.std.specs.Prelude.{◌≡◌, cond, eqb};
 ghost use Rattle.sheet_pages.specs.Walk.{reading_of};
 

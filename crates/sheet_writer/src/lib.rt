@@ -1,5 +1,6 @@
 // The writer of one sheet, which a ring of frames holds for a header: that of a read-out, lent.
 #![tactic(auto)]
+
 ghost use Rattle.std.specs.Prelude.{◌≡◌, ◌+◌, true};
 ghost use Rattle.sheet_lines.specs.Format.{format_of, Fits};
 ghost use Rattle.sheet_lines.specs.Lines.{cards_of, header_allowed, no_frame};

@@ -35,8 +35,7 @@ returns-then-v-gt4294967295 c =
     c.if-v-gt4294967295.true
 
 pub loop-i-preserved : goal.loop-i-preserved
-loop-i-preserved c =
-    (
+loop-i-preserved c = (
   read_more c.loop-i.invariant.0 c.loop-i-test.true
       (sym c.is_digit.ensures ∙ c.if-not-is_digit.false),
   c.if-v-gt4294967295.false,

@@ -14,8 +14,7 @@ pub overflow_add-at : goal.overflow_add-at
 overflow_add-at c = omega (arith, c.length_told-n.ensures, c.sheet-a.ensures.told.inside, c.buffer-1.given)
 
 pub loop-card-preserved : goal.loop-card-preserved
-loop-card-preserved c =
-    (
+loop-card-preserved c = (
   joined_more c.requires.0 (search rules) c.loop-card.invariant.0 c.sheet-a.ensures c.sheet-arg-1.given.2 c.length_told-n.result _ c.length_told-n.ensures (same_len_mid c.loop-card.at (length c.loop-card.buffer - c.loop-card.at) c.loop-card.buffer c.sheet-a.new.buffer (search rules)),
   search rules,
 )

@@ -1,4 +1,3 @@
-
 use Rattle.cabinet_safety.proofs.graded.Goals as goal
 
 pub returns-then-good : goal.returns-then-good

@@ -1,4 +1,3 @@
-
 use Rattle.cabinet_safety.proofs.there_above.Goals as goal
 
 pub frame_above-requires : goal.frame_above-requires

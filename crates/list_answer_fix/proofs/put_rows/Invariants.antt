@@ -13,7 +13,7 @@ use Rattle.list_answer_fix.proofs.Spaced.{rows_more}
 use borrow.Author.Rules.{rules}
 use Rattle.list_answer_fix.proofs.put_rows.Given as goal
 
-pub abbrev row : (stored line : List ℕ) → ℕ → CardRow
+abbrev pub row : (stored line : List ℕ) → ℕ → CardRow
 row stored line i = record { card = i; stored = at stored i; line = at line i }
 
 abbrev pub invariant-loop-c : goal.invariant-loop-c

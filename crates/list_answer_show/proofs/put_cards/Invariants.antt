@@ -14,7 +14,7 @@ use Rattle.list_answer_show.specs.Show.{card_text}
 use borrow.Author.Rules.{rules}
 use Rattle.list_answer_show.proofs.put_cards.Given as goal
 
-pub abbrev row : (base stored kept reached writing : List ℕ) → ℕ → List ℕ
+abbrev pub row : (base stored kept reached writing : List ℕ) → ℕ → List ℕ
 row base stored kept reached writing i = card_text i (at base i ∷ at stored i ∷ at kept i ∷ at reached i ∷ []) (at writing i)
 
 abbrev pub invariant-loop-c : goal.invariant-loop-c

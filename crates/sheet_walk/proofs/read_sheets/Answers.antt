@@ -165,16 +165,16 @@ pub returns-in-Refused : goal.returns-in-Refused
 returns-in-Refused c =
     let up : ◌≡◌ {A = Reading} (record { readout = c.if-left-eq0.r; verdict = c.if-left-eq0.verdict }) (read_up_to formats c.args.all c.args.card c.args.s.now) =
     elim c.if-left-eq0.branch [
-    then-left-eq0 w ↦ read_as w.r-is w.verdict-is (outer_end c.sheets.invariant w.if-left-eq0.true w.end_at-verdict.ensures)
-    | else-left-eq0+in_default w ↦
-    let is : w.header_at-line.result ≡ Fault w.in_default.field-0 = w.in_default.is in
-    let e = header_fault_is _ _ w.in_default.field-0 (sym w.header_at-line.ensures ∙ is) in
-    read_as w.r-is w.verdict-is (rw (w.header_reply-verdict.ensures, is) (outer_fault c.sheets.invariant (lift_pos _ w.if-left-eq0.false) (w.layout_of-f.ensures.format ∙ ap formats w.told_at.ensures) e))
-    | else-left-eq0+in-Read+then-loop-k-test+in_default-told w ↦
-    let fr = rw w.start_of-start.ensures at w.frame_at-read.ensures in
-    let is : w.frame_at-read.result.line ≡ frame-fault w.in_default-told.field-0 = w.in_default-told.is in
-    let e = frame_fault_is _ _ w.in_default-told.field-0 (sym (ap (λ (y : FrameRead). y.line) fr) ∙ is) in
-    read_as w.r-is w.verdict-is (rw (w.frame_reply-verdict.ensures, is) (inner_fault w.loop-k.invariant w.loop-k-test.true e))
+      | then-left-eq0 w ↦ read_as w.r-is w.verdict-is (outer_end c.sheets.invariant w.if-left-eq0.true w.end_at-verdict.ensures)
+      | else-left-eq0+in_default w ↦
+          let is : w.header_at-line.result ≡ Fault w.in_default.field-0 = w.in_default.is in
+          let e = header_fault_is _ _ w.in_default.field-0 (sym w.header_at-line.ensures ∙ is) in
+          read_as w.r-is w.verdict-is (rw (w.header_reply-verdict.ensures, is) (outer_fault c.sheets.invariant (lift_pos _ w.if-left-eq0.false) (w.layout_of-f.ensures.format ∙ ap formats w.told_at.ensures) e))
+      | else-left-eq0+in-Read+then-loop-k-test+in_default-told w ↦
+          let fr = rw w.start_of-start.ensures at w.frame_at-read.ensures in
+          let is : w.frame_at-read.result.line ≡ frame-fault w.in_default-told.field-0 = w.in_default-told.is in
+          let e = frame_fault_is _ _ w.in_default-told.field-0 (sym (ap (λ (y : FrameRead). y.line) fr) ∙ is) in
+          read_as w.r-is w.verdict-is (rw (w.frame_reply-verdict.ensures, is) (inner_fault w.loop-k.invariant w.loop-k-test.true e))
     ] in
     wiped formats c.args.all c.args.card c.args.s.now up c.in-Refused.is c.nothing_read.ensures
 
@@ -182,15 +182,15 @@ pub returns : goal.returns
 returns c =
     let up : ◌≡◌ {A = Reading} (record { readout = c.if-left-eq0.r; verdict = c.if-left-eq0.verdict }) (read_up_to formats c.args.all c.args.card c.args.s.now) =
     elim c.if-left-eq0.branch [
-    then-left-eq0 w ↦ read_as w.r-is w.verdict-is (outer_end c.sheets.invariant w.if-left-eq0.true w.end_at-verdict.ensures)
-    | else-left-eq0+in_default w ↦
-    let is : w.header_at-line.result ≡ Fault w.in_default.field-0 = w.in_default.is in
-    let e = header_fault_is _ _ w.in_default.field-0 (sym w.header_at-line.ensures ∙ is) in
-    read_as w.r-is w.verdict-is (rw (w.header_reply-verdict.ensures, is) (outer_fault c.sheets.invariant (lift_pos _ w.if-left-eq0.false) (w.layout_of-f.ensures.format ∙ ap formats w.told_at.ensures) e))
-    | else-left-eq0+in-Read+then-loop-k-test+in_default-told w ↦
-    let fr = rw w.start_of-start.ensures at w.frame_at-read.ensures in
-    let is : w.frame_at-read.result.line ≡ frame-fault w.in_default-told.field-0 = w.in_default-told.is in
-    let e = frame_fault_is _ _ w.in_default-told.field-0 (sym (ap (λ (y : FrameRead). y.line) fr) ∙ is) in
-    read_as w.r-is w.verdict-is (rw (w.frame_reply-verdict.ensures, is) (inner_fault w.loop-k.invariant w.loop-k-test.true e))
+      | then-left-eq0 w ↦ read_as w.r-is w.verdict-is (outer_end c.sheets.invariant w.if-left-eq0.true w.end_at-verdict.ensures)
+      | else-left-eq0+in_default w ↦
+          let is : w.header_at-line.result ≡ Fault w.in_default.field-0 = w.in_default.is in
+          let e = header_fault_is _ _ w.in_default.field-0 (sym w.header_at-line.ensures ∙ is) in
+          read_as w.r-is w.verdict-is (rw (w.header_reply-verdict.ensures, is) (outer_fault c.sheets.invariant (lift_pos _ w.if-left-eq0.false) (w.layout_of-f.ensures.format ∙ ap formats w.told_at.ensures) e))
+      | else-left-eq0+in-Read+then-loop-k-test+in_default-told w ↦
+          let fr = rw w.start_of-start.ensures at w.frame_at-read.ensures in
+          let is : w.frame_at-read.result.line ≡ frame-fault w.in_default-told.field-0 = w.in_default-told.is in
+          let e = frame_fault_is _ _ w.in_default-told.field-0 (sym (ap (λ (y : FrameRead). y.line) fr) ∙ is) in
+          read_as w.r-is w.verdict-is (rw (w.frame_reply-verdict.ensures, is) (inner_fault w.loop-k.invariant w.loop-k-test.true e))
     ] in
     kept formats c.args.all c.args.card c.args.s.now up c.in-Done.is
