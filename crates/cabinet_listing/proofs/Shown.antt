@@ -11,6 +11,7 @@ use Rattle.base_laws.specs.Below.{any_below}
 use Rattle.base_laws.proofs.Logic.{test, and_intro, cond_true, cond_case}
 use Rattle.base_laws.proofs.Below.{any_same}
 use Rattle.theory_history.specs.Change.{Numbers}
+use Rattle.theory_history.specs.Line.{orphan}
 use Rattle.theory_history.proofs.Climb.{climbed}
 use Rattle.theory_protocol.specs.Model.{Model, is_card}
 use Rattle.theory_protocol.specs.Calls.{lines, recovery_line, is_lost, frame_above, some_frame_above}
@@ -53,7 +54,7 @@ module _ (entries changes : List ℕ) (core : Core) where
 
   -- ---- the line is at or above base
   base_line : (c : ℕ) → at core.base c ≤ recovery_line limits16 found c
-  base_line c = (climbed _ (at core.base c) (at core.reached c - at core.base c)).from_base
+  base_line c = (climbed (λ (x : ℕ). orphan limits16.width found.numbers.stored (found.memory.frame c x)) (at core.base c) (at core.reached c - at core.base c)).from_base
 
   pub line_at : (c : ℕ) → c < 16 → ltb c core.head.cards ≡ true → at found_line c ≡ recovery_line limits16 found c
   line_at c l t =
