@@ -13,7 +13,7 @@ import sys
 
 TOKEN = re.compile(r"`([^`]+)`")
 PATH = re.compile(r"^[a-z_0-9]+/[A-Za-z_0-9/.]+$")
-NAME = re.compile(r"^[A-Za-z][A-Za-z0-9_:·′-]*$")
+NAME = re.compile(r"^[A-Za-z][A-Za-z0-9_:'-]*$")
 # words of the language and of the text of lists, not names of a file
 PLAIN = {"requires", "ensures", "none"}
 missing = 0
@@ -34,7 +34,7 @@ def words(path):
 
 def stands(name, text):
     last = name.split("::")[-1]
-    return re.search(r"(?<![\w-])" + re.escape(last) + r"(?![\w-])", text) is not None
+    return re.search(r"(?<![\w'-])" + re.escape(last) + r"(?![\w'-])", text) is not None
 
 
 def is_path(t):

@@ -41,7 +41,7 @@ def parse(path):
     defs, names, aliases, order = {}, {}, {}, []
     comment, current = [], None
     for line in open(path, encoding="utf-8").read().split("\n"):
-        m = re.match(r"^(?:unfoldable )?(?:pub )?use Rattle·(\w+?)(?:·specs)?\.specs\.(declared\.)?([\w.-]+?)(?:\.\{(.*)\}| as ([\w-]+))?$", line)
+        m = re.match(r"^(?:unfoldable )?(?:pub )?use Rattle\.(\w+)\.specs\.(declared\.)?([\w.-]+?)(?:\.\{(.*)\}| as ([\w-]+))?$", line)
         if m:
             crate, declared, module, group, alias = m.groups()
             module = (declared or "") + module
@@ -97,7 +97,7 @@ done, declared = set(), set()
 
 def visit(crate, module, name, by=None):
     if module.startswith("declared"):
-        declared.add((crate, module.split(".")[-1] if "the-variants" not in module else module.split(".")[-2]))
+        declared.add((crate, module.split(".")[-1] if "TheVariants" not in module else module.split(".")[-2]))
         return
     key = (crate, module)
     if key not in FILES:
@@ -114,7 +114,7 @@ def visit(crate, module, name, by=None):
         return
     done.add((crate, module, name))
     text = defs[name][1]
-    for m in re.finditer(r"([\w-]+)\.([\w′-]+)", text):
+    for m in re.finditer(r"([\w-]+)\.([\w'-]+)", text):
         if m.group(1) in aliases:
             visit(*aliases[m.group(1)], m.group(2), key)
     for t in TOKEN.findall(text):

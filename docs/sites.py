@@ -13,7 +13,7 @@ import re
 import sys
 
 tree = sys.argv[1] if len(sys.argv) > 1 else "."
-files = sorted(f for f in glob.glob(os.path.join(tree, "crates/**/*"), recursive=True) if f.endswith((".rt", ".antt")))
+files = sorted(f for d in ("src", "specs", "proofs") for f in glob.glob(os.path.join(tree, "crates/*", d, "**/*"), recursive=True) if f.endswith((".rt", ".antt")))
 texts = {f: re.sub(r"(--|//)[^\n]*", lambda m: " " * len(m.group(0)), open(f, encoding="utf-8").read()) for f in files}
 
 
@@ -34,7 +34,7 @@ def braces(text, at):
 def fields(body, sign, ends):
     """The names that stand before `sign` at the top of a body whose fields end with one of `ends`."""
     names, depth, start = set(), 0, True
-    for m in re.finditer(r"[(\[{]|[)\]}]|[" + ends + r"]|(?:pub\s+)?([\w·′'-]+)\s*" + sign + r"(?![=:])", body):
+    for m in re.finditer(r"[(\[{]|[)\]}]|[" + ends + r"]|(?:pub\s+)?([\w'-]+)\s*" + sign + r"(?![=:])", body):
         if m.group(0) in "([{":
             depth += 1
         elif m.group(0) in ")]}":
@@ -79,12 +79,12 @@ def positional(wanted):
     for f, t in texts.items():
         if not f.endswith(".antt"):
             continue
-        for m in re.finditer(r"^(?:abbrev |unfoldable )?(?:pub )?([\w·-]+) : ([^\n]*)$", t, re.M):
-            groups = re.findall(r"\(([\w ·′'-]+) :", m.group(2))
+        for m in re.finditer(r"^(?:abbrev |unfoldable )?(?:pub )?([\w'-]+) : ([^\n]*)$", t, re.M):
+            groups = re.findall(r"\(([\w '-]+) :", m.group(2))
             if len(wanted & {n for g in groups for n in g.split()}) < 6 or re.match(r"(Core|Model) →", m.group(2)):
                 continue
             for g, u in texts.items():
-                for use in re.finditer(r"(?<![\w·.-])" + re.escape(m.group(1)) + r"(?![\w·-])", u):
+                for use in re.finditer(r"(?<![\w'.-])" + re.escape(m.group(1)) + r"(?![\w'-])", u):
                     row = u[u.rfind("\n", 0, use.start()) + 1 : use.start()]
                     if not re.match(r"\s*(ghost )?use ", row) and not re.match(r"(abbrev |unfoldable )?(pub )?$", row):
                         yield g, line(u, use.start())
