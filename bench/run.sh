@@ -7,17 +7,19 @@ set -e
 cd "$(dirname "$0")/.."
 out=target/bench
 mkdir -p $out
-rt staticlib bench_calls > $out/staticlib.log 2>&1
-rt check replay line > $out/check.log 2>&1
+(cd crates/bench_calls && rt lib) > $out/lib.log 2>&1
+for program in replay line; do
+    (cd crates/$program && rt run < /dev/null) > $out/$program.log 2>&1
+done
 cargo build --release --offline -j1 --manifest-path bench/port/Cargo.toml --target-dir $out/port 2> $out/port.log
 cargo build --release --offline -j1 --manifest-path second/Cargo.toml --target-dir $out/second 2> $out/second.log
 rustc -C opt-level=3 --edition 2021 -o $out/run bench/run.rs \
-    --extern port=$out/port/release/libport.rlib -L target/staticlib -l static=bench_calls
+    --extern port=$out/port/release/libport.rlib -L crates/bench_calls/out -l static=bench_calls
 
 # The port gives the engine's answers: random lists and read-outs, both programs.
 echo "port and engine over random lists and read-outs:"
-$out/second/release/compare lists target/bin/replay $out/port/release/replay 1 300
-$out/second/release/compare readouts target/bin/line $out/port/release/line 1 300
+$out/second/release/compare lists crates/replay/out/replay $out/port/release/replay 1 300
+$out/second/release/compare readouts crates/line/out/line $out/port/release/line 1 300
 
 # The instructions of each measured function, with all that it calls.
 counts() { # CARDS STATES KIND
@@ -36,10 +38,10 @@ whole() { # INPUT PROGRAM
 
 $out/second/release/generate lists 1 5 > $out/list
 $out/second/release/generate largest > $out/largest
-for program in target/bin/replay $out/port/release/replay; do
+for program in crates/replay/out/replay $out/port/release/replay; do
     echo "replay $(wc -l < $out/list) $(whole $out/list $program)"
 done > $out/whole
-for program in target/bin/line $out/port/release/line; do
+for program in crates/line/out/line $out/port/release/line; do
     echo "line $(wc -c < $out/largest) $(whole $out/largest $program)"
 done >> $out/whole
 python3 bench/tables.py $out

@@ -3,10 +3,12 @@
 # Run from any folder: sh bindings/stack.sh
 set -e
 cd "$(dirname "$0")/.."
-rt staticlib list_run > /dev/null 2>&1
-rt check replay line > /dev/null 2>&1
+(cd crates/list_run && rt lib) > /dev/null 2>&1
+for program in replay line; do
+    (cd crates/$program && rt run < /dev/null) > /dev/null 2>&1
+done
 mkdir -p target/bindings
-cc -O2 -Wall -o target/bindings/stack bindings/stack.c -L target/staticlib -llist_run
+cc -O2 -Wall -o target/bindings/stack bindings/stack.c -L crates/list_run/out -llist_run
 
 least() { # NAME PROGRAM INPUT
     "$2" < "$3" > target/bindings/due
@@ -20,5 +22,5 @@ least() { # NAME PROGRAM INPUT
 }
 
 least yerwaqis_replay target/bindings/stack crates/replay/stdin
-least replay target/bin/replay crates/replay/stdin
-least line target/bin/line crates/line/stdin
+least replay crates/replay/out/replay crates/replay/stdin
+least line crates/line/out/line crates/line/stdin

@@ -3,7 +3,10 @@
 # What differs is shrunk and printed. Run from any folder: sh second/compare.sh [SEED [COUNT]]
 set -e
 cd "$(dirname "$0")/.."
-rt check replay line
+# rt run proves and builds a program; here it is given nothing to answer
+for program in replay line; do
+    (cd crates/$program && rt run < /dev/null > /dev/null)
+done
 (cd second && cargo build --release --offline -j1)
-second/target/release/compare lists own target/bin/replay "${1:-1}" "${2:-1000}"
-second/target/release/compare readouts own target/bin/line "${1:-1}" "${2:-1000}"
+second/target/release/compare lists own crates/replay/out/replay "${1:-1}" "${2:-1000}"
+second/target/release/compare readouts own crates/line/out/line "${1:-1}" "${2:-1000}"
