@@ -18,6 +18,6 @@ returns c =
     let known : c.some_above-known.result ≡ some_frame_above limits16 m a.k (at a.core.base) =
     framed_base a.entries.now a.changes.now a.core a.k _ c.some_above-known.ensures in
     by_checks (safe_checks limits16 m a.k) a.valid (is_safe limits16 m a.k) _ c.next-r-2.result _
-    (not-false a.valid c.if-not-valid.false)
+    c.if-not-valid.false
     (rw (c.next-r-2.ensures, c.next-r.ensures, c.is_up-up.ensures, known))
     c.would_stay-stays.ensures c.answered.ensures
