@@ -17,4 +17,4 @@ returns c =
     let a : _ = c.args in
     let s : _ = a.self in
     let k : _ = suc s.core.head.latest in
-    swapped s (open_checks limits16 (alone s.core) (member a.reads) (member a.writes)) (opened k) (place (free_at limits16 (alone s.core)) (opened_change k (member a.reads) (member a.writes)) ∷ latest k ∷ []) _ _ _ c.cabinet_valid-valid.ensures refl refl c.«open».ensures
+    swapped s (open_checks limits16 (alone s.core) (member a.reads) (member a.writes)) (opened k) (place (free_at limits16 (alone s.core)) (opened_change k (member a.reads) (member a.writes)) ∷ latest k ∷ []) _ _ _ c.cabinet_valid-valid.ensures refl refl c.open-out.ensures
