@@ -9,7 +9,7 @@ use lib.Dec.{leb}
 use lib.ListN.{length}
 use Rattle.base_laws.proofs.Logic.{cond_case}
 use Rattle.base_refusal.specs.declared.Refusal.{Refusal}
-use Rattle.base_refusal.specs.Number.{row_of}
+use Rattle.base_refusal.proofs.Rows.{row_of}
 use Rattle.base_refusal.specs.declared.Refusal.TheVariants.{CardCount}
 use Rattle.base_refusal.specs.declared.Reply as refusal
 use Rattle.base_refusal.specs.declared.Reply.TheVariants.{Done, Refused}

@@ -12,7 +12,7 @@ use lib.ListN.{length}
 use lib.Seq.{sets}
 use Rattle.base_laws.proofs.Logic.{test}
 use Rattle.base_refusal.specs.declared.Refusal.{Refusal}
-use Rattle.base_refusal.specs.Number.{row_of}
+use Rattle.base_refusal.proofs.Rows.{row_of}
 use Rattle.base_refusal.specs.declared.Refusal.TheVariants.{CardCount, NoSuchCard}
 use Rattle.base_bits.specs.Member.{member}
 use Rattle.theory_protocol.specs.Plan.{done, Plan, accepted, refused, ◌⇒◌}

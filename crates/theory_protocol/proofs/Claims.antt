@@ -12,7 +12,8 @@ use Rattle.base_laws.proofs.Logic.{clash, and_left, and_right, and_intro, or_lef
 use Rattle.base_laws.proofs.Below.{Found, any_elim, first_before, first_below_lem, first_some}
 use Rattle.base_refusal.specs.declared.Refusal.{Refusal}
 use Rattle.base_refusal.specs.declared.Refusal.TheVariants.{NoSuchCard, BothSetsEmpty, WrongPhase, Barred, NoSlot, InHandFull, LimitReached, BadCabinet}
-use Rattle.base_refusal.specs.Number.{row_of, number_of}
+use Rattle.base_refusal.specs.Number.{number_of}
+use Rattle.base_refusal.proofs.Rows.{row_of}
 use Rattle.theory_history.specs.Change.{CardSet, touches}
 use Rattle.theory_protocol.specs.Codec.{Codec}
 use Rattle.theory_protocol.specs.Model.{Limits, OpenChange, Model, strays, is_open}
