@@ -11,4 +11,4 @@ pub returns-then-writes-gt-LAST_SET : goal.returns-then-writes-gt-LAST_SET
 returns-then-writes-gt-LAST_SET c = onward_as (λ t k. writes_beyond (search rules) k) c.no_such_card-then-writes-gt-LAST_SET.ensures
 
 pub returns : goal.returns
-returns c = onward _ (told_as (λ t k. open_within (search rules) (search rules) k) (by_plan c.«open».ensures c.put_open-written.ensures))
+returns c = onward _ (told_as (λ t k. open_within (search rules) (search rules) k) (by_plan c.open-a.ensures c.put_open-written.ensures))

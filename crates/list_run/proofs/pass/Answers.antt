@@ -21,4 +21,4 @@ pub loop-w-smaller : goal.loop-w-smaller
 loop-w-smaller c = let h = token_forward c.args.text.now c.loop-w.at (sym c.in-Line.is ∙ c.line_at-token.ensures) in omega (arith, h.0, h.1)
 
 pub loop-w-preserved : goal.loop-w-preserved
-loop-w-preserved c = going_more c.loop-w.invariant c.line_at-token.ensures c.in-Line.is c.«done».ensures
+loop-w-preserved c = going_more c.loop-w.invariant c.line_at-token.ensures c.in-Line.is c.done-s.ensures
