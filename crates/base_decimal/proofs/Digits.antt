@@ -1,4 +1,5 @@
 -- Laws of a number's digits: how they go on, how many they are, what they stand for, and how they are stored. Assumes nothing.
+use Rattle.std.specs.Prelude.{Some, None}
 use Prim.Native.Nat.{ℕ, zero, suc, ◌+◌, ◌-◌, ◌*◌, ◌/◌, ◌%◌, ◌^◌, ◌≤◌, ◌<◌}
 use mathlib.Core.Path.{◌≡◌, refl, sym, ◌∙◌, ap}
 use mathlib.Core.Bool.{Bool, true, cond}
@@ -11,7 +12,6 @@ use lib.ListN.{length, set, get_or, length-append, length-set, get_or-append}
 use lib.Seq.{sets, set_comm}
 use borrow.Author.Tests.{lt-ltb, le-ltb, ltb-true, ltb-false, le-leb, lt-leb}
 use Rattle.base_laws.proofs.Logic.{test, and_left, and_right, and_intro}
-use Rattle.base_decimal.specs.declared.Writing.TheVariants.{Next, TooShort}
 use Rattle.base_decimal.specs.Answers.{Wrote}
 use Rattle.base_reading.specs.Digits.{is_digit, digits_only, value_from, value}
 use Rattle.base_decimal.specs.Digits.{digit, digits_in, decimal, lowest}
@@ -177,13 +177,13 @@ stored_all {at = at} {b = b} {left = left} {i = i} r h = sym (ap (λ (k : ℕ). 
 
 -- ---- the answers of the writer
 
-pub wrote_nothing : (b : List ℕ) (at n : ℕ) → length b < at + length (decimal n) → Wrote b at n TooShort b
+pub wrote_nothing : (b : List ℕ) (at n : ℕ) → length b < at + length (decimal n) → Wrote b at n None b
 wrote_nothing b at n h = record { answer = rw (lt-leb (at + length (decimal n)) (length b) h); buffer = rw (lt-leb (at + length (decimal n)) (length b) h) }
 
-pub wrote_all : (b e : List ℕ) (at n count : ℕ) → count ≡ length (decimal n) → at + count ≤ length b → e ≡ sets b at (lowest count n) → Wrote b at n (Next (at + count)) e
+pub wrote_all : (b e : List ℕ) (at n count : ℕ) → count ≡ length (decimal n) → at + count ≤ length b → e ≡ sets b at (lowest count n) → Wrote b at n (Some (at + count)) e
 wrote_all b e at n count q h z =
     record {
-      answer = rw (le-leb (at + length (decimal n)) (length b) fit) (ap (λ (k : ℕ). Next (at + k)) q);
+      answer = rw (le-leb (at + length (decimal n)) (length b) fit) (ap (λ (k : ℕ). Some (at + k)) q);
       buffer = rw (le-leb (at + length (decimal n)) (length b) fit) (z ∙ ap (λ (k : ℕ). sets b at (lowest k n)) q ∙ ap (sets b at) (decimal_lowest n));
     }
   where

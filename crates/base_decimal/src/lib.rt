@@ -6,13 +6,6 @@ ghost use Rattle.std.proofs.lemmas.List.Edits.{sets};
 ghost use Rattle.base_decimal.specs.Digits.{decimal, lowest};
 ghost use Rattle.base_decimal.specs.Answers.{Wrote};
 
-// What comes of writing: the place after the last digit, or that the buffer is too short for the number, and then nothing is written.
-#[derive(Clone, Copy)]
-pub enum Writing {
-    Next(usize),
-    TooShort,
-}
-
 // How many digits the number has.
 pub fn width(n: u32) -> usize
     ensures { result ≡ length (decimal n) }
@@ -32,25 +25,23 @@ fn fill(b: &mut [u8], at: usize, count: usize, n: u32)
     ensures { b.new ≡ sets b.old at (lowest count n) }
 {
     let mut left = n;
-    let mut i = at + count;
-    while at < i {
-        i -= 1;
+    for i in (at..at + count).rev() {
         b[i] = 48 + (left % 10) as u8;
         left = left / 10;
     }
 }
 
 // Writes the number from the place `at` on.
-pub fn write(b: &mut [u8], at: usize, n: u32) -> Writing
+pub fn write(b: &mut [u8], at: usize, n: u32) -> Option<usize>
     ensures { Wrote b.old at n result b.new }
 {
     let count = width(n);
     if b.len() < at {
-        return Writing::TooShort;
+        return None;
     }
     if b.len() - at < count {
-        return Writing::TooShort;
+        return None;
     }
     fill(b, at, count, n);
-    Writing::Next(at + count)
+    Some(at + count)
 }

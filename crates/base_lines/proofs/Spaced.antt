@@ -1,4 +1,5 @@
 -- Laws of lines: how they go on. Assumes nothing.
+use Rattle.std.specs.Prelude.{Option}
 use Prim.Native.Nat.{ℕ, ◌+◌, ◌-◌, ◌≤◌, ◌<◌}
 use mathlib.Core.Path.{◌≡◌, refl, sym, ◌∙◌, ap}
 use mathlib.Core.Bool.{Bool, true, false, cond}
@@ -10,7 +11,6 @@ use lib.Seq.{sets, length-sets, take-suc}
 use borrow.Author.Tests.{le-leb}
 use Rattle.base_laws.specs.Below.{tabulate, selected}
 use Rattle.base_laws.proofs.Seq.{sets_part}
-use Rattle.base_decimal.specs.declared.Writing.{Writing}
 use Rattle.base_decimal.specs.Digits.{decimal}
 use Rattle.base_decimal.specs.Answers.{Wrote, fits}
 use Rattle.base_decimal.proofs.Digits.{decimal_short}
@@ -23,7 +23,7 @@ pub ten_digits : (n : ℕ) → n ≤ 4294967295 → length (decimal n) ≤ 10
 ten_digits n h = decimal_short 9 n (omega arith)
 
 -- written at the front of ten bytes they stand there
-pub digits_written : (n count : ℕ) (b d : List ℕ) (r : Writing) → n ≤ 4294967295 → length b ≡ 10 → count ≡ length (decimal n) → Wrote b 0 n r d → take (count - 0) (drop 0 d) ≡ decimal n
+pub digits_written : (n count : ℕ) (b d : List ℕ) (r : (Option ℕ)) → n ≤ 4294967295 → length b ≡ 10 → count ≡ length (decimal n) → Wrote b 0 n r d → take (count - 0) (drop 0 d) ≡ decimal n
 digits_written n count b d r h ten q w =
     ap (λ (k : ℕ). take k d) count_is
     ∙ ap (take (length (decimal n))) (w.buffer ∙ ap (λ (x : Bool). cond x (sets b 0 (decimal n)) b) (le-leb (0 + length (decimal n)) (length b) fit))
@@ -35,7 +35,7 @@ digits_written n count b d r h ten q w =
     fit : 0 + length (decimal n) ≤ length b
     fit = omega (arith, ten_digits n h)
 
-pub wrote_length : {b : List ℕ} {at n : ℕ} {r : Writing} {d : List ℕ} → Wrote b at n r d → length d ≡ length b
+pub wrote_length : {b : List ℕ} {at n : ℕ} {r : (Option ℕ)} {d : List ℕ} → Wrote b at n r d → length d ≡ length b
 wrote_length {b} {at} {n} w = ap length w.buffer ∙ same (fits (length b) at n)
   where
     same : (x : Bool) → length (cond x (sets b at (decimal n)) b) ≡ length b

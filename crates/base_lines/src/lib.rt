@@ -23,11 +23,9 @@ pub fn put_numbers(b: &mut [u8], w: Progress, numbers: &[u32]) -> Progress
     ensures { Put b.old w (spaced numbers.now) result b.new }
 {
     let mut at = w;
-    let mut i = 0;
-    while i < numbers.len() {
+    for n in numbers {
         at = base_text::put(b, at, b" ");
-        at = put_number(b, at, numbers[i]);
-        i += 1;
+        at = put_number(b, at, *n);
     }
     at
 }

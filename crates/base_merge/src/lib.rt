@@ -46,11 +46,9 @@ pub fn heads(
     ensures { result ≡ head_numbers changes.now passed ends }
 {
     let mut out = [0u32; Limits::CARDS];
-    let mut c: usize = 0;
-    while c < Limits::CARDS {
+    for c in 0..Limits::CARDS {
         let x = head_number(changes, c as u32, passed[c], ends[c]);
         out[c] = x;
-        c += 1;
     }
     out
 }
@@ -67,11 +65,9 @@ pub fn ends_of(last: [u32; Limits::CARDS], n: u32) -> [u32; Limits::CARDS]
     ensures { result ≡ ends_of last n }
 {
     let mut out = [0u32; Limits::CARDS];
-    let mut c: usize = 0;
-    while c < Limits::CARDS {
+    for c in 0..Limits::CARDS {
         let x = end_of(c < n as usize, last[c]);
         out[c] = x;
-        c += 1;
     }
     out
 }
@@ -81,11 +77,9 @@ pub fn least(heads: [u32; Limits::CARDS]) -> u32
     ensures { result ≡ least_of heads }
 {
     let mut best: u32 = 0;
-    let mut c: usize = 0;
-    while c < Limits::CARDS {
+    for c in 0..Limits::CARDS {
         let b = lesser(best, heads[c]);
         best = b;
-        c += 1;
     }
     best
 }
@@ -111,11 +105,9 @@ pub fn past(
     ensures { result ≡ all_past passed ends heads k }
 {
     let mut out = [0u32; Limits::CARDS];
-    let mut c: usize = 0;
-    while c < Limits::CARDS {
+    for c in 0..Limits::CARDS {
         let x = card_past(passed[c], ends[c], heads[c], k);
         out[c] = x;
-        c += 1;
     }
     out
 }

@@ -1,4 +1,5 @@
 -- Laws of a run of digits in a text: how it goes on and ends, and how a loop reads it. Assumes nothing.
+use Rattle.std.specs.Prelude.{Option, Some, None}
 use Prim.Native.Nat.{ℕ, suc, ◌+◌, ◌-◌, ◌*◌, ◌≤◌, ◌<◌}
 use mathlib.Core.Path.{◌≡◌, refl, sym, ◌∙◌, ap, ap₂}
 use mathlib.Core.Bool.{Bool, true, false, cond}
@@ -11,7 +12,6 @@ use lib.ListN.{length, get_or, drop, drop_of_length-le}
 use lib.Seq.{drop-cons, drop_at}
 use borrow.Author.Tests.{le-leb, leb-true, lt-leb, ne_eqb}
 use Rattle.base_laws.proofs.Logic.{and_left, and_right}
-use Rattle.base_reading.specs.declared.Reading.TheVariants.{Number, NotANumber}
 use Rattle.base_reading.specs.Digits.{is_digit, digits_only, run, value_from, value}
 use Rattle.base_reading.specs.Reads.{limit, reading, read_at}
 
@@ -73,11 +73,11 @@ read_all {s} {at} {v} {i} r e = ap₂ (reading at) end_is (ap (value_from v) (sy
     end_is = sym (ap (λ (l : List ℕ). i + length l) e ∙ add-zero i) ∙ r.end
 
 -- where it stands for too much already, so does the whole
-pub read_over : {s : List ℕ} {at v i : ℕ} → SoFar s at v i → limit < v → NotANumber ≡ read_at s at
+pub read_over : {s : List ℕ} {at v i : ℕ} → SoFar s at v i → limit < v → None ≡ read_at s at
 read_over {s} {at} {v} {i} r h =
     sym (never (eqb (at + length (run (drop at s))) at) (lt-leb (value (run (drop at s))) limit (lt_of_lt_of_le h (rw r.total at (value_grows v (run (drop i s)))))))
   where
-    never : (b : Bool) → leb (value (run (drop at s))) limit ≡ false → cond b NotANumber (cond (leb (value (run (drop at s))) limit) (Number (value (run (drop at s))) (at + length (run (drop at s)))) NotANumber) ≡ NotANumber
+    never : (b : Bool) → leb (value (run (drop at s))) limit ≡ false → cond {A = Option (ℕ × ℕ)} b None (cond (leb (value (run (drop at s))) limit) (Some ((value (run (drop at s))), (at + length (run (drop at s))))) None) ≡ None
     never true e = refl
     never false e = rw e
 
@@ -85,12 +85,12 @@ read_over {s} {at} {v} {i} r h =
 
 -- a run of digits in a text, with no digit after it, reads as the number that it stands for
 pub read_run : (d p r : List ℕ) → digits_only d ≡ true → 0 < length d → value d ≤ limit → run r ≡ []
-    → read_at (p ++ (d ++ r)) (length p) ≡ Number (value d) (length p + length d)
+    → read_at (p ++ (d ++ r)) (length p) ≡ Some ((value d), (length p + length d))
 read_run d p r o some h e =
     ap (λ (l : List ℕ). reading (length p) (length p + length l) (value l)) here
-    ∙ ap (λ (b : Bool). cond b NotANumber (cond (leb (value d) limit) (Number (value d) (length p + length d)) NotANumber))
+    ∙ ap (λ (b : Bool). cond {A = Option (ℕ × ℕ)} b None (cond (leb (value d) limit) (Some ((value d), (length p + length d))) None))
     (ne_eqb (length p + length d) (length p) (λ (z : length p + length d ≡ length p). absurd (omega arith)))
-    ∙ ap (λ (b : Bool). cond b (Number (value d) (length p + length d)) NotANumber) (le-leb (value d) limit h)
+    ∙ ap (λ (b : Bool). cond {A = Option (ℕ × ℕ)} b (Some ((value d), (length p + length d))) None) (le-leb (value d) limit h)
   where
     here : run (drop (length p) (p ++ (d ++ r))) ≡ d
     here =

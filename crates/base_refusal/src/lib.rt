@@ -3,6 +3,7 @@
 
 ghost use Rattle.std.specs.Prelude.{◌≡◌};
 ghost use Rattle.base_refusal.specs.Number.{number_of, told_of};
+ghost use Rattle.base_refusal.specs.Reply.{verdict_of};
 
 #[derive(Clone, Copy)]
 pub enum Refusal {
@@ -39,10 +40,16 @@ pub enum Refusal {
 }
 
 // What is said of a line, a sheet or a read-out, and the answer of a call that answers nothing but that it was accepted.
-#[derive(Clone, Copy)]
-pub enum Reply {
-    Done,
-    Refused(Refusal),
+pub type Reply = Result<(), Refusal>;
+
+// Acceptance or the refusal alone, of an answer that hands something over with acceptance.
+pub fn verdict_of<T: Drop>(answer: Result<T, Refusal>) -> Reply
+    ensures { result ≡ verdict_of answer }
+{
+    match answer {
+        Ok(_) => Ok(()),
+        Err(r) => Err(r),
+    }
 }
 
 // What a refusal is told by: "its number (21 also its card)".
@@ -87,12 +94,12 @@ pub fn tell(r: Refusal) -> Told
 }
 
 // Document 01's number of a refusal.
-pub fn number(r: Refusal) -> u32
-    ensures { result ≡ number_of r }
-{
-    let t = tell(r);
-    match t {
-        Told::Alone(n) => n,
-        Told::Card(n, _) => n,
+impl From<Refusal> for u32 {
+    ghost from_gives = { λ r n. n ≡ number_of r };
+
+    fn from(r: Refusal) -> u32 {
+        match tell(r) {
+            Told::Alone(n) | Told::Card(n, _) => n,
+        }
     }
 }

@@ -12,10 +12,8 @@ pub fn row_at(entries: &[u32; Limits::ENTRIES], place: usize) -> [u32; Limits::C
 {
     let mut row = [0u32; Limits::CARDS];
     if place < Limits::FRAMES {
-        let mut j: usize = 0;
-        while j < Limits::CARDS {
+        for j in 0..Limits::CARDS {
             row[j] = entries[place * Limits::CARDS + j];
-            j += 1;
         }
     }
     row
@@ -26,10 +24,8 @@ pub fn put_row(entries: &mut [u32; Limits::ENTRIES], place: usize, row: [u32; Li
     ensures { entries.new ≡ row_put entries.old place row }
 {
     if place < Limits::FRAMES {
-        let mut j: usize = 0;
-        while j < Limits::CARDS {
+        for j in 0..Limits::CARDS {
             entries[place * Limits::CARDS + j] = row[j];
-            j += 1;
         }
     }
 }

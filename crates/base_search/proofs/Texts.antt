@@ -1,14 +1,14 @@
 -- Laws of texts: where a byte first stands, and when two texts are the same. Assumes nothing.
 use Prim.Native.Nat.{ℕ, suc, ◌+◌, ◌≤◌, ◌<◌}
-use mathlib.Core.Path.{◌≡◌, refl, sym, ◌∙◌, ap, ap₂}
-use mathlib.Core.Bool.{Bool, true, false, ◌&&◌}
+use mathlib.Core.Path.{◌≡◌, refl, ◌∙◌, ap, ap₂}
+use mathlib.Core.Bool.{true}
 use mathlib.Core.List.{List, [], ◌∷◌}
 use native.Mathlib.Numerals.{add-one}
 use native.Mathlib.Omega.{arith}
-use lib.Dec.{eqb, leb}
+use lib.Dec.{eqb}
 use lib.ListN.{length, get_or, take, drop, drop_of_length-le}
 use lib.Seq.{drop-cons}
-use borrow.Author.Tests.{eq-eqb, ne_eqb, eqb-true, leb-true, leb-false}
+use borrow.Author.Tests.{eq-eqb, ne_eqb, eqb-true}
 use Rattle.base_laws.proofs.Logic.{test, clash, and_left, and_right}
 use Rattle.base_search.specs.Search.{before, same}
 
@@ -63,34 +63,3 @@ same_equal (a ∷ s) (b ∷ t) e = ap₂ ◌∷◌ (eqb-true a b (and_left (eqb 
 pub same_self : (s : List ℕ) → same s s ≡ true
 same_self [] = refl
 same_self (a ∷ s) = rw (eq-eqb a a refl) (same_self s)
-
--- The first i bytes are the same: what is left decides.
-pub record Alike (s t : List ℕ) (i : ℕ) : Type 0 where
-  pub left : same (drop i s) (drop i t) ≡ same s t
-
-pub alike_none : (s t : List ℕ) → Alike s t 0
-alike_none s t = record { left = refl }
-
-module _ {s t : List ℕ} {i : ℕ} (r : Alike s t i) where
-  -- the first text goes on and the second ends
-  pub alike_longer : i < length s → length t ≤ i → false ≡ same s t
-  alike_longer h l = sym (ap₂ same (drop-cons s i 0 h) (drop_of_length-le t l)) ∙ r.left
-
-  pub alike_differ : i < length s → i < length t → (get_or s i 0 ≡ get_or t i 0 → ⊥) → false ≡ same s t
-  alike_differ h l n =
-      sym (ap₂ same (drop-cons s i 0 h) (drop-cons t i 0 l) ∙ ap (λ (x : Bool). x && same (drop (suc i) s) (drop (suc i) t)) (ne_eqb (get_or s i 0) (get_or t i 0) n))
-      ∙ r.left
-
-  pub alike_more : i < length s → i < length t → get_or s i 0 ≡ get_or t i 0 → Alike s t (i + 1)
-  alike_more h l e =
-      record {
-        left = rw (add-one i) (sym (ap₂ same (drop-cons s i 0 h) (drop-cons t i 0 l) ∙ ap (λ (x : Bool). x && same (drop (suc i) s) (drop (suc i) t)) (eq-eqb (get_or s i 0) (get_or t i 0) e))
-            ∙ r.left);
-      }
-
-  -- the first text ends: the same where the second does
-  pub alike_last : length s ≤ i → leb (length t) i ≡ same s t
-  alike_last h =
-      test (leb (length t) i)
-      (λ e. e ∙ sym (ap₂ same (drop_of_length-le s h) (drop_of_length-le t (leb-true (length t) i e))) ∙ r.left)
-      (λ e. e ∙ sym (ap₂ same (drop_of_length-le s h) (drop-cons t i 0 (leb-false (length t) i e))) ∙ r.left)

@@ -8,29 +8,17 @@ ghost use Rattle.base_search.specs.Search.{before, same};
 pub fn find(s: &[u8], from: usize, b: u8) -> usize
     ensures { result ≡ from + length (before b (drop from s.now)) }
 {
-    let mut i = from;
-    while i < s.len() {
+    for i in from..s.len() {
         if s[i] == b {
             return i;
         }
-        i += 1;
     }
-    i
+    from.max(s.len())
 }
 
 // Whether two texts are the same.
 pub fn is_same(s: &[u8], t: &[u8]) -> bool
     ensures { result ≡ same s.now t.now }
 {
-    let mut i = 0;
-    while i < s.len() {
-        if t.len() <= i {
-            return false;
-        }
-        if s[i] != t[i] {
-            return false;
-        }
-        i += 1;
-    }
-    t.len() <= i
+    s == t
 }

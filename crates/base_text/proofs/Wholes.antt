@@ -38,16 +38,6 @@ module _ (size at : ℕ) (t : List ℕ) where
       ∙ ap (λ (x : Bool). cond x (Next at) TooShort) (lt-leb (0 + length t) (size - at) (omega arith)))
       (λ e. ap (fitting_of size (Next at)) (count_beyond 0 (length t) (leb-false (length t) (greatest - 0) e)))
 
-module _ (size at n room : ℕ) (w k : Progress) (e : w ≡ Next at) (f : k ≡ Counting n) (g : room ≡ size - at) where
-  pub fitting_short : room < n → TooShort ≡ fitting_of size w k
-  fitting_short h = sym (ap₂ (fitting_of size) e f ∙ ap (λ (x : Bool). cond x (Next at) TooShort) (lt-leb n (size - at) (omega arith)))
-
-  pub fitting_there : n ≤ room → Next at ≡ fitting_of size w k
-  fitting_there h = sym (ap₂ (fitting_of size) e f ∙ ap (λ (x : Bool). cond x (Next at) TooShort) (le-leb n (size - at) (omega arith)))
-
-pub fitting_count : (size n : ℕ) (w k : Progress) → w ≡ Counting n → Counting n ≡ fitting_of size w k
-fitting_count size n w k e = sym (ap (λ (v : Progress). fitting_of size v k) e)
-
 whole_from : (b : List ℕ) (w : Progress) (t : List ℕ) (r : Progress) (e : List ℕ) → length b ≤ greatest → Put b (fitting_of (length b) w (counted_on 0 (length t))) t r e → Whole b w t r e
 whole_from b (Next at) t r e l p =
     test (leb (length t) (length b - at))

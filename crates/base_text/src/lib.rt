@@ -14,37 +14,28 @@ pub enum Progress {
     TooShort,
 }
 
-// Stores the first bytes of a text.
+// Stores the first bytes of a text; none where there is no room, and the place may then lie behind the end.
 fn fill(b: &mut [u8], at: usize, text: &[u8], count: usize)
     requires { (count ≤ length b.old - at) × (count ≤ length text.now) }
     ensures { b.new ≡ sets b.old at (take count text.now) }
 {
-    let mut i = 0;
-    while i < count {
-        b[at + i] = text[i];
-        i += 1;
+    if 0 < count {
+        b[at..at + count].copy_from_slice(&text[..count]);
     }
-}
-
-// How many bytes a buffer has from a place on.
-fn room_from(size: usize, at: usize) -> usize
-    ensures { result ≡ size - at }
-{
-    if size < at { 0 } else { size - at }
 }
 
 // The lesser of two numbers.
 pub fn least(a: usize, b: usize) -> usize
     ensures { result ≡ min a b }
 {
-    if a < b { a } else { b }
+    a.min(b)
 }
 
 // Writes a text from a place on.
 fn put_at(b: &mut [u8], at: usize, text: &[u8]) -> Progress
     ensures { Put b.old (Next at) text.now result b.new }
 {
-    let room = room_from(b.len(), at);
+    let room = b.len().saturating_sub(at);
     let count = text.len();
     if room < count {
         fill(b, at, text, room);
@@ -58,10 +49,10 @@ fn put_at(b: &mut [u8], at: usize, text: &[u8]) -> Progress
 fn counted_on(n: usize, more: usize) -> Progress
     ensures { result ≡ counted_on n more }
 {
-    if 18446744073709551615 - n < more {
-        return Progress::TooShort;
+    match n.checked_add(more) {
+        Some(count) => Progress::Counting(count),
+        None => Progress::TooShort,
     }
-    Progress::Counting(n + more)
 }
 
 // Writes a text after what is written already, or counts it.
@@ -81,17 +72,10 @@ pub fn fitting(size: usize, w: Progress, counted: Progress) -> Progress
 {
     match w {
         Progress::Next(at) => match counted {
-            Progress::Counting(n) => {
-                let room = room_from(size, at);
-                if room < n {
-                    return Progress::TooShort;
-                }
-                Progress::Next(at)
-            }
-            Progress::Next(_) => Progress::TooShort,
-            Progress::TooShort => Progress::TooShort,
+            Progress::Counting(n) if n <= size.saturating_sub(at) => w,
+            _ => Progress::TooShort,
         },
-        Progress::Counting(n) => Progress::Counting(n),
+        Progress::Counting(_) => w,
         Progress::TooShort => Progress::TooShort,
     }
 }
@@ -102,7 +86,6 @@ pub fn count_of(w: Progress) -> usize
 {
     match w {
         Progress::Next(n) => n,
-        Progress::Counting(_) => 18446744073709551615,
-        Progress::TooShort => 18446744073709551615,
+        Progress::Counting(_) | Progress::TooShort => usize::MAX,
     }
 }

@@ -3,49 +3,34 @@
 #![tactic(auto)]
 
 use base_limits::Limits;
-use base_refusal::Reply;
-use cabinet::Cabinet;
-use cabinet_layout::{OpenReply, Phase, SafeReply, Slot};
+use cabinet::{Answer, Cabinet};
+use cabinet_layout::{Phase, Slot};
 use cabinet_records::CardRecord;
-use cabinet_recovery::FixReply;
 use sheet_lines::Header;
-use sheet_page_writer::Written;
 
 const FRAMES: u32 = Limits::FRAMES as u32;
 
 const ENTRIES: u32 = Limits::ENTRIES as u32;
 
-// The number where the state is there, and 0 where it is not.
-fn kept(there: bool, n: u32) -> u32 {
-    if there { n } else { 0 }
-}
-
 // The changes that made the states: state x of card c was made by change 16 * x + c.
 fn changes(cards: u32, states: u32) -> [u32; Limits::FRAMES] {
     let mut out = [0u32; Limits::FRAMES];
-    let mut p: u32 = 0;
-    while p < FRAMES {
+    for p in 0..FRAMES {
         let c = p / Limits::IN_HAND_U32;
         let x = p % Limits::IN_HAND_U32 + 1;
-        let there = (x <= states) & (c < cards);
-        let place = base_limits::ring_place(c, x as usize);
-        out[place] = kept(there, x * Limits::CARDS_U32 + c);
-        p += 1;
+        if x <= states && c < cards {
+            out[base_limits::ring_place(c, x as usize)] = x * Limits::CARDS_U32 + c;
+        }
     }
     out
 }
 
 // The vectors of these states: each change wrote its card alone.
-fn entries(cards: u32, states: u32) -> [u32; Limits::ENTRIES] {
+fn entries(changes: &[u32; Limits::FRAMES]) -> [u32; Limits::ENTRIES] {
     let mut out = [0u32; Limits::ENTRIES];
-    let mut p: u32 = 0;
-    while p < FRAMES {
-        let c = p / Limits::IN_HAND_U32;
-        let x = p % Limits::IN_HAND_U32 + 1;
-        let there = (x <= states) & (c < cards);
-        let place = base_limits::ring_place(c, x as usize);
-        out[place * Limits::CARDS + c as usize] = kept(there, x);
-        p += 1;
+    for p in 0..Limits::FRAMES {
+        let card = changes[p] % Limits::CARDS_U32;
+        out[p * Limits::CARDS + card as usize] = changes[p] / Limits::CARDS_U32;
     }
     out
 }
@@ -53,10 +38,8 @@ fn entries(cards: u32, states: u32) -> [u32; Limits::ENTRIES] {
 // The number on each card that is there.
 fn numbers(cards: u32, n: u32) -> [u32; Limits::CARDS] {
     let mut out = [0u32; Limits::CARDS];
-    let mut c: u32 = 0;
-    while c < Limits::CARDS_U32 {
-        out[c as usize] = kept(c < cards, n);
-        c += 1;
+    for place in out.iter_mut().take(cards as usize) {
+        *place = n;
     }
     out
 }
@@ -64,25 +47,26 @@ fn numbers(cards: u32, n: u32) -> [u32; Limits::CARDS] {
 // The cabinet in that phase, with that stored number on each card and with that change in its first place. While rolling
 // the card 0 alone is not rolled.
 fn forged(cards: u32, states: u32, stored: u32, first: Slot, phase: Phase) -> Cabinet {
-    let a = Cabinet::fresh(cards);
-    let mut c = a.cabinet;
-    let e = entries(cards, states);
-    c.entries = e;
-    let m = changes(cards, states);
-    c.changes = m;
-    let reached = numbers(cards, states);
-    let mut core = c.core;
-    core.held = reached;
-    core.reached = reached;
-    let s = numbers(cards, stored);
-    core.stored = s;
-    core.slots[0] = first;
-    let h = cabinet_layout::head_of(1, cards, phase);
-    let h = cabinet_layout::counted(h, 1000);
-    core.head = h;
-    core.rolled = base_bits::without(base_bits::all_below(cards), 0);
-    c.core = core;
+    let mut c = Cabinet::fresh(cards).cabinet;
+    c.changes = changes(cards, states);
+    c.entries = entries(&c.changes);
+    c.core.held = numbers(cards, states);
+    c.core.reached = c.core.held;
+    c.core.stored = numbers(cards, stored);
+    c.core.slots[0] = first;
+    c.core.head = cabinet_layout::counted(cabinet_layout::head_of(1, cards, phase), 1000);
+    c.core.rolled = base_bits::without(base_bits::all_below(cards), 0);
     c
+}
+
+// The cabinet that is up with every state stored, and with that change in its first place.
+fn holding(cards: u32, states: u32, first: Slot) -> Cabinet {
+    forged(cards, states, states, first, Phase::Up)
+}
+
+// The cabinet with that stored number on each card and with no change, in that phase.
+fn idle(cards: u32, states: u32, stored: u32, phase: Phase) -> Cabinet {
+    forged(cards, states, stored, cabinet_layout::free_slot(), phase)
 }
 
 // The card 0, not known beforehand.
@@ -101,31 +85,16 @@ fn change(number: u32, cards: u32, reads: bool, yes: u16) -> Slot {
     o
 }
 
-fn phase_number(phase: Phase) -> u32 {
-    match phase {
-        Phase::Up => 0,
-        Phase::Down => 1,
-        Phase::Rolling => 2,
-    }
-}
-
-fn wide(set: u16) -> u32 {
-    set as u32
-}
-
 // A number out of every part of a cabinet, at places not known beforehand, so that all that a call wrote is looked at.
-fn looked(c: Cabinet, at: u32) -> u32 {
+fn looked(c: &Cabinet, at: u32) -> u32 {
     let i = (at % Limits::CARDS_U32) as usize;
     let k = (at % Limits::SLOTS as u32) as usize;
-    let core = c.core;
-    let l = core.last[i];
-    let p = core.pending[i];
-    let o = core.slots[k];
-    let h = core.head;
-    let phase = h.phase;
+    let core = &c.core;
+    let o = &core.slots[k];
+    let h = &core.head;
     let frames = c.entries[(at % ENTRIES) as usize] ^ c.changes[(at % FRAMES) as usize];
-    let vectors = l.entries[i] ^ p.entries[i] ^ o.vector[i];
-    let sets = wide(o.reads) ^ wide(o.writes) ^ wide(o.yes) ^ wide(o.taken) ^ wide(core.rolled);
+    let vectors = core.last[i].entries[i] ^ core.pending[i].entries[i] ^ o.vector[i];
+    let sets = u32::from(o.reads ^ o.writes ^ o.yes ^ o.taken ^ core.rolled);
     let numbers = core.base[i]
         ^ core.stored[i]
         ^ core.held[i]
@@ -133,216 +102,96 @@ fn looked(c: Cabinet, at: u32) -> u32 {
         ^ core.line[i]
         ^ core.ended[k]
         ^ core.writing[i];
-    let head = h.session ^ h.cards ^ h.latest ^ phase_number(phase);
+    let head = h.session ^ h.cards ^ h.latest ^ h.phase as u32;
     frames ^ vectors ^ sets ^ numbers ^ o.number ^ head
 }
 
-// What was looked at; 1000000 after a refusal.
-fn seen(number: u32, refused: u32) -> u32 {
-    if refused == 0 { number } else { 1000000 }
-}
-
-fn done(r: Reply) -> u32 {
-    match r {
-        Reply::Done => 0,
-        Reply::Refused(q) => base_refusal::number(q),
-    }
+// What was looked at in the cabinet handed back; 1000000 after a refusal.
+fn seen<T: Drop>(a: Answer<T>, at: u32) -> u32 {
+    let number = looked(&a.cabinet, at);
+    if a.reply.is_ok() { number } else { 1000000 }
 }
 
 // Nothing but the making of the cabinet.
 #[unsafe(no_mangle)]
 pub extern "C" fn bench_nothing(cards: u32, states: u32, reads: bool, at: u32) -> u32 {
-    let c = forged(
-        cards,
-        states,
-        states,
-        cabinet_layout::free_slot(),
-        Phase::Up,
-    );
-    let e = looked(c, at);
-    seen(e, 0)
+    looked(&idle(cards, states, states, Phase::Up), at)
 }
 
 #[unsafe(no_mangle)]
 pub extern "C" fn bench_fresh(cards: u32, at: u32) -> u32 {
-    let a = Cabinet::fresh(cards);
-    let r = a.reply;
-    let c = a.cabinet;
-    let e = looked(c, at);
-    seen(e, done(r))
+    seen(Cabinet::fresh(cards), at)
 }
 
 #[unsafe(no_mangle)]
 pub extern "C" fn bench_open(cards: u32, states: u32, reads: bool, at: u32) -> u32 {
-    let c = forged(
-        cards,
-        states,
-        states,
-        cabinet_layout::free_slot(),
-        Phase::Up,
-    );
+    let c = idle(cards, states, states, Phase::Up);
     let o = change(0, cards, reads, 0);
-    let a = c.open(o.reads, o.writes);
-    let r = a.reply;
-    let c = a.cabinet;
-    let e = looked(c, at);
-    let n = match r {
-        OpenReply::Opened(_) => 0,
-        OpenReply::NotOpened(q) => base_refusal::number(q),
-    };
-    seen(e, n)
+    seen(c.open(o.reads, o.writes), at)
 }
 
 // The vote that decides a change of all cards.
 #[unsafe(no_mangle)]
 pub extern "C" fn bench_vote(cards: u32, states: u32, reads: bool, at: u32) -> u32 {
     let others = base_bits::without(base_bits::all_below(cards), 0);
-    let c = forged(
-        cards,
-        states,
-        states,
-        change(1000, cards, reads, others),
-        Phase::Up,
-    );
-    let a = c.vote(1000, card(at), true);
-    let r = a.reply;
-    let c = a.cabinet;
-    let e = looked(c, at);
-    seen(e, done(r))
+    let c = holding(cards, states, change(1000, cards, reads, others));
+    seen(c.vote(1000, card(at), true), at)
 }
 
 #[unsafe(no_mangle)]
 pub extern "C" fn bench_take(cards: u32, states: u32, reads: bool, at: u32) -> u32 {
     let all = base_bits::all_below(cards);
-    let c = forged(
-        cards,
-        states,
-        states,
-        change(1000, cards, reads, all),
-        Phase::Up,
-    );
-    let a = c.take(1000, card(at));
-    let r = a.reply;
-    let c = a.cabinet;
-    let e = looked(c, at);
-    seen(e, done(r))
+    let c = holding(cards, states, change(1000, cards, reads, all));
+    seen(c.take(1000, card(at)), at)
 }
 
 #[unsafe(no_mangle)]
 pub extern "C" fn bench_withdraw(cards: u32, states: u32, reads: bool, at: u32) -> u32 {
-    let c = forged(
-        cards,
-        states,
-        states,
-        change(1000, cards, reads, 0),
-        Phase::Up,
-    );
-    let a = c.withdraw(1000);
-    let r = a.reply;
-    let c = a.cabinet;
-    let e = looked(c, at);
-    seen(e, done(r))
+    let c = holding(cards, states, change(1000, cards, reads, 0));
+    seen(c.withdraw(1000), at)
 }
 
 #[unsafe(no_mangle)]
 pub extern "C" fn bench_store(cards: u32, states: u32, reads: bool, at: u32) -> u32 {
-    let c = forged(cards, states, 0, cabinet_layout::free_slot(), Phase::Up);
-    let a = c.store(card(at), 0);
-    let r = a.reply;
-    let c = a.cabinet;
-    let e = looked(c, at);
-    seen(e, done(r))
+    let c = idle(cards, states, 0, Phase::Up);
+    seen(c.store(card(at), 0), at)
 }
 
 // A write up to the state reached begins.
 #[unsafe(no_mangle)]
 pub extern "C" fn bench_begin(cards: u32, states: u32, reads: bool, at: u32) -> u32 {
-    let c = forged(cards, states, 0, cabinet_layout::free_slot(), Phase::Up);
-    let a = c.begin(card(at), states);
-    let r = a.reply;
-    let c = a.cabinet;
-    let e = looked(c, at);
-    seen(e, done(r))
-}
-
-// A write up to that state, as a cabinet holds it.
-fn up_to(state: u32) -> u32 {
-    if state < Limits::GREATEST_NUMBER {
-        state + 1
-    } else {
-        0
-    }
+    let c = idle(cards, states, 0, Phase::Up);
+    seen(c.begin(card(at), states), at)
 }
 
 // The write up to the state reached ends with it.
 #[unsafe(no_mangle)]
 pub extern "C" fn bench_end(cards: u32, states: u32, reads: bool, at: u32) -> u32 {
-    let mut c = forged(cards, states, 0, cabinet_layout::free_slot(), Phase::Up);
-    let mut core = c.core;
-    core.writing[0] = up_to(states);
-    c.core = core;
-    let a = c.end(card(at), states);
-    let r = a.reply;
-    let c = a.cabinet;
-    let e = looked(c, at);
-    seen(e, done(r))
+    let mut c = idle(cards, states, 0, Phase::Up);
+    c.core.writing[0] = states.wrapping_add(1);
+    seen(c.end(card(at), states), at)
 }
 
 // Every state is stored, so that each line is climbed to the end.
 #[unsafe(no_mangle)]
 pub extern "C" fn bench_trim(cards: u32, states: u32, reads: bool, at: u32) -> u32 {
-    let c = forged(
-        cards,
-        states,
-        states,
-        cabinet_layout::free_slot(),
-        Phase::Up,
-    );
-    let a = c.trim();
-    let r = a.reply;
-    let c = a.cabinet;
-    let e = looked(c, at);
-    seen(e, done(r))
+    let c = idle(cards, states, states, Phase::Up);
+    seen(c.trim(), at)
 }
 
 // Of that change; there is none in an empty cabinet.
 #[unsafe(no_mangle)]
 pub extern "C" fn bench_safe(cards: u32, states: u32, change: u32, at: u32) -> u32 {
-    let c = forged(
-        cards,
-        states,
-        states,
-        cabinet_layout::free_slot(),
-        Phase::Up,
-    );
-    let a = c.safe(change);
-    let r = a.reply;
-    let c = a.cabinet;
-    let e = looked(c, at);
-    let n = match r {
-        SafeReply::Safe => 0,
-        SafeReply::Unsafe => 0,
-        SafeReply::Refused(q) => base_refusal::number(q),
-    };
-    seen(e, n)
+    let c = idle(cards, states, states, Phase::Up);
+    seen(c.safe(change), at)
 }
 
 // All cards, with a decided change open.
 #[unsafe(no_mangle)]
 pub extern "C" fn bench_lose(cards: u32, states: u32, reads: bool, at: u32) -> u32 {
     let all = base_bits::all_below(cards);
-    let c = forged(
-        cards,
-        states,
-        states,
-        change(1000, cards, reads, all),
-        Phase::Up,
-    );
-    let a = c.lose(all);
-    let r = a.reply;
-    let c = a.cabinet;
-    let e = looked(c, at);
-    seen(e, done(r))
+    let c = holding(cards, states, change(1000, cards, reads, all));
+    seen(c.lose(all), at)
 }
 
 // With that stored number on each card: from 0 every state is lost.
@@ -354,76 +203,34 @@ pub extern "C" fn bench_fix(
     at: u32,
     list: &mut [u32],
 ) -> u32 {
-    let c = forged(
-        cards,
-        states,
-        stored,
-        cabinet_layout::free_slot(),
-        Phase::Down,
-    );
+    let c = idle(cards, states, stored, Phase::Down);
     let zero = CardRecord {
         card: 0,
         stored: 0,
         line: 0,
     };
     let out = c.fix_array([zero; Limits::CARDS], Limits::CARDS, list);
-    let a = out.answer;
-    let r = a.reply;
-    let c = a.cabinet;
-    let e = looked(c, at);
-    let n = match r {
-        FixReply::Fixed(_) => 0,
-        FixReply::NotFixed(q) => base_refusal::number(q),
-    };
-    seen(e, n)
+    seen(out.answer, at)
 }
 
 // The last card rolled.
 #[unsafe(no_mangle)]
 pub extern "C" fn bench_roll(cards: u32, states: u32, reads: bool, at: u32) -> u32 {
-    let c = forged(
-        cards,
-        states,
-        states,
-        cabinet_layout::free_slot(),
-        Phase::Rolling,
-    );
-    let a = c.roll(card(at));
-    let r = a.reply;
-    let c = a.cabinet;
-    let e = looked(c, at);
-    seen(e, done(r))
+    let c = idle(cards, states, states, Phase::Rolling);
+    seen(c.roll(card(at)), at)
 }
 
 // The sheet of card 0.
 #[unsafe(no_mangle)]
 pub extern "C" fn bench_sheet(cards: u32, states: u32, at: u32, buffer: &mut [u8]) -> u32 {
-    let c = forged(
-        cards,
-        states,
-        states,
-        cabinet_layout::free_slot(),
-        Phase::Up,
-    );
-    let a = c.sheet(card(at), buffer);
-    let r = a.reply;
-    let c = a.cabinet;
-    let e = looked(c, at);
-    let n = match r {
-        Written::Length(_) => 0,
-        Written::Refused(q) => base_refusal::number(q),
-    };
-    seen(e, n)
+    let c = idle(cards, states, states, Phase::Up);
+    seen(c.sheet(card(at), buffer), at)
 }
 
 // From the sheets of all cards, joined.
 #[unsafe(no_mangle)]
 pub extern "C" fn bench_restart(bytes: &[u8], at: u32) -> u32 {
-    let a = cabinet_restart::restart(bytes);
-    let r = a.reply;
-    let c = a.cabinet;
-    let e = looked(c, at);
-    seen(e, done(r))
+    seen(cabinet_restart::restart(bytes), at)
 }
 
 // The writer by itself, lent a ring: the length of the sheet of card 0, or 0.
@@ -442,9 +249,5 @@ pub extern "C" fn bench_write_sheet<'a, 'b>(
         base: 0,
         count,
     };
-    let w = sheet_writer::write_sheet(buffer, changes, entries, h);
-    match w {
-        Written::Length(n) => n,
-        Written::Refused(_) => 0,
-    }
+    sheet_writer::write_sheet(buffer, changes, entries, h).unwrap_or(0)
 }

@@ -3,12 +3,17 @@
 
 ghost use Rattle.std.specs.Prelude.{[], ◌∷◌, ◌≡◌};
 ghost use Rattle.base_limits.specs.Document.{most_cards, most_in_hand, most_open, last_state};
+ghost use Rattle.theory_protocol.specs.Valid.{valid};
 ghost use Rattle.cabinet_layout.specs.Answers.{reply_of};
+ghost use Rattle.cabinet_layout.specs.Shape.{limits16};
+ghost use Rattle.cabinet_layout.specs.declared.CoreAnswer.{CoreAnswer};
+ghost use Rattle.cabinet.specs.Apply.{with_core};
 ghost use Rattle.cabinet.specs.Fresh.{Freshly, zero_cabinet};
+ghost use Rattle.cabinet.specs.View.{view};
 
 use base_limits::Limits;
-use base_refusal::{Refusal, Reply};
-use cabinet_layout::{Core, Head, OpenReply, Phase, SafeReply};
+use base_refusal::Refusal;
+use cabinet_layout::{Core, CoreAnswer, Head, Phase};
 
 pub mod recover;
 pub mod sheets;
@@ -26,25 +31,11 @@ pub struct Cabinet {
     pub core: Core,
 }
 
-// What safe hands back.
+// What a call hands back: the next cabinet, and what it answers, or its refusal.
 #[derive(Drop)]
-pub struct SafeAnswer {
+pub struct Answer<T> {
     pub cabinet: Cabinet,
-    pub reply: SafeReply,
-}
-
-// What open hands back.
-#[derive(Drop)]
-pub struct OpenAnswer {
-    pub cabinet: Cabinet,
-    pub reply: OpenReply,
-}
-
-// What a call that answers nothing but acceptance hands back.
-#[derive(Drop)]
-pub struct Answer {
-    pub cabinet: Cabinet,
-    pub reply: Reply,
+    pub reply: Result<T, Refusal>,
 }
 
 // All state numbers 0, all entries none, every slot free, no write running.
@@ -99,24 +90,34 @@ impl Cabinet {
     }
 
     // "A fresh cabinet has session 1, phase up, all state numbers 0, all entries none"; refusal 1 hands back the void cabinet.
-    pub fn fresh(cards: u32) -> Answer
+    pub fn fresh(cards: u32) -> Answer<()>
         ensures { Freshly cards (reply_of result.reply) result.cabinet }
     {
-        let good = cabinet_parts::cards_fit(cards);
-        if good {
-            let head = cabinet_parts::fresh_head(cards);
-            let c = zeros(head);
+        if cabinet_parts::cards_fit(cards) {
             Answer {
-                cabinet: c,
-                reply: Reply::Done,
+                cabinet: zeros(cabinet_parts::fresh_head(cards)),
+                reply: Ok(()),
             }
         } else {
-            let head = cabinet_layout::head_of(0, 0, Phase::Up);
-            let c = zeros(head);
             Answer {
-                cabinet: c,
-                reply: Reply::Refused(Refusal::CardCount),
+                cabinet: zeros(cabinet_layout::head_of(0, 0, Phase::Up)),
+                reply: Err(Refusal::CardCount),
             }
+        }
+    }
+
+    // A call on the core that is told what the check for 28 found; the core that it hands back is put back.
+    #[inline(always)]
+    pub(crate) fn on_core<T, F: FnOnce(bool, Core) -> CoreAnswer<T>>(mut self, call: F) -> Answer<T>
+        requires { F.pre call (valid limits16 (view self)) self.core }
+        ensures { (out : CoreAnswer T) × F.post call (valid limits16 (view self)) self.core out × (result.reply ≡ out.reply) × (result.cabinet ≡ with_core self out.core) }
+    {
+        let valid = cabinet_valid::cabinet_valid(&self.entries, &self.changes, self.core);
+        let CoreAnswer { core, reply } = call(valid, self.core);
+        self.core = core;
+        Answer {
+            cabinet: self,
+            reply,
         }
     }
 }

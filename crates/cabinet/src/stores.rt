@@ -6,84 +6,46 @@ ghost use Rattle.cabinet_layout.specs.Answers.{reply_of, safe_reply_of};
 ghost use Rattle.cabinet.specs.View.{view};
 ghost use Rattle.cabinet.specs.Apply.{Carried};
 
-use crate::{Answer, Cabinet, SafeAnswer};
+use crate::{Answer, Cabinet};
+use cabinet_layout::Safety;
 
 impl Cabinet {
     // 5. store
-    pub fn store(mut self, card: u32, state: u32) -> Answer
+    pub fn store(self, card: u32, state: u32) -> Answer<()>
         ensures { Carried self (store_plan limits16 (view self) card state) (reply_of result.reply) result.cabinet }
     {
-        let core = self.core;
-        let valid = cabinet_valid::cabinet_valid(&self.entries, &self.changes, core);
-        let out = cabinet_storing::store(valid, core, card, state);
-        let r = out.reply;
-        let next = out.core;
-        self.core = next;
-        Answer {
-            cabinet: self,
-            reply: r,
-        }
+        self.on_core(|valid, core| cabinet_storing::store(valid, core, card, state))
     }
 
     // The beginning of a store (document 02, wish 5): a write up to that state runs.
-    pub fn begin(mut self, card: u32, state: u32) -> Answer
+    pub fn begin(self, card: u32, state: u32) -> Answer<()>
         ensures { Carried self (begin_plan limits16 (view self) card state) (reply_of result.reply) result.cabinet }
     {
-        let core = self.core;
-        let valid = cabinet_valid::cabinet_valid(&self.entries, &self.changes, core);
-        let out = cabinet_storing::begin(valid, core, card, state);
-        let r = out.reply;
-        let next = out.core;
-        self.core = next;
-        Answer {
-            cabinet: self,
-            reply: r,
-        }
+        self.on_core(|valid, core| cabinet_storing::begin(valid, core, card, state))
     }
 
     // The end of a store: the card reports that state.
-    pub fn end(mut self, card: u32, state: u32) -> Answer
+    pub fn end(self, card: u32, state: u32) -> Answer<()>
         ensures { Carried self (end_plan limits16 (view self) card state) (reply_of result.reply) result.cabinet }
     {
-        let core = self.core;
-        let valid = cabinet_valid::cabinet_valid(&self.entries, &self.changes, core);
-        let out = cabinet_storing::end(valid, core, card, state);
-        let r = out.reply;
-        let next = out.core;
-        self.core = next;
-        Answer {
-            cabinet: self,
-            reply: r,
-        }
+        self.on_core(|valid, core| cabinet_storing::end(valid, core, card, state))
     }
 
     // 7. safe
-    pub fn safe(self, change: u32) -> SafeAnswer
+    pub fn safe(self, change: u32) -> Answer<Safety>
         ensures { Carried self (safe_plan limits16 (view self) change) (safe_reply_of result.reply) result.cabinet }
     {
-        let core = self.core;
-        let r = cabinet_trimming::safe(&self.entries, &self.changes, core, change);
-        SafeAnswer {
+        let reply = cabinet_trimming::safe(&self.entries, &self.changes, self.core, change);
+        Answer {
             cabinet: self,
-            reply: r,
+            reply,
         }
     }
 
     // 8. lose
-    pub fn lose(self, cards: u16) -> Answer
+    pub fn lose(self, cards: u16) -> Answer<()>
         ensures { Carried self (lose_plan limits16 (view self) (member cards)) (reply_of result.reply) result.cabinet }
     {
-        let core = self.core;
-        let changes = self.changes;
-        let valid = cabinet_valid::cabinet_valid(&self.entries, &changes, core);
-        let out = cabinet_storing::lose(valid, core, cards);
-        let r = out.reply;
-        let after = out.core;
-        let mut next = self;
-        next.core = after;
-        Answer {
-            cabinet: next,
-            reply: r,
-        }
+        self.on_core(|valid, core| cabinet_storing::lose(valid, core, cards))
     }
 }

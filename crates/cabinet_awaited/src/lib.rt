@@ -25,8 +25,7 @@ pub fn awaited(reads: u16, writes: u16, have: u16) -> u32
 pub fn is_decided(o: Slot) -> bool
     ensures { result ≡ decided limits16 (open_of o) }
 {
-    let n = awaited(o.reads, o.writes, o.yes);
-    n == 0
+    awaited(o.reads, o.writes, o.yes) == 0
 }
 
 // Card c is touched by the change and not in the set.
@@ -43,9 +42,7 @@ pub fn is_awaited(o: Slot, have: u16, c: u32) -> bool
 pub fn remembered_number(o: Slot) -> u32
     ensures { result ≡ remembered limits16 (open_of o) }
 {
-    let made = is_decided(o);
-    let left = awaits_write(o);
-    if (o.number != 0) & made & left {
+    if (o.number != 0) & is_decided(o) & awaits_write(o) {
         o.number
     } else {
         0
@@ -57,12 +54,9 @@ pub fn took(o: Slot, c: u32) -> Slot
     ensures { result ≡ slot_for (took_share limits16 (open_of o) c) }
 {
     let taken = base_bits::with(o.taken, c);
-    let n = awaited(o.reads, o.writes, taken);
-    if n == 0 {
+    if awaited(o.reads, o.writes, taken) == 0 {
         cabinet_layout::free_slot()
     } else {
-        let mut next = o;
-        next.taken = taken;
-        next
+        Slot { taken, ..o }
     }
 }

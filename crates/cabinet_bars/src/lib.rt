@@ -27,13 +27,9 @@ pub fn barred_set(all: [Slot; Limits::SLOTS], reads: u16, writes: u16) -> u16
     ensures { member result ≡ (λ c. any_below limits16.slots (λ p. bars (open_at all p) (member reads) (member writes) c)) }
 {
     let mut out: u16 = 0;
-    let mut p: usize = 0;
-    while p < Limits::SLOTS {
-        let o = all[p];
-        let more = bar_set(o, reads, writes);
-        let both = base_bits::union(out, more);
-        out = both;
-        p += 1;
+    for p in 0..Limits::SLOTS {
+        let more = bar_set(all[p], reads, writes);
+        out = base_bits::union(out, more);
     }
     out
 }
@@ -48,26 +44,13 @@ fn full(base: u32, reached: u32) -> bool
 pub fn hand_full(writes: u16, base: [u32; Limits::CARDS], reached: [u32; Limits::CARDS]) -> bool
     ensures { result ≡ some_written limits16 (member writes) (λ c. leb (at base c + limits16.in_hand) (at reached c)) }
 {
-    let mut found = false;
-    let mut c: usize = 0;
-    while c < Limits::CARDS {
-        let written = base_bits::has(writes, c as u32);
-        found = found | (written & full(base[c], reached[c]));
-        c += 1;
-    }
-    found
+    (0..Limits::CARDS).any(|c| base_bits::has(writes, c as u32) & full(base[c], reached[c]))
 }
 
 // "a written card at 60,000"
 pub fn at_top(writes: u16, reached: [u32; Limits::CARDS]) -> bool
     ensures { result ≡ some_written limits16 (member writes) (λ c. leb limits16.greatest_state (at reached c)) }
 {
-    let mut found = false;
-    let mut c: usize = 0;
-    while c < Limits::CARDS {
-        let written = base_bits::has(writes, c as u32);
-        found = found | (written & (Limits::GREATEST_STATE <= reached[c]));
-        c += 1;
-    }
-    found
+    (0..Limits::CARDS).any(|c| base_bits::has(writes, c as u32)
+        & (Limits::GREATEST_STATE <= reached[c]))
 }

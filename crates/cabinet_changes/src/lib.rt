@@ -22,15 +22,11 @@ fn with_yes(
     ensures { result ≡ slot_for (voted_yes limits16 (standing reached last pending) (open_of o) c) }
 {
     let yes = base_bits::with(o.yes, c);
-    let n = cabinet_awaited::awaited(o.reads, o.writes, yes);
-    let mut next = o;
-    next.yes = yes;
-    if n == 0 {
-        let v = cabinet_vectors::decision(o, reached, last, pending);
-        next.vector = v;
-        next
+    if cabinet_awaited::awaited(o.reads, o.writes, yes) == 0 {
+        let vector = cabinet_vectors::decision(o, reached, last, pending);
+        Slot { yes, vector, ..o }
     } else {
-        next
+        Slot { yes, ..o }
     }
 }
 

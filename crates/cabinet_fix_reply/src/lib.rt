@@ -11,24 +11,22 @@ ghost use Rattle.cabinet_recovery.specs.Fix.{but_last};
 use base_limits::Limits;
 use base_refusal::{Refusal, Reply};
 use cabinet_layout::{Head, is_down};
-use cabinet_replies::next;
+use cabinet_replies::refuse_if;
 use cabinet_writes::some_writing;
 
 // The checks before the last: 28, 20, 24, 33.
 pub fn fix_verdict(valid: bool, head: Head, writing: [u32; Limits::CARDS]) -> Reply
     ensures { result ≡ first_failing (but_last (after28 (not valid) (fix_checks limits16 (writes_model head [] [] [] writing) 0 0))) }
 {
-    let phase = head.phase;
-    let down = is_down(phase);
-    let r = next(Reply::Done, !valid, Refusal::BadCabinet);
-    let r = next(r, !down, Refusal::WrongPhase);
-    let r = next(
-        r,
+    let down = is_down(head.phase);
+    refuse_if(!valid, Refusal::BadCabinet)?;
+    refuse_if(!down, Refusal::WrongPhase)?;
+    refuse_if(
         Limits::GREATEST_NUMBER <= head.session,
         Refusal::LimitReached,
-    );
+    )?;
     let unreported = some_writing(head, writing);
-    next(r, unreported, Refusal::WriteUnreported)
+    refuse_if(unreported, Refusal::WriteUnreported)
 }
 
 // The last check: "lent list or buffer too short for the whole answer".

@@ -1,4 +1,5 @@
 -- The list of card records that is filled from what fix answered is the one that fix's plan says. Assumes nothing.
+use Rattle.std.specs.Prelude.{Result, Ok, Err}
 use Prim.Native.Nat.{ℕ, zero, suc, ◌≤◌, ◌<◌}
 use mathlib.Core.Path.{◌≡◌, refl, sym, ◌∙◌, ap}
 use mathlib.Core.Bool.{Bool, true, false, not, ◌&&◌, ◌||◌, cond}
@@ -23,11 +24,8 @@ use Rattle.cabinet_layout.specs.declared.Core.{Core}
 use Rattle.cabinet_layout.specs.Shape.{limits16, at, present_of, model_of}
 use Rattle.cabinet_layout.specs.Answers.{first_failing}
 use Rattle.cabinet_layout.specs.Applied.{applied_all}
-use Rattle.base_refusal.specs.declared.Reply.TheVariants.{Done}
 use Rattle.cabinet_layout.proofs.Limits.{width16}
 use Rattle.cabinet_layout.proofs.Checks.{Passes, passes, done_plan}
-use Rattle.cabinet_recovery.specs.declared.FixReply.{FixReply}
-use Rattle.cabinet_recovery.specs.declared.FixReply.TheVariants.{Fixed, NotFixed}
 use Rattle.cabinet_recovery.specs.Fix.{rows_of, fix_reply_of}
 use Rattle.cabinet_recovery.proofs.Rows.{length_selected}
 use Rattle.cabinet_plans.proofs.Known.{valid_count}
@@ -73,7 +71,7 @@ module _ (n : ℕ) (few : n ≤ limits16.width) where
   rows_long f = length_selected limits16.width (present_of n) f ∙ count_first (present_of n) limits16.width n few there absent
 
 -- ---- an accepted plan has no check that fails
-none_fails : (cs : List Check) (a x : Answer) (es : List Edit) → accepted x ≡ (checked cs a es).reply → first_failing cs ≡ Done
+none_fails : (cs : List Check) (a x : Answer) (es : List Edit) → accepted x ≡ (checked cs a es).reply → first_failing cs ≡ Ok tt
 none_fails [] a x es e = refl
 none_fails ((true ⇒ r) ∷ cs) a x es e = let z : ◌≡◌ {A = ℕ} 0 1 = cc in absurd (omega arith)
 none_fails ((false ⇒ r) ∷ cs) a x es e = none_fails cs a x es e
@@ -82,7 +80,7 @@ or_out : (a b : Bool) → a || b ≡ false → a ≡ false
 or_out true b e = e
 or_out false b e = refl
 
-module _ (entries changes : List ℕ) (s : Core) (records : List CardRecord) (list list_now : List ℕ) (reply : FixReply) (next : Core)
+module _ (entries changes : List ℕ) (s : Core) (records : List CardRecord) (list list_now : List ℕ) (reply : (Result ℕ Refusal)) (next : Core)
     (t : CoreFixed entries changes s (length records) list list_now reply next) where
   abbrev m : Model
   m = model_of entries changes s
@@ -100,21 +98,21 @@ module _ (entries changes : List ℕ) (s : Core) (records : List CardRecord) (li
   made = fix_plan limits16 m (length records) (length list)
 
   -- what is answered, where the reply is r
-  told_reply : (r : FixReply) → reply ≡ r → fix_reply_of n next.stored next.line list_now r ≡ made.reply
+  told_reply : (r : (Result ℕ Refusal)) → reply ≡ r → fix_reply_of n next.stored next.line list_now r ≡ made.reply
   told_reply r d = sym (ap (fix_reply_of n next.stored next.line list_now) d) ∙ t.told.answer
 
-  lent_refused : (q : Refusal) → reply ≡ NotFixed q → filled (numbers_of reply next) records ≡ records_after made.reply records
+  lent_refused : (q : Refusal) → reply ≡ Err q → filled (numbers_of reply next) records ≡ records_after made.reply records
   lent_refused q d =
-      filled_none (numbers_of reply next) records (ap (λ (r : FixReply). cards_in r next.head.cards) d)
-      ∙ ap (λ (x : plan.Reply). records_after x records) (told_reply (NotFixed q) d)
+      filled_none (numbers_of reply next) records (ap (λ (r : (Result ℕ Refusal)). cards_in r next.head.cards) d)
+      ∙ ap (λ (x : plan.Reply). records_after x records) (told_reply (Err q) d)
 
   -- where fix is accepted
-  module _ (k : ℕ) (d : reply ≡ Fixed k) where
+  module _ (k : ℕ) (d : reply ≡ Ok k) where
     abbrev row : ℕ → CardRow
     row c = record { card = c; stored = at next.stored c; line = at next.line c }
 
-    off : first_failing checks ≡ Done
-    off = none_fails checks answered (fixed (rows_of n next.stored next.line) (take k list_now)) (fix (lines limits16 m) ∷ []) (told_reply (Fixed k) d)
+    off : first_failing checks ≡ Ok tt
+    off = none_fails checks answered (fixed (rows_of n next.stored next.line) (take k list_now)) (fix (lines limits16 m) ∷ []) (told_reply (Ok k) d)
 
     abbrev wrong : Bool
     wrong = not (is_down m.phase)
@@ -153,15 +151,15 @@ module _ (entries changes : List ℕ) (s : Core) (records : List CardRecord) (li
     -- the list holds each card's record at the card's own place
     in_place : records_after made.reply records ≡ sets records 0 (tabulate n (λ c. record_of (row c)))
     in_place =
-        sym (ap (λ (x : plan.Reply). records_after x records) (told_reply (Fixed k) d))
+        sym (ap (λ (x : plan.Reply). records_after x records) (told_reply (Ok k) d))
         ∙ ap (λ (l : List CardRecord). sets records 0 l) (ap (map record_of) (rows_first n few row) ∙ map_tabulate record_of n row)
 
     lent_fixed : filled (numbers_of reply next) records ≡ records_after made.reply records
-    lent_fixed = filled_all (numbers_of reply next) records n (ap (λ (r : FixReply). cards_in r next.head.cards) d ∙ cards) (let w : _ = width16 in omega (arith, few, w)) fit ∙ sym in_place
+    lent_fixed = filled_all (numbers_of reply next) records n (ap (λ (r : (Result ℕ Refusal)). cards_in r next.head.cards) d ∙ cards) (let w : _ = width16 in omega (arith, few, w)) fit ∙ sym in_place
 
-  lent_by : (r : FixReply) → reply ≡ r → filled (numbers_of reply next) records ≡ records_after made.reply records
-  lent_by (Fixed k) d = lent_fixed k d
-  lent_by (NotFixed q) d = lent_refused q d
+  lent_by : (r : (Result ℕ Refusal)) → reply ≡ r → filled (numbers_of reply next) records ≡ records_after made.reply records
+  lent_by (Ok k) d = lent_fixed k d
+  lent_by (Err q) d = lent_refused q d
 
   pub lent : filled (numbers_of reply next) records ≡ records_after made.reply records
   lent = lent_by reply refl

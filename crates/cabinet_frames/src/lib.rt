@@ -22,10 +22,8 @@ pub fn put_vector(entries: &mut [u32; Limits::ENTRIES], card: u32, state: u32, v
     ensures { entries.new ≡ cond (is_made card state) (sets entries.old (ring_place card state * 16) (list_of (at v.entries))) entries.old }
 {
     let place = base_limits::ring_place(card, state as usize);
-    let w = v.entries;
-    let made = is_made(place, state);
-    if made {
-        base_rows::put_row(entries, place, w);
+    if is_made(place, state) {
+        base_rows::put_row(entries, place, v.entries);
     }
 }
 
@@ -34,8 +32,7 @@ pub fn put_change(changes: &mut [u32; Limits::FRAMES], card: u32, state: u32, ch
     ensures { changes.new ≡ cond (is_made card state) (set changes.old (ring_place card state) change) changes.old }
 {
     let place = base_limits::ring_place(card, state as usize);
-    let made = is_made(place, state);
-    if made {
+    if is_made(place, state) {
         changes[place] = change;
     }
 }

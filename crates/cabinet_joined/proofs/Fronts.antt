@@ -1,4 +1,6 @@
 -- Sheets written one after the other are the sheets joined. Assumes nothing.
+use Rattle.std.specs.Prelude.{Result, Ok, Err}
+use Rattle.base_refusal.specs.declared.Refusal.{Refusal}
 use Prim.Native.Nat.{ℕ, ◌+◌, ◌*◌, ◌-◌, ◌≤◌, ◌<◌}
 use mathlib.Core.Path.{◌≡◌, refl, sym, ◌∙◌, ap, ap₂}
 use mathlib.Core.Bool.{Bool, true, not, cond}
@@ -23,8 +25,6 @@ use Rattle.theory_codec.specs.Sheets.{sheet_of, joined_sheets, codec}
 use Rattle.theory_codec.proofs.Written.{sheets_are}
 use Rattle.cabinet_layout.specs.Shape.{limits16, present_of}
 use Rattle.cabinet_layout.proofs.Limits.{width16}
-use Rattle.sheet_page_writer.specs.declared.Written.{Written}
-use Rattle.sheet_page_writer.specs.declared.Written.TheVariants.{Length, Refused}
 use Rattle.cabinet_sheet.specs.Card.{sheet_reply_of, length_told}
 use Rattle.cabinet.specs.declared.Cabinet.{Cabinet}
 use Rattle.cabinet.specs.View.{view}
@@ -68,9 +68,9 @@ plan_passes s card places e h room =
     ∙ ap (λ (a : Bool). (checked (a ⇒ TooShort ∷ []) (written page) []).reply) (le-ltb places (length page) room)
 
 -- the length told of bytes that were accepted
-told_as : (after bytes : List ℕ) (q : Written) → sheet_reply_of after q ≡ accepted (written bytes) → take (length_told q) after ≡ bytes
-told_as after bytes (Length k) z = let y : take k after ≡ bytes = cc in y
-told_as after bytes (Refused r) z = let k : ◌≡◌ {A = ℕ} 0 1 = cc in absurd (omega arith)
+told_as : (after bytes : List ℕ) (q : (Result ℕ Refusal)) → sheet_reply_of after q ≡ accepted (written bytes) → take (length_told q) after ≡ bytes
+told_as after bytes (Ok k) z = let y : take k after ≡ bytes = cc in y
+told_as after bytes (Err r) z = let k : ◌≡◌ {A = ℕ} 0 1 = cc in absurd (omega arith)
 
 -- ---- the sheets of the first cards stand at the front of the buffer
 
@@ -84,7 +84,7 @@ pub joined_none : (s : Cabinet) (b : List ℕ) → length b ≡ 65536 → Joined
 joined_none s b size = record { size = size; few = omega arith; inside = omega arith; bytes = refl }
 
 -- one sheet more, written from there on: 16 sheets have room
-module _ {s : Cabinet} {b : List ℕ} {card at : ℕ} {before after : List ℕ} {q : Written} {next : Cabinet}
+module _ {s : Cabinet} {b : List ℕ} {card at : ℕ} {before after : List ℕ} {q : (Result ℕ Refusal)} {next : Cabinet}
     (e : valid limits16 (view s) ≡ true) (h : card < s.core.head.cards) (j : Joined s b card at) (w : SheetCarried s card before after q next) (size : length before ≡ length b - at) where
   abbrev page : List ℕ
   page = page_bytes formats (sheet_of limits16 (view s) card)

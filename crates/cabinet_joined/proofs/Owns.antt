@@ -1,7 +1,8 @@
 -- A restart from a cabinet's own sheets, told by parts. Assumes nothing.
+use Rattle.std.specs.Prelude.{Ok, Err, is_err}
 use Prim.Native.Nat.{ℕ}
 use mathlib.Core.Path.{◌≡◌, refl, sym, ◌∙◌, ap, ap₂, subst}
-use mathlib.Core.Bool.{Bool, true, false, not}
+use mathlib.Core.Bool.{Bool, true, false, not, true≢false}
 use mathlib.Core.List.{List, [], ◌∷◌}
 use Rattle.base_refusal.specs.declared.Refusal.TheVariants.{BadCabinet}
 use Rattle.sheet_readout.specs.Joint.{readout_of}
@@ -10,7 +11,7 @@ use Rattle.theory_protocol.specs.Codec.{verdict_checks}
 use Rattle.theory_protocol.specs.Valid.{valid}
 use Rattle.theory_protocol.proofs.Lists.{restart_reply_lem}
 use Rattle.theory_codec.specs.Sheets.{restart_reply, codec}
-use Rattle.base_refusal.specs.declared.Reply as verdict
+use Rattle.base_refusal.specs.Reply as verdict
 use Rattle.cabinet_layout.specs.Answers.{reply_of}
 use Rattle.cabinet_layout.specs.Shape.{limits16}
 use Rattle.cabinet.specs.declared.Cabinet.{Cabinet}
@@ -37,3 +38,12 @@ own_invalid c e = record { answer = sym reply; cabinet = sym (ap (λ (x : Reply)
   where
     reply : own_reply c ≡ refused BadCabinet
     reply = ap (λ (b : Bool). (checked (not b ⇒ BadCabinet ∷ verdict_checks (restart_reply (own_sheets c))) done []).reply) e
+
+-- the cabinet to go on with, by what the answer says
+pub goes_back : (q : verdict.Reply) (handed s : Cabinet) → is_err q ≡ true → s ≡ going_on (reply_of q) handed s
+goes_back (Ok tt) handed s e = absurd (true≢false (sym e))
+goes_back (Err r) handed s e = refl
+
+pub goes_on : (q : verdict.Reply) (handed s : Cabinet) → is_err q ≡ false → handed ≡ going_on (reply_of q) handed s
+goes_on (Ok tt) handed s e = refl
+goes_on (Err r) handed s e = absurd (true≢false e)

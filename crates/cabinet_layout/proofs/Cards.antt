@@ -9,6 +9,7 @@ use Rattle.theory_history.specs.Change.{CardSet}
 use Rattle.theory_protocol.specs.Model.{strays}
 use Rattle.cabinet_layout.specs.declared.Head.{Head}
 use Rattle.cabinet_layout.specs.Shape.{limits16, present_of, head_model}
+use Rattle.cabinet_layout.proofs.Held.{not_not}
 use Rattle.cabinet_layout.proofs.Limits.{width16}
 
 -- no card of the set is outside a cabinet of n cards
@@ -23,3 +24,6 @@ strays_within w n s = not_any w (λ c. s c && not (present_of n c)) ∙ all_same
 pub inside_strays : (h : Head) (s : CardSet) → subset 16 s (below h.cards) ≡ not (strays limits16 (head_model h) s)
 inside_strays h s =
     sym (strays_within 16 h.cards s) ∙ ap (λ (w : ℕ). not (any_below w (λ c. s c && not (present_of h.cards c)))) (sym width16)
+
+pub outside_strays : (h : Head) (s : CardSet) → not (subset 16 s (below h.cards)) ≡ strays limits16 (head_model h) s
+outside_strays h s = ap not (inside_strays h s) ∙ not_not _

@@ -9,8 +9,8 @@ use native.Mathlib.Omega.{arith}
 use lib.ListN.{length, set, replicate, length-set, get_or-eq_default}
 use lib.Seq.{get_or-set_same, get_or-set_other}
 use native.Mathlib.Numerals.{add-one}
-use lib.Dec.{eqb}
-use borrow.Author.Tests.{lt-ltb, eq-eqb, ne_eqb}
+use lib.Dec.{eqb, leb, ltb}
+use borrow.Author.Tests.{lt-ltb, le-ltb, le-leb, lt-leb, eq-eqb, ne_eqb}
 use Rattle.base_laws.specs.Below.{all_below, greatest, tabulate}
 use Rattle.base_laws.proofs.Fill.{all_same, tabulate_ext, tabulate_same, length_tabulate, get_d_tabulate}
 use Rattle.base_bits.specs.Member.{member, number}
@@ -74,6 +74,9 @@ join_step f c out s eo es =
 pub not_not : (b : Bool) → not (not b) ≡ b
 not_not true = refl
 not_not false = refl
+
+pub not_ltb : (a b : ℕ) → not (ltb a b) ≡ leb b a
+not_ltb a b = by_cases (dec_lt a b) (λ (h : a < b). rw (lt-ltb a b h, lt-leb b a h)) (λ (h : ¬ (a < b)). let l : b ≤ a = omega (arith, h) in rw (le-ltb a b l, le-leb b a l))
 
 pub set_by : (x : ℕ) (p : CardSet) → x < 65536 → ((i : ℕ) → i < 16 → member x i ≡ p i) → x ≡ set_of p
 set_by x p h f = sym (number_members 16 x h) ∙ number_same 16 (member x) p f ∙ ap (λ (w : ℕ). number w p) (sym width16)

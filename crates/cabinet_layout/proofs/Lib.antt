@@ -3,3 +3,4 @@ pub mod Checks
 pub mod Held
 pub mod Made
 pub mod Cards
+pub mod Chains

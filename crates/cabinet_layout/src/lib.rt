@@ -8,7 +8,7 @@ ghost use Rattle.theory_protocol.specs.Model.{is_up, is_down, is_rolling, free_s
 ghost use Rattle.cabinet_layout.specs.Shape.{limits16, phase_of, at, slot_for, vector_for, head_of, in_phase, counted, blank_core};
 
 use base_limits::Limits;
-use base_refusal::{Refusal, Reply};
+use base_refusal::Refusal;
 
 #[derive(Clone, Copy)]
 pub enum Phase {
@@ -17,19 +17,11 @@ pub enum Phase {
     Rolling,
 }
 
-// What open answers: the number of the change.
+// What safe answers of a change.
 #[derive(Clone, Copy)]
-pub enum OpenReply {
-    Opened(u32),
-    NotOpened(Refusal),
-}
-
-// What safe answers.
-#[derive(Clone, Copy)]
-pub enum SafeReply {
+pub enum Safety {
     Safe,
     Unsafe,
-    Refused(Refusal),
 }
 
 // What is small in a cabinet: session, number of cards, the last change number given, phase.
@@ -79,11 +71,11 @@ pub struct Core {
     pub writing: [u32; Limits::CARDS],
 }
 
-// What a call on the core that answers nothing but acceptance hands back.
+// What a call on the core hands back.
 #[derive(Drop)]
-pub struct CoreAnswer {
+pub struct CoreAnswer<T> {
     pub core: Core,
-    pub reply: Reply,
+    pub reply: Result<T, Refusal>,
 }
 
 // A head whose change numbers start at 1.
@@ -91,31 +83,24 @@ pub fn head_of(session: u32, cards: u32, phase: Phase) -> Head
     ensures { result ≡ head_of session cards phase }
 {
     Head {
-        session: session,
-        cards: cards,
+        session,
+        cards,
         latest: 0,
-        phase: phase,
+        phase,
     }
 }
 
 pub fn in_phase(head: Head, phase: Phase) -> Head
     ensures { result ≡ in_phase head phase }
 {
-    Head {
-        session: head.session,
-        cards: head.cards,
-        latest: head.latest,
-        phase: phase,
-    }
+    Head { phase, ..head }
 }
 
 // With k for the last change number given.
 pub fn counted(head: Head, k: u32) -> Head
     ensures { result ≡ counted head k }
 {
-    let mut next = head;
-    next.latest = k;
-    next
+    Head { latest: k, ..head }
 }
 
 // A free slot, all zero.
@@ -148,13 +133,11 @@ pub fn blank(head: Head) -> Core
 {
     let none = [0u32; Limits::CARDS];
     let vectors = no_vectors();
-    let free = free_slot();
-    let slots = [free; Limits::SLOTS];
     Core {
-        head: head,
+        head,
         last: vectors,
         pending: vectors,
-        slots: slots,
+        slots: [free_slot(); Limits::SLOTS],
         base: none,
         stored: none,
         held: none,
@@ -169,37 +152,24 @@ pub fn blank(head: Head) -> Core
 pub fn is_up(phase: Phase) -> bool
     ensures { result ≡ is_up (phase_of phase) }
 {
-    match phase {
-        Phase::Up => true,
-        Phase::Down => false,
-        Phase::Rolling => false,
-    }
+    matches!(phase, Phase::Up)
 }
 
 pub fn is_down(phase: Phase) -> bool
     ensures { result ≡ is_down (phase_of phase) }
 {
-    match phase {
-        Phase::Up => false,
-        Phase::Down => true,
-        Phase::Rolling => false,
-    }
+    matches!(phase, Phase::Down)
 }
 
 pub fn is_rolling(phase: Phase) -> bool
     ensures { result ≡ is_rolling (phase_of phase) }
 {
-    match phase {
-        Phase::Up => false,
-        Phase::Down => false,
-        Phase::Rolling => true,
-    }
+    matches!(phase, Phase::Rolling)
 }
 
 // The number for card i; 0 for a card above 15.
 pub fn at(numbers: [u32; Limits::CARDS], i: u32) -> u32
     ensures { result ≡ at numbers i }
 {
-    let k = i as usize;
-    if k < Limits::CARDS { numbers[k] } else { 0 }
+    numbers.get(i as usize).copied().unwrap_or(0)
 }

@@ -19,12 +19,8 @@ fn next_ended(ended: [u32; Limits::SLOTS], k: u32) -> u32
     ensures { result ≡ least_ended ended k }
 {
     let mut best: u32 = 0;
-    let mut p: usize = 0;
-    while p < Limits::SLOTS {
-        let v = number_above(ended[p], k);
-        let b = base_merge::lesser(best, v);
-        best = b;
-        p += 1;
+    for p in 0..Limits::SLOTS {
+        best = base_merge::lesser(best, number_above(ended[p], k));
     }
     best
 }
@@ -64,16 +60,17 @@ pub fn list_lost<'a, 'b>(
     let mut n: usize = 0;
     let mut k: u32 = 0;
     let mut x = next_lost(heads, ended, 0);
+    // a while: it ends where no number is left, and not after a count
     while k < x {
         put(list, n, x);
         n += 1;
         k = x;
+        // by way of names: a call's array laid right over one that is held gets no proof
         let p = base_merge::past(passed, ends, heads, k);
         passed = p;
         let h = base_merge::heads(changes, passed, ends);
         heads = h;
-        let y = next_lost(heads, ended, k);
-        x = y;
+        x = next_lost(heads, ended, k);
     }
     n
 }

@@ -27,11 +27,9 @@ pub fn fallen(
     ensures { result ≡ list_of (λ c. cond (member cards c) (at stored c) (at held c)) }
 {
     let mut out = [0u32; Limits::CARDS];
-    let mut c: usize = 0;
-    while c < Limits::CARDS {
+    for c in 0..Limits::CARDS {
         let lost = base_bits::has(cards, c as u32);
         out[c] = pick(lost, stored[c], held[c]);
-        c += 1;
     }
     out
 }
@@ -40,8 +38,7 @@ pub fn fallen(
 pub fn no_slots() -> [Slot; Limits::SLOTS]
     ensures { result ≡ tabulate limits16.slots (λ p. slot_for free_slot) }
 {
-    let free = cabinet_layout::free_slot();
-    [free; Limits::SLOTS]
+    [cabinet_layout::free_slot(); Limits::SLOTS]
 }
 
 // By slot, the number that a change is remembered by when a loss ends it.
@@ -49,12 +46,8 @@ pub fn ended_numbers(slots: [Slot; Limits::SLOTS]) -> [u32; Limits::SLOTS]
     ensures { result ≡ tabulate limits16.slots (λ p. remembered limits16 (open_at slots p)) }
 {
     let mut out = [0u32; Limits::SLOTS];
-    let mut p: usize = 0;
-    while p < Limits::SLOTS {
-        let o = slots[p];
-        let k = cabinet_awaited::remembered_number(o);
-        out[p] = k;
-        p += 1;
+    for p in 0..Limits::SLOTS {
+        out[p] = cabinet_awaited::remembered_number(slots[p]);
     }
     out
 }

@@ -1,5 +1,6 @@
 -- The lost changes of the model are those that the code finds, and what fix answers by its checks. Assumes nothing.
-use Prim.Native.Nat.{ℕ, suc, ◌+◌, ◌-◌, ◌≤◌, ◌<◌}
+use Rattle.std.specs.Prelude.{Ok, Err}
+use Prim.Native.Nat.{ℕ, suc, ◌+◌, ◌≤◌, ◌<◌}
 use mathlib.Core.Path.{◌≡◌, refl, sym, ◌∙◌, ap, ap₂, subst}
 use mathlib.Core.Bool.{Bool, true, false, not, ◌||◌}
 use mathlib.Core.List.{List, [], ◌∷◌, ◌++◌}
@@ -19,13 +20,11 @@ use Rattle.theory_protocol.specs.Valid.{valid}
 use Rattle.theory_protocol.specs.Calls.{lines, is_lost, card_rows, greatest_lost, lost_numbers, fix_checks, fix_plan}
 use Rattle.theory_protocol.proofs.Listed.{lost_below}
 use Rattle.cabinet_layout.specs.declared.Core.{Core}
-use Rattle.base_refusal.specs.declared.Reply.{Reply}
-use Rattle.base_refusal.specs.declared.Reply.TheVariants.{Done, Refused}
+use Rattle.base_refusal.specs.Reply.{Reply}
 use Rattle.cabinet_layout.specs.Shape.{limits16, at, list_of, present_of, writes_model}
 use Rattle.cabinet_layout.specs.Answers.{first_failing, after28, next}
 use Rattle.cabinet_layout.proofs.Limits.{width16}
 use Rattle.cabinet_layout.proofs.Checks.{done_plan, refused_plan}
-use Rattle.cabinet_recovery.specs.declared.FixReply.TheVariants.{Fixed, NotFixed}
 use Rattle.base_merge.specs.Merge.{change_at, ends_of, CardRises, Rises}
 use Rattle.cabinet_listing.specs.Lost.{Rising, Listed, lost_by}
 use Rattle.cabinet_recovery.specs.Fix.{rows_of, list_after, lines_after, but_last, FixWorked}
@@ -100,12 +99,12 @@ module _ (entries changes : List ℕ) (core : Core) where
     abbrev is_short : ℕ → Bool
     is_short k = ltb cp (count_below limits16.width (present_of core.head.cards)) || ltb (length before) k
 
-    answer_of : (b : Bool) → first ≡ Done → is_short (length numbers) ≡ b → first_failing checks ≡ next Done b TooShort
+    answer_of : (b : Bool) → first ≡ Ok tt → is_short (length numbers) ≡ b → first_failing checks ≡ next (Ok tt) b TooShort
     answer_of b e s =
         last_check (but_last (fix_checks limits16 found cp 0)) too_short TooShort
         ∙ ap₂ (λ (v : Reply) (t : Bool). next v t TooShort) e (ap (λ (k : ℕ). ltb cp k || ltb (length before) (length numbers)) (length_selected limits16.width (present_of core.head.cards) _) ∙ s)
 
-    refused_told : (q : Refusal) → first_failing checks ≡ Refused q → FixWorked found the_plan core.head.cards core.stored (list_of (λ c. 0)) before before (NotFixed q)
+    refused_told : (q : Refusal) → first_failing checks ≡ Err q → FixWorked found the_plan core.head.cards core.stored (list_of (λ c. 0)) before before (Err q)
     refused_told q e =
         let p : the_plan ≡ record { reply = refused q; edits = [] } = refused_plan checks (fixed (card_rows limits16 found) numbers) (fix (lines limits16 found) ∷ []) q e in
         record {
@@ -118,16 +117,16 @@ module _ (entries changes : List ℕ) (core : Core) where
         }
 
     -- one of the checks before the last refuses
-    pub told_early : (q : Refusal) → first ≡ Refused q → FixWorked found the_plan core.head.cards core.stored (list_of (λ c. 0)) before before (NotFixed q)
+    pub told_early : (q : Refusal) → first ≡ Err q → FixWorked found the_plan core.head.cards core.stored (list_of (λ c. 0)) before before (Err q)
     told_early q e = refused_told q (last_check (but_last (fix_checks limits16 found cp 0)) too_short TooShort ∙ ap (λ (r : Reply). next r too_short TooShort) e)
 
     -- the last one does
-    pub told_short : first ≡ Done → is_short (length numbers) ≡ true → FixWorked found the_plan core.head.cards core.stored (list_of (λ c. 0)) before before (NotFixed TooShort)
+    pub told_short : first ≡ Ok tt → is_short (length numbers) ≡ true → FixWorked found the_plan core.head.cards core.stored (list_of (λ c. 0)) before before (Err TooShort)
     told_short e s = refused_told TooShort (answer_of true e s)
 
     -- none does
-    pub told_fixed : (after : List ℕ) → first ≡ Done → is_short (length numbers) ≡ false → after ≡ sets before 0 numbers
-        → FixWorked found the_plan core.head.cards core.stored found_line before after (Fixed (length numbers))
+    pub told_fixed : (after : List ℕ) → first ≡ Ok tt → is_short (length numbers) ≡ false → after ≡ sets before 0 numbers
+        → FixWorked found the_plan core.head.cards core.stored found_line before after (Ok (length numbers))
     told_fixed after e s a =
         let l : length numbers ≤ length before = ltb-false (length before) (length numbers) (or_out (ltb cp (count_below limits16.width (present_of core.head.cards))) (ltb (length before) (length numbers)) s) in
         let p : the_plan ≡ record { reply = accepted (fixed (card_rows limits16 found) numbers); edits = fix (lines limits16 found) ∷ [] } = done_plan checks (fixed (card_rows limits16 found) numbers) (fix (lines limits16 found) ∷ []) (answer_of false e s) in
@@ -146,19 +145,19 @@ module _ (entries changes : List ℕ) (core : Core) where
     first_told whole r ew e = sym (e ∙ ap (λ (b : Bool). first_failing (but_last (after28 (not b) (fix_checks limits16 (writes_model core.head [] [] [] core.writing) 0 0)))) ew)
 
     -- a cabinet that they let pass is valid
-    valid_known : first ≡ Done → valid limits16 found ≡ true
-    valid_known e = test (valid limits16 found) (λ w. w) (λ w. let z : Refused BadCabinet ≡ Done = rw w at e in let y : ◌≡◌ {A = ℕ} 0 1 = cc in absurd (omega arith))
+    valid_known : first ≡ Ok tt → valid limits16 found ≡ true
+    valid_known e = test (valid limits16 found) (λ w. w) (λ w. let z : Err BadCabinet ≡ Ok tt = rw w at e in let y : ◌≡◌ {A = ℕ} 0 1 = cc in absurd (omega arith))
 
     -- ---- as the code has them: the lines that it worked out, the count and the list that it wrote
     module _ (line : List ℕ) (el : line ≡ found_line) (z : List ℕ) (ez : z ≡ list_of (λ c. 0)) where
       -- the numbers above the line rise
-      pub line_rises : first ≡ Done → Rises changes line (ends_of core.reached core.head.cards)
+      pub line_rises : first ≡ Ok tt → Rises changes line (ends_of core.reached core.head.cards)
       line_rises e =
           subst (λ (l : List ℕ). Rises changes l (ends_of core.reached core.head.cards)) (sym el)
           (rises_later found_line (valid_rises entries changes core (valid_known e)) (line_above entries changes core))
 
-      pub early_told : (q : Refusal) → first ≡ Refused q → FixWorked found the_plan core.head.cards core.stored z before before (NotFixed q)
-      early_told q e = subst (λ (l : List ℕ). FixWorked found the_plan core.head.cards core.stored l before before (NotFixed q)) (sym ez) (told_early q e)
+      pub early_told : (q : Refusal) → first ≡ Err q → FixWorked found the_plan core.head.cards core.stored z before before (Err q)
+      early_told q e = subst (λ (l : List ℕ). FixWorked found the_plan core.head.cards core.stored l before before (Err q)) (sym ez) (told_early q e)
 
       -- what the walk over the changes lost told, at the line as it is: their count, and the list with them at its front
       counted : (u v : List ℕ) (n : ℕ) → Listed (lost_by changes line core.reached core.ended core.head.cards) u v n → (n ≡ length numbers) × (v ≡ sets u 0 numbers)
@@ -167,16 +166,16 @@ module _ (entries changes : List ℕ) (core : Core) where
           let e : w.list ≡ numbers = list_is w.rising in
           (w.count ∙ ap length e, w.stored ∙ ap (sets u 0) e)
 
-      module _ (u v : List ℕ) (n : ℕ) (r : Listed (lost_by changes line core.reached core.ended core.head.cards) u v n) (e : first ≡ Done) where
+      module _ (u v : List ℕ) (n : ℕ) (r : Listed (lost_by changes line core.reached core.ended core.head.cards) u v n) (e : first ≡ Ok tt) where
         -- the last check, of the list itself
         room : (b : Bool) → is_short n ≡ b → is_short (length numbers) ≡ b
         room b s = ap is_short (sym (counted u v n r).0) ∙ s
 
-        pub short_told : is_short n ≡ true → FixWorked found the_plan core.head.cards core.stored z before before (NotFixed TooShort)
-        short_told s = subst (λ (l : List ℕ). FixWorked found the_plan core.head.cards core.stored l before before (NotFixed TooShort)) (sym ez) (told_short e (room true s))
+        pub short_told : is_short n ≡ true → FixWorked found the_plan core.head.cards core.stored z before before (Err TooShort)
+        short_told s = subst (λ (l : List ℕ). FixWorked found the_plan core.head.cards core.stored l before before (Err TooShort)) (sym ez) (told_short e (room true s))
 
         pub fixed_told : (after : List ℕ) (k : ℕ) → Listed (lost_by changes line core.reached core.ended core.head.cards) before after k → is_short n ≡ false
-            → FixWorked found the_plan core.head.cards core.stored line before after (Fixed n)
+            → FixWorked found the_plan core.head.cards core.stored line before after (Ok n)
         fixed_told after k w s =
-            let t : FixWorked found the_plan core.head.cards core.stored found_line before after (Fixed (length numbers)) = told_fixed after e (room false s) (counted before after k w).1 in
-            subst (λ (k : ℕ). FixWorked found the_plan core.head.cards core.stored line before after (Fixed k)) (sym (counted u v n r).0) (subst (λ (x : List ℕ). FixWorked found the_plan core.head.cards core.stored x before after (Fixed (length numbers))) (sym el) t)
+            let t : FixWorked found the_plan core.head.cards core.stored found_line before after (Ok (length numbers)) = told_fixed after e (room false s) (counted before after k w).1 in
+            subst (λ (k : ℕ). FixWorked found the_plan core.head.cards core.stored line before after (Ok k)) (sym (counted u v n r).0) (subst (λ (x : List ℕ). FixWorked found the_plan core.head.cards core.stored x before after (Ok (length numbers))) (sym el) t)

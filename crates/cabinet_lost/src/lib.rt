@@ -1,25 +1,25 @@
 // The core of fix, over numbers and lent arrays: the line of each card, and the changes lost.
 #![tactic(auto)]
 
-ghost use Rattle.std.specs.Prelude.{◌≡◌, length};
+ghost use Rattle.std.specs.Prelude.{◌≡◌, length, Err};
 ghost use Rattle.theory_protocol.specs.Calls.{fix_plan};
 ghost use Rattle.cabinet_layout.specs.Shape.{limits16, list_of, model_of};
 ghost use Rattle.cabinet_recovery.specs.Fix.{FixWorked};
 
 use base_limits::Limits;
-use base_refusal::{Refusal, Reply};
+use base_refusal::Refusal;
 use cabinet_fix_reply::{fix_verdict, is_short};
 use cabinet_layout::Core;
 use cabinet_listing::list_lost;
-use cabinet_recovery::{FixReply, Outcome};
+use cabinet_recovery::Outcome;
 
 // Nothing is worked out where fix is refused.
 fn not_fixed(q: Refusal) -> Outcome
-    ensures { (result.line ≡ list_of (λ c. 0)) × (result.reply ≡ FixReply.NotFixed q) }
+    ensures { (result.line ≡ list_of (λ c. 0)) × (result.reply ≡ Err q) }
 {
     Outcome {
         line: [0u32; Limits::CARDS],
-        reply: FixReply::NotFixed(q),
+        reply: Err(q),
     }
 }
 
@@ -34,31 +34,26 @@ pub fn fix<'a, 'b>(
 ) -> Outcome
     ensures { FixWorked (model_of entries.now changes.now core) (fix_plan limits16 (model_of entries.now changes.now core) places (length list.old)) core.head.cards core.stored result.line list.old list.new result.reply }
 {
-    let base = core.base;
-    let stored = core.stored;
-    let reached = core.reached;
-    let ended = core.ended;
-    let writing = core.writing;
-    let head = core.head;
     let valid = cabinet_valid::cabinet_valid(entries, changes, core);
-    let first = fix_verdict(valid, head, writing);
-    match first {
-        Reply::Done => {
-            let lines = cabinet_recovery::lines(entries, head, base, stored, reached);
-            // counted first, in a list of its own
-            let mut aside = [0u32; 1];
-            let n = list_lost(&mut aside, changes, lines, reached, ended, head.cards);
-            let short = is_short(head, places, list.len(), n);
-            if short {
-                not_fixed(Refusal::TooShort)
-            } else {
-                list_lost(list, changes, lines, reached, ended, head.cards);
-                Outcome {
-                    line: lines,
-                    reply: FixReply::Fixed(n),
-                }
-            }
-        }
-        Reply::Refused(q) => not_fixed(q),
+    let Core {
+        head,
+        base,
+        stored,
+        reached,
+        ended,
+        writing,
+        ..
+    } = core;
+    if let Err(q) = fix_verdict(valid, head, writing) {
+        return not_fixed(q);
     }
+    let line = cabinet_recovery::lines(entries, head, base, stored, reached);
+    // counted first, in a list of its own
+    let mut aside = [0u32; 1];
+    let n = list_lost(&mut aside, changes, line, reached, ended, head.cards);
+    if is_short(head, places, list.len(), n) {
+        return not_fixed(Refusal::TooShort);
+    }
+    list_lost(list, changes, line, reached, ended, head.cards);
+    Outcome { line, reply: Ok(n) }
 }

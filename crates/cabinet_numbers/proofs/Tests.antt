@@ -15,10 +15,8 @@ use Rattle.base_laws.proofs.Fill.{all_same}
 use Rattle.theory_history.specs.Vector.{Vector}
 use Rattle.theory_protocol.specs.Valid.{entries_valid, numbers_valid}
 use Rattle.cabinet_layout.specs.Shape.{limits16, present_of, numbers_of}
+use Rattle.cabinet_layout.proofs.Held.{not_ltb}
 use Rattle.cabinet_layout.proofs.Limits.{greatest60000}
-
-pub not_ltb : (a b : ℕ) → not (ltb a b) ≡ leb b a
-not_ltb a b = by_cases (dec_lt a b) (λ (h : a < b). rw (lt-ltb a b h, lt-leb b a h)) (λ (h : ¬ (a < b)). let l : b ≤ a = omega (arith, h) in rw (le-ltb a b l, le-leb b a l))
 
 -- there is a card, and none beyond the width, where their number is 1 to the width
 pub cards_limits : (w n : ℕ) → 0 < w → any_below w (present_of n) && not (ltb w n) ≡ leb 1 n && leb n w

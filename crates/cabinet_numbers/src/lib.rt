@@ -12,8 +12,7 @@ use cabinet_layout::{Head, is_rolling};
 pub fn session_valid(head: Head) -> bool
     ensures { result ≡ session_valid limits16 (head_model head) }
 {
-    let phase = head.phase;
-    let rolling = is_rolling(phase);
+    let rolling = is_rolling(head.phase);
     (head.session != 0) & !(rolling & (head.session == Limits::GREATEST_NUMBER))
 }
 
@@ -47,13 +46,7 @@ pub fn top(there: bool) -> u32
 pub fn entries_valid(v: [u32; Limits::CARDS], cards: usize) -> bool
     ensures { result ≡ entries_valid limits16 (present_of cards) (at v) }
 {
-    let mut ok = true;
-    let mut j: usize = 0;
-    while j < Limits::CARDS {
-        ok = ok & (v[j] <= top(j < cards));
-        j += 1;
-    }
-    ok
+    (0..Limits::CARDS).all(|j| v[j] <= top(j < cards))
 }
 
 // A card may be written: not "at base + 48 or 60,000".

@@ -11,7 +11,7 @@ use base_limits::Limits;
 use base_refusal::{Refusal, Reply};
 use cabinet_bars::{at_top, barred_set, hand_full};
 use cabinet_layout::{Head, Slot};
-use cabinet_replies::next;
+use cabinet_replies::refuse_if;
 
 // 1. open. Trailing zeros name the lowest card that is barred.
 pub fn open_verdict(
@@ -25,27 +25,25 @@ pub fn open_verdict(
 ) -> Reply
     ensures { result ≡ first_failing (after28 (not valid) (open_checks limits16 (slots_model head all base reached) (member reads) (member writes))) }
 {
+    refuse_if(!valid, Refusal::BadCabinet)?;
     let inside_r = base_set_bounds::within(reads, head.cards);
     let inside_w = base_set_bounds::within(writes, head.cards);
+    refuse_if(!inside_r | !inside_w, Refusal::NoSuchCard)?;
     let none_r = base_bits::is_empty(reads);
     let none_w = base_bits::is_empty(writes);
-    let phase = head.phase;
-    let up = cabinet_layout::is_up(phase);
+    refuse_if(none_r & none_w, Refusal::BothSetsEmpty)?;
+    let up = cabinet_layout::is_up(head.phase);
+    refuse_if(!up, Refusal::WrongPhase)?;
     let barred = barred_set(all, reads, writes);
     let free = base_bits::is_empty(barred);
     let named = base_set_bounds::lowest(barred);
+    refuse_if(!free, Refusal::Barred(named))?;
     let p = cabinet_slots::free_at(all);
+    refuse_if(p >= Limits::SLOTS, Refusal::NoSlot)?;
     let full = hand_full(writes, base, reached);
+    refuse_if(full, Refusal::InHandFull)?;
     let top = at_top(writes, reached);
-    let r = next(Reply::Done, !valid, Refusal::BadCabinet);
-    let r = next(r, !inside_r | !inside_w, Refusal::NoSuchCard);
-    let r = next(r, none_r & none_w, Refusal::BothSetsEmpty);
-    let r = next(r, !up, Refusal::WrongPhase);
-    let r = next(r, !free, Refusal::Barred(named));
-    let r = next(r, !(p < Limits::SLOTS), Refusal::NoSlot);
-    let r = next(r, full, Refusal::InHandFull);
-    next(
-        r,
+    refuse_if(
         top | (Limits::GREATEST_NUMBER <= head.latest),
         Refusal::LimitReached,
     )
@@ -55,9 +53,10 @@ pub fn open_verdict(
 pub fn opened(k: u32, reads: u16, writes: u16) -> Slot
     ensures { result ≡ slot_for (opened_change k (member reads) (member writes)) }
 {
-    let mut o = cabinet_layout::free_slot();
-    o.number = k;
-    o.reads = reads;
-    o.writes = writes;
-    o
+    Slot {
+        number: k,
+        reads,
+        writes,
+        ..cabinet_layout::free_slot()
+    }
 }

@@ -1,4 +1,5 @@
 -- A call that found its checks hands back what its plan says. Assumes nothing.
+use Rattle.std.specs.Prelude.{Ok, Err}
 use Prim.Native.Nat.{ℕ, ◌<◌}
 use mathlib.Core.Path.{◌≡◌, refl, sym, ◌∙◌, ap}
 use mathlib.Core.Bool.{Bool, true, false, not, ◌&&◌}
@@ -14,8 +15,7 @@ use Rattle.theory_protocol.specs.Valid.{valid}
 use Rattle.theory_protocol.specs.Edit.{Edit}
 use Rattle.theory_protocol.specs.Plan.{Answer, done, Check, ◌⇒◌, Plan, checked, accepted, refused}
 use Rattle.theory_protocol.specs.Plan as plan
-use Rattle.base_refusal.specs.declared.Reply.{Reply}
-use Rattle.base_refusal.specs.declared.Reply.TheVariants.{Done, Refused}
+use Rattle.base_refusal.specs.Reply.{Reply}
 use Rattle.cabinet_layout.specs.Answers.{reply_of, first_failing, after28}
 use Rattle.cabinet_layout.specs.Shape.{limits16, model_of}
 use Rattle.cabinet_layout.proofs.Limits.{width16, slots8}
@@ -25,28 +25,28 @@ use Rattle.cabinet_layout.specs.Applied.{applied_all, CoreCarried}
 use Rattle.cabinet_plans.specs.Plans.{Stands}
 
 -- ---- a call on a core that found its checks hands back what its plan says
-pub core_as : (s next : Core) (cs : List Check) (a : Answer) (es : List Edit) (reply : plan.Reply) → first_failing cs ≡ Done → reply ≡ accepted a → next ≡ applied_all es s → CoreCarried s (checked cs a es) reply next
+pub core_as : (s next : Core) (cs : List Check) (a : Answer) (es : List Edit) (reply : plan.Reply) → first_failing cs ≡ Ok tt → reply ≡ accepted a → next ≡ applied_all es s → CoreCarried s (checked cs a es) reply next
 core_as s next cs a es reply e d n =
     let p : checked cs a es ≡ record { reply = accepted a; edits = es } = done_plan cs a es e in
     record { answer = d ∙ sym (ap (λ (x : Plan). x.reply) p); core = n ∙ sym (ap (λ (x : Plan). applied_all x.edits s) p) }
 
-pub core_not : (s next : Core) (cs : List Check) (a : Answer) (es : List Edit) (reply : plan.Reply) (q : Refusal) → first_failing cs ≡ Refused q → reply ≡ refused q → next ≡ s → CoreCarried s (checked cs a es) reply next
+pub core_not : (s next : Core) (cs : List Check) (a : Answer) (es : List Edit) (reply : plan.Reply) (q : Refusal) → first_failing cs ≡ Err q → reply ≡ refused q → next ≡ s → CoreCarried s (checked cs a es) reply next
 core_not s next cs a es reply q e d n =
     let p : checked cs a es ≡ record { reply = refused q; edits = [] } = refused_plan cs a es q e in
     record { answer = d ∙ sym (ap (λ (x : Plan). x.reply) p); core = n ∙ sym (ap (λ (x : Plan). applied_all x.edits s) p) }
 
-pub core_done : (s next : Core) (cs : List Check) (es : List Edit) (r : Reply) → r ≡ first_failing cs → r ≡ Done → next ≡ applied_all es s → CoreCarried s (checked cs done es) (reply_of r) next
+pub core_done : (s next : Core) (cs : List Check) (es : List Edit) (r : Reply) → r ≡ first_failing cs → r ≡ Ok tt → next ≡ applied_all es s → CoreCarried s (checked cs done es) (reply_of r) next
 core_done s next cs es r e d n = core_as s next cs done es (reply_of r) (sym e ∙ d) (ap reply_of d) n
 
-pub core_refused : (s next : Core) (cs : List Check) (es : List Edit) (r : Reply) (q : Refusal) → r ≡ first_failing cs → r ≡ Refused q → next ≡ s → CoreCarried s (checked cs done es) (reply_of r) next
+pub core_refused : (s next : Core) (cs : List Check) (es : List Edit) (r : Reply) (q : Refusal) → r ≡ first_failing cs → r ≡ Err q → next ≡ s → CoreCarried s (checked cs done es) (reply_of r) next
 core_refused s next cs es r q e d n = core_not s next cs done es (reply_of r) q (sym e ∙ d) (ap reply_of d) n
 
 -- a call that was accepted has a core that stands, and its checks pass over the frames that it stands with
 pub record Passed (s : Core) (cs : List Check) : Type 0 where
   pub stands : Stands s
-  pub checks : first_failing (after28 (not (valid limits16 (model_of stands.entries stands.changes s))) cs) ≡ Done
+  pub checks : first_failing (after28 (not (valid limits16 (model_of stands.entries stands.changes s))) cs) ≡ Ok tt
 
-pub passed : (whole : Bool) (s : Core) (cs : List Check) → (whole ≡ true → Stands s) → first_failing (after28 (not whole) cs) ≡ Done → Passed s cs
+pub passed : (whole : Bool) (s : Core) (cs : List Check) → (whole ≡ true → Stands s) → first_failing (after28 (not whole) cs) ≡ Ok tt → Passed s cs
 passed true s cs f e = let g : Stands s = f refl in record { stands = g; checks = ap (λ (b : Bool). first_failing (after28 (not b) cs)) g.passes ∙ e }
 passed false s cs f e = let z : ◌≡◌ {A = ℕ} 0 1 = cc in absurd (omega arith)
 
@@ -55,14 +55,14 @@ pub card_below : (m : Model) (c : ℕ) → not (is_card limits16 m c) ≡ false 
 card_below m c e = let l : c < limits16.width = ltb-true c limits16.width (and_left (ltb c limits16.width) (m.present c) (not-false (is_card limits16 m c) e)) in omega (arith, width16)
 
 -- what the checks of a call that was accepted show: the first, the second, and so on, did not fail
-module _ (b₁ : Bool) (r₁ : Refusal) (b₂ : Bool) (r₂ : Refusal) (cs : List Check) (e : first_failing (b₁ ⇒ r₁ ∷ b₂ ⇒ r₂ ∷ cs) ≡ Done) where
+module _ (b₁ : Bool) (r₁ : Refusal) (b₂ : Bool) (r₂ : Refusal) (cs : List Check) (e : first_failing (b₁ ⇒ r₁ ∷ b₂ ⇒ r₂ ∷ cs) ≡ Ok tt) where
   pub first_passes : b₁ ≡ false
   first_passes = (passes b₁ r₁ (b₂ ⇒ r₂ ∷ cs) e).here
 
   pub second_passes : b₂ ≡ false
   second_passes = (passes b₂ r₂ cs (passes b₁ r₁ (b₂ ⇒ r₂ ∷ cs) e).after).here
 
-  pub two_pass : first_failing cs ≡ Done
+  pub two_pass : first_failing cs ≡ Ok tt
   two_pass = (passes b₂ r₂ cs (passes b₁ r₁ (b₂ ⇒ r₂ ∷ cs) e).after).after
 
 -- a change that is known stands in one of the slots, and is open there

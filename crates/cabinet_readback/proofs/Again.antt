@@ -1,4 +1,5 @@
 -- An accepted read-out is the very bytes that the restarted cabinet writes. Assumes nothing.
+use Rattle.std.specs.Prelude.{Ok}
 use Prim.Native.Nat.{ℕ, suc, ◌+◌, ◌-◌, ◌≤◌, ◌<◌}
 use mathlib.Core.Path.{◌≡◌, refl, sym, ◌∙◌, ap, ap₂}
 use mathlib.Core.List.{List}
@@ -8,7 +9,6 @@ use lib.ListN.{length, get_or}
 use borrow.Author.Tests.{ltb-true, ltb-false}
 use Rattle.base_laws.proofs.Logic.{test, cond_true, cond_false}
 use Rattle.base_laws.proofs.Fill.{tabulate_ext}
-use Rattle.base_refusal.specs.declared.Reply.TheVariants.{Done}
 use Rattle.sheet_lines.specs.Format.{formats}
 use Rattle.sheet_lines.specs.Lines.{no_frame}
 use Rattle.sheet_pages.specs.Pages.{Page, pages_bytes}
@@ -24,7 +24,7 @@ use Rattle.cabinet_readback.specs.Readback.{WritesTheSame}
 use Rattle.sheet_readout.proofs.Accepted.{AcceptedPages, accepted_pages, joint_passed, session_low, session_high}
 use Rattle.cabinet_readback.proofs.Shown.{stored_is, long, change_at_lem, vector_at_lem}
 
-module _ (ps : List Page) (w : Whole formats ps) (joint : joint_verdict ps ≡ Done) where
+module _ (ps : List Page) (w : Whole formats ps) (joint : joint_verdict ps ≡ Ok tt) where
   abbrev m : Model
   m = restarted limits16 ps
 

@@ -1,4 +1,5 @@
 -- The cabinet that restarts from an accepted read-out passes 28. Assumes nothing.
+use Rattle.std.specs.Prelude.{Ok}
 use Prim.Native.Nat.{ℕ, zero, suc, ◌+◌, ◌-◌, ◌≤◌, ◌<◌, zero-le}
 use mathlib.Core.Path.{◌≡◌, refl, sym, ◌∙◌, ap, subst}
 use mathlib.Core.Bool.{Bool, true, false, not, ◌&&◌, ◌||◌, cond}
@@ -19,7 +20,6 @@ use Rattle.theory_history.specs.Line.{line_from}
 use Rattle.theory_history.proofs.Climb.{line_climbed}
 use Rattle.theory_protocol.specs.Model.{Model}
 use Rattle.theory_protocol.specs.Valid.{valid, session_valid, cards_valid, numbers_valid, entries_valid, frame_valid, rises_valid, frames_valid, line_valid, card_valid, slot_valid}
-use Rattle.base_refusal.specs.declared.Reply.TheVariants.{Done}
 use Rattle.sheet_lines.specs.Format.{formats}
 use Rattle.sheet_pages.specs.Pages.{Page}
 use Rattle.sheet_pages.specs.Ring.{no_page, page_at}
@@ -33,7 +33,7 @@ use Rattle.cabinet_readback.specs.Readback.{NeverRefused28}
 use Rattle.sheet_readout.proofs.Accepted.{AcceptedPages, accepted_pages, joint_passed, lowest_some}
 use Rattle.cabinet_readback.proofs.Shown.{stored_is, long, change_at_lem, vector_at_lem, passes}
 
-module _ (ps : List Page) (w : Whole formats ps) (joint : joint_verdict ps ≡ Done) where
+module _ (ps : List Page) (w : Whole formats ps) (joint : joint_verdict ps ≡ Ok tt) where
   abbrev m : Model
   m = restarted limits16 ps
 

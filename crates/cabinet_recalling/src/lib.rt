@@ -26,8 +26,9 @@ fn last_vector(entries: &[u32; Limits::ENTRIES], card: usize, base: u32, stored:
     ensures { result ≡ vector_for (cond (ltb base stored) (ring_frame entries.now card stored) no_entries) }
 {
     if base < stored {
-        let v = vector_of(entries, card, stored);
-        Vector { entries: v }
+        Vector {
+            entries: vector_of(entries, card, stored),
+        }
     } else {
         Vector {
             entries: [0u32; Limits::CARDS],
@@ -47,11 +48,8 @@ pub fn last_vectors(
         entries: [0u32; Limits::CARDS],
     };
     let mut out = [none; Limits::CARDS];
-    let mut c: usize = 0;
-    while c < Limits::CARDS {
-        let v = last_vector(entries, c, base[c], stored[c]);
-        out[c] = v;
-        c += 1;
+    for c in 0..Limits::CARDS {
+        out[c] = last_vector(entries, c, base[c], stored[c]);
     }
     out
 }
@@ -72,12 +70,8 @@ pub fn rolled_cards(sessions: [u32; Limits::CARDS], low: u32) -> u16
     ensures { result ≡ set_of (λ c. ltb low (at sessions c)) }
 {
     let mut rolled: u16 = 0;
-    let mut c: u32 = 0;
-    while c < Limits::CARDS_U32 {
-        let s = sessions[c as usize];
-        let more = with_if(rolled, low < s, c);
-        rolled = more;
-        c += 1;
+    for c in 0..Limits::CARDS_U32 {
+        rolled = with_if(rolled, low < sessions[c as usize], c);
     }
     rolled
 }

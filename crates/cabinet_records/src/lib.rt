@@ -51,9 +51,7 @@ pub fn fill<'a>(list: &'a mut [CardRecord], numbers: CardNumbers)
     ensures { list.new ≡ filled numbers list.old }
 {
     let n = places_used(numbers, list.len());
-    let mut i = 0;
-    while i < n {
+    for i in 0..n {
         list[i] = record_of(numbers, i);
-        i = i + 1;
     }
 }

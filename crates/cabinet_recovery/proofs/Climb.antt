@@ -1,5 +1,5 @@
 -- A line climbed so far, and the line of the frames in hand as the line of the ring's frames. Assumes nothing.
-use Prim.Native.Nat.{ℕ, zero, suc, ◌+◌, ◌-◌, ◌≤◌, ◌<◌, zero-le}
+use Prim.Native.Nat.{ℕ, zero, suc, ◌+◌, ◌-◌, ◌≤◌, ◌<◌, max, zero-le}
 use mathlib.Core.Path.{◌≡◌, refl, sym, ◌∙◌, ap, ap₂}
 use mathlib.Core.Bool.{Bool, true, false, ◌&&◌, cond}
 use mathlib.Core.List.{List, []}
@@ -53,6 +53,13 @@ climbed_hit {f} {base} {top} {x} r h e =
 -- the top is reached
 pub climbed_done : {f : ℕ → Bool} {base top x : ℕ} → ClimbedSoFar f base top x → top ≤ x → x ≡ climb f base (top - base)
 climbed_done {f} {base} {top} {x} r h = sym (r.so ∙ ap (λ (k : ℕ). climb f x k) (let e : top - x ≡ 0 = omega arith in e))
+
+-- where the climb is over, it stands at the top, or at a base above it
+pub climbed_top : {f : ℕ → Bool} {base top x : ℕ} → ClimbedSoFar f base top x → top ≤ x → (base ≤ top → x ≤ top) → max base top ≡ climb f base (top - base)
+climbed_top {f} {base} {top} {x} r h u =
+    by_cases (dec_lt top base)
+    (λ (l : top < base). let e : max base top ≡ base = omega arith in e ∙ ap (λ (k : ℕ). climb f base k) (let z : 0 ≡ top - base = omega (arith, l) in z))
+    (λ (l : ¬ (top < base)). let b : base ≤ top = omega (arith, l) in let v : x ≤ top = u b in let e : max base top ≡ x = omega arith in e ∙ climbed_done r h)
 
 -- ---- tests that agree above base climb to the same line
 pub climb_same : (f g : ℕ → Bool) (base k : ℕ) → ((x : ℕ) → base < x → x ≤ base + k → f x ≡ g x) → climb f base k ≡ climb g base k

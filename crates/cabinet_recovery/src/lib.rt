@@ -11,25 +11,18 @@ use base_limits::Limits;
 use base_refusal::Refusal;
 use cabinet_layout::Head;
 
-// What fix answers: how many changes are lost; their numbers stand in the lent list, rising.
-#[derive(Clone, Copy)]
-pub enum FixReply {
-    Fixed(usize),
-    NotFixed(Refusal),
-}
-
 // What the core of fix hands back.
 #[derive(Drop)]
 pub struct Outcome {
     pub line: [u32; Limits::CARDS],
-    pub reply: FixReply,
+    pub reply: Result<usize, Refusal>,
 }
 
 // "at or above stored": an entry is kept as the number above its state, 0 for none.
 fn hits(entry: u32, stored: u32) -> bool
     ensures { result ≡ ltb stored entry }
 {
-    (stored as u64) + 1 <= (entry as u64)
+    stored < entry
 }
 
 // "A state is hit when some entry of its vector, for card j, is at or above stored of j": the vector that begins at a place of the ring.
@@ -37,13 +30,7 @@ fn orphan_from(entries: &[u32; Limits::ENTRIES], stored: [u32; Limits::CARDS], f
     requires { from + 16 ≤ 12288 }
     ensures { result ≡ orphan limits16.width (at stored) (λ j. at entries.now (from + j)) }
 {
-    let mut hit = false;
-    let mut j: usize = 0;
-    while j < Limits::CARDS {
-        hit = hit | hits(entries[from + j], stored[j]);
-        j += 1;
-    }
-    hit
+    (0..Limits::CARDS).any(|j| hits(entries[from + j], stored[j]))
 }
 
 // State x of the card is an orphan.
@@ -71,15 +58,12 @@ fn climbed(
     requires { card < 16 }
     ensures { result ≡ line_from limits16.width (at stored) (ring_frame entries.now card) base reached }
 {
-    let mut x = base;
-    while x < reached {
-        let hit = is_orphan(entries, stored, card, x + 1);
-        if hit {
+    for x in base..reached {
+        if is_orphan(entries, stored, card, x + 1) {
             return x;
         }
-        x += 1;
     }
-    x
+    base.max(reached)
 }
 
 // The line of a card whose numbers are base and reached; of a card that is not there, its base.
@@ -111,11 +95,8 @@ pub fn lines(
     ensures { result ≡ list_of (lines limits16 (model_of entries.now [] (with_numbers (bare head) base stored [] reached))) }
 {
     let mut out = [0u32; Limits::CARDS];
-    let mut c: usize = 0;
-    while c < Limits::CARDS {
-        let x = line_of(entries, head, stored, c as u32, base[c], reached[c]);
-        out[c] = x;
-        c += 1;
+    for c in 0..Limits::CARDS {
+        out[c] = line_of(entries, head, stored, c as u32, base[c], reached[c]);
     }
     out
 }

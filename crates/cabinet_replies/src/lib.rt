@@ -1,32 +1,23 @@
 // The reply of a call: the first check that fails, in document 01's order. Of store, its beginning and its end, and of lose.
 #![tactic(auto)]
 
-ghost use Rattle.std.specs.Prelude.{◌≡◌, not, []};
+ghost use Rattle.std.specs.Prelude.{◌≡◌, not, cond, [], Ok, Err};
 ghost use Rattle.base_bits.specs.Member.{member};
 ghost use Rattle.theory_protocol.specs.Model.{is_card};
 ghost use Rattle.theory_protocol.specs.Calls.{store_checks, end_checks, lose_checks};
 ghost use Rattle.cabinet_layout.specs.Shape.{limits16, head_model, writes_model};
-ghost use Rattle.cabinet_layout.specs.Answers.{next, first_failing, after28};
+ghost use Rattle.cabinet_layout.specs.Answers.{first_failing, after28};
 
 use base_limits::Limits;
 use base_refusal::{Refusal, Reply};
 use cabinet_layout::{Head, at, is_rolling};
 use cabinet_writes::writes_to;
 
-// One check more: it refuses where no earlier one did and it fails.
-pub fn next(earlier: Reply, fails: bool, r: Refusal) -> Reply
-    ensures { result ≡ next earlier fails r }
+// One check: it refuses where it fails.
+pub fn refuse_if(fails: bool, r: Refusal) -> Reply
+    ensures { result ≡ cond fails (Err r) (Ok tt) }
 {
-    match earlier {
-        Reply::Done => {
-            if fails {
-                Reply::Refused(r)
-            } else {
-                Reply::Done
-            }
-        }
-        Reply::Refused(q) => Reply::Refused(q),
-    }
+    if fails { Err(r) } else { Ok(()) }
 }
 
 pub fn is_card(head: Head, c: u32) -> bool
@@ -48,20 +39,14 @@ pub fn store_verdict(
     ensures { result ≡ first_failing (after28 (not valid) (store_checks limits16 (writes_model head stored held [] writing) card state)) }
 {
     let there = is_card(head, card);
-    let phase = head.phase;
-    let rolling = is_rolling(phase);
+    refuse_if(!valid, Refusal::BadCabinet)?;
+    refuse_if(!there, Refusal::NoSuchCard)?;
+    refuse_if(is_rolling(head.phase), Refusal::WrongPhase)?;
     let low = at(stored, card);
     let high = at(held, card);
     let running = at(writing, card);
-    let r = next(Reply::Done, !valid, Refusal::BadCabinet);
-    let r = next(r, !there, Refusal::NoSuchCard);
-    let r = next(r, rolling, Refusal::WrongPhase);
-    let r = next(
-        r,
-        !((low <= state) & (state <= high)),
-        Refusal::StoreOutside,
-    );
-    next(r, running != 0, Refusal::WriteRunning)
+    refuse_if(!((low <= state) & (state <= high)), Refusal::StoreOutside)?;
+    refuse_if(running != 0, Refusal::WriteRunning)
 }
 
 // The end of a store.
@@ -75,17 +60,14 @@ pub fn end_verdict(
 ) -> Reply
     ensures { result ≡ first_failing (after28 (not valid) (end_checks limits16 (writes_model head stored [] [] writing) card state)) }
 {
-    let there = is_card(head, card);
-    let phase = head.phase;
-    let rolls = is_rolling(phase);
+    refuse_if(!valid, Refusal::BadCabinet)?;
+    refuse_if(!is_card(head, card), Refusal::NoSuchCard)?;
+    let rolls = is_rolling(head.phase);
+    refuse_if(rolls, Refusal::WrongPhase)?;
     let low = at(stored, card);
     let running = at(writing, card);
     let high = writes_to(running);
-    let r = next(Reply::Done, !valid, Refusal::BadCabinet);
-    let r = next(r, !there, Refusal::NoSuchCard);
-    let r = next(r, rolls, Refusal::WrongPhase);
-    next(
-        r,
+    refuse_if(
         !((running != 0) & (low <= state) & (state <= high)),
         Refusal::EndOutside,
     )
@@ -95,7 +77,7 @@ pub fn end_verdict(
 pub fn lose_verdict(valid: bool, head: Head, cards: u16) -> Reply
     ensures { result ≡ first_failing (after28 (not valid) (lose_checks limits16 (head_model head) (member cards))) }
 {
+    refuse_if(!valid, Refusal::BadCabinet)?;
     let inside = base_set_bounds::within(cards, head.cards);
-    let r = next(Reply::Done, !valid, Refusal::BadCabinet);
-    next(r, !inside, Refusal::NoSuchCard)
+    refuse_if(!inside, Refusal::NoSuchCard)
 }

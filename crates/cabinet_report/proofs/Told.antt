@@ -1,4 +1,5 @@
 -- The text of what a restart answers and hands back. Assumes nothing.
+use Rattle.std.specs.Prelude.{Ok, Err}
 use Prim.Native.Nat.{ℕ, zero, suc, ◌+◌, ◌≤◌, ◌<◌}
 use mathlib.Core.Path.{◌≡◌, refl, sym, ◌∙◌, ap, ap₂}
 use mathlib.Core.List.{List, ◌++◌}
@@ -7,8 +8,7 @@ use native.Mathlib.Omega.{arith}
 use lib.ListN.{length}
 use Rattle.base_refusal.specs.declared.Refusal.{Refusal}
 use Rattle.base_refusal.specs.Number.{number_of}
-use Rattle.base_refusal.specs.declared.Reply.{Reply}
-use Rattle.base_refusal.specs.declared.Reply.TheVariants.{Done, Refused}
+use Rattle.base_refusal.specs.Reply.{Reply}
 use Rattle.sheet_readout.specs.Joint.{pages_read, readout_of}
 use Rattle.sheet_readout.proofs.Accepted.{accepted_pages, joint_passed, readout_pages}
 use Rattle.theory_history.specs.Change.{Numbers}
@@ -30,20 +30,20 @@ rows_same zero s l s' l' e f = refl
 rows_same (suc n) s l s' l' e f =
     ap₂ (λ (a b : List ℕ). a ++ b) (rows_same n s l s' l' (λ c h. e c (le_step h)) (λ c h. f c (le_step h))) (ap₂ (row_text n) (e n (lt-suc_self n)) (f n (lt-suc_self n)))
 
-is_accepted : (v : Reply) → accepted done ≡ reply_of v → v ≡ Done
-is_accepted Done e = refl
-is_accepted (Refused q) e = let z : ◌≡◌ {A = ℕ} 0 1 = cc in absurd (omega arith)
+is_accepted : (v : Reply) → accepted done ≡ reply_of v → v ≡ Ok tt
+is_accepted (Ok tt) e = refl
+is_accepted (Err q) e = let z : ◌≡◌ {A = ℕ} 0 1 = cc in absurd (omega arith)
 
-is_refused : (v : Reply) (q : Refusal) → refused q ≡ reply_of v → v ≡ Refused q
-is_refused Done q e = let z : ◌≡◌ {A = ℕ} 0 1 = cc in absurd (omega arith)
-is_refused (Refused x) q e = let z : x ≡ q = cc in ap Refused z
+is_refused : (v : Reply) (q : Refusal) → refused q ≡ reply_of v → v ≡ Err q
+is_refused (Ok tt) q e = let z : ◌≡◌ {A = ℕ} 0 1 = cc in absurd (omega arith)
+is_refused (Err x) q e = let z : x ≡ q = cc in ap Err z
 
 module _ (bytes : List ℕ) (reply : Reply) (next : Cabinet) (h : Restarted bytes (reply_of reply) next) where
-  module _ (d : reply ≡ Done) where
+  module _ (d : reply ≡ Ok tt) where
     abbrev m : Model
     m = restarted_from limits16 bytes
 
-    was_accepted : restart_reply bytes ≡ Done
+    was_accepted : restart_reply bytes ≡ Ok tt
     was_accepted = is_accepted (restart_reply bytes) (sym (ap reply_of d) ∙ h.answer)
 
     -- the number of cards, that of the sheets
@@ -74,7 +74,7 @@ module _ (bytes : List ℕ) (reply : Reply) (next : Cabinet) (h : Restarted byte
         below : (c : ℕ) → c < length (pages_read bytes).pages → c < 16
         below c l = omega (arith, sixteen, l)
 
-  pub refused_same : (q : Refusal) (n : ℕ) {t : Text} → reply ≡ Refused q → n ≡ number_of q → t ≡ text_of (refused_text n) → t ≡ text_of (line_text bytes)
+  pub refused_same : (q : Refusal) (n : ℕ) {t : Text} → reply ≡ Err q → n ≡ number_of q → t ≡ text_of (refused_text n) → t ≡ text_of (line_text bytes)
   refused_same q n d k e =
-      let v : restart_reply bytes ≡ Refused q = is_refused (restart_reply bytes) q (sym (ap reply_of d) ∙ h.answer) in
+      let v : restart_reply bytes ≡ Err q = is_refused (restart_reply bytes) q (sym (ap reply_of d) ∙ h.answer) in
       e ∙ ap (λ (x : ℕ). text_of (refused_text x)) k ∙ sym (ap (λ (y : Reply). text_of (text_for y (length (pages_read bytes).pages) (restarted_from limits16 bytes))) v)

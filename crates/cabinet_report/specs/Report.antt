@@ -1,13 +1,12 @@
 -- What the line program prints: document 01, "Card sheets and restart". A text is a list of bytes.
-use Rattle.std.specs.Prelude.{ℕ, zero, suc, ◌+◌, List, [], ◌∷◌, ◌++◌, length, replicate}
+use Rattle.std.specs.Prelude.{ℕ, zero, suc, ◌+◌, List, [], ◌∷◌, ◌++◌, length, replicate, Ok, Err}
 use Rattle.std.proofs.lemmas.List.Edits.{sets}
 use Rattle.base_refusal.specs.Number.{number_of}
 use Rattle.base_decimal.specs.Digits.{decimal}
 use Rattle.base_text.specs.declared.Progress.{Progress}
 use Rattle.base_text.specs.declared.Progress.TheVariants.{Next, Counting, TooShort}
 use Rattle.base_lines.specs.Lines.{text_line}
-use Rattle.base_refusal.specs.declared.Reply.{Reply}
-use Rattle.base_refusal.specs.declared.Reply.TheVariants.{Done, Refused}
+use Rattle.base_refusal.specs.Reply.{Reply}
 use Rattle.sheet_readout.specs.Joint.{pages_read}
 use Rattle.theory_history.specs.Change.{Numbers}
 use Rattle.theory_protocol.specs.Model.{Model}
@@ -33,8 +32,8 @@ refused_text n = text_line (114 ∷ 101 ∷ 102 ∷ 117 ∷ 115 ∷ 101 ∷ 100 
 
 -- "then the session after recovery"; "A refusal prints one line alone, as `refused 8`."
 abbrev pub text_for : Reply → ℕ → Model → List ℕ
-text_for Done n m = rows_text n m.numbers.stored m.line ++ session_text (m.session + 1)
-text_for (Refused r) n m = refused_text (number_of r)
+text_for (Ok tt) n m = rows_text n m.numbers.stored m.line ++ session_text (m.session + 1)
+text_for (Err r) n m = refused_text (number_of r)
 
 -- the text for any bytes on standard input; there are as many cards as sheets
 abbrev pub line_text : List ℕ → List ℕ

@@ -8,8 +8,8 @@ ghost use Rattle.cabinet_layout.specs.Shape.{at};
 ghost use Rattle.cabinet_report.specs.Report.{text_at, text_of, row_text, rows_text, session_text, refused_text, line_text};
 
 use base_limits::Limits;
-use base_refusal::Reply;
 use base_text::Progress;
+use cabinet_layout::Core;
 
 // A text of so many bytes, at the front of an array.
 #[derive(Drop)]
@@ -22,20 +22,11 @@ pub struct Text {
 fn text_at(bytes: [u8; 560], w: Progress) -> Text
     ensures { result ≡ text_at bytes w }
 {
-    match w {
-        Progress::Next(n) => Text {
-            bytes: bytes,
-            length: n,
-        },
-        Progress::Counting(_) => Text {
-            bytes: bytes,
-            length: 0,
-        },
-        Progress::TooShort => Text {
-            bytes: bytes,
-            length: 0,
-        },
-    }
+    let length = match w {
+        Progress::Next(n) => n,
+        _ => 0,
+    };
+    Text { bytes, length }
 }
 
 // Writes a card's line: "card, stored, line".
@@ -43,8 +34,7 @@ fn put_card(b: &mut [u8], w: Progress, card: u32, stored: u32, line: u32) -> Pro
     ensures so { Put b.old w (row_text card stored line) result b.new }
     ensures room { length (row_text card stored line) ≤ 33 }
 {
-    let numbers = [stored, line];
-    base_lines::put_row(b, w, card, &numbers)
+    base_lines::put_row(b, w, card, &[stored, line])
 }
 
 // Writes the lines of the first cards.
@@ -59,11 +49,9 @@ fn put_cards(
     ensures room { length (rows_text cards (at stored) (at line)) ≤ 528 }
 {
     let mut w = Progress::Next(0);
-    let mut c: u32 = 0;
-    while c < cards {
+    for c in 0..cards {
         let i = c as usize;
         w = put_card(b, w, c, stored[i], line[i]);
-        c += 1;
     }
     w
 }
@@ -100,19 +88,16 @@ pub fn line_text(bytes: &[u8]) -> Text
     ensures { result ≡ text_of (line_text bytes.now) }
 {
     let a = cabinet_restart::restart(bytes);
-    let r = a.reply;
-    match r {
-        Reply::Done => {
-            let c = a.cabinet;
-            let core = c.core;
-            let head = core.head;
-            let stored = core.stored;
-            let line = core.line;
+    match a.reply {
+        Ok(()) => {
+            let Core {
+                head,
+                stored,
+                line,
+                ..
+            } = a.cabinet.core;
             accepted_text(head.cards, head.session, stored, line)
         }
-        Reply::Refused(q) => {
-            let n = base_refusal::number(q);
-            refused_text(n)
-        }
+        Err(q) => refused_text(u32::from(q)),
     }
 }

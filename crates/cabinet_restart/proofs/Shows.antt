@@ -1,4 +1,5 @@
 -- The restarted cabinet, list by list, shows the model that restarts from the read-out. Assumes nothing.
+use Rattle.std.specs.Prelude.{Ok, Err}
 use Prim.Native.Nat.{ℕ, suc, ◌+◌, ◌*◌, ◌-◌, ◌≤◌, ◌<◌}
 use mathlib.Core.Path.{◌≡◌, refl, sym, ◌∙◌, ap, ap₂, subst}
 use mathlib.Core.Bool.{Bool, true, false, ◌&&◌, cond}
@@ -54,8 +55,7 @@ use Rattle.cabinet_readback.proofs.Again.{writes_the_same}
 use Rattle.cabinet_readback.proofs.Whole.{never_refused_28}
 use Rattle.cabinet.specs.Fresh.{zero_cabinet, void_head}
 use Rattle.base_refusal.specs.declared.Refusal.{Refusal}
-use Rattle.base_refusal.specs.declared.Reply.{Reply}
-use Rattle.base_refusal.specs.declared.Reply.TheVariants.{Done, Refused}
+use Rattle.base_refusal.specs.Reply.{Reply}
 use Rattle.sheet_pages.specs.declared.Reading.{Reading}
 use Rattle.theory_protocol.specs.Plan.{done, accepted, refused, reply_of}
 use Rattle.cabinet_restart.specs.Restart.{cabinet_of, restarted_cabinet, cabinet_for, Restarted, RestartGoesOn, VoidRefused, Within}
@@ -236,7 +236,7 @@ restarted_is r z w s line vs head core low rolled q el er ev eh en ec =
 
 -- ---- the cabinet behind a restart
 -- what an accepted read-out shows of its numbers
-pub within : (bytes : List ℕ) → restart_reply bytes ≡ Done → Within (readout_of bytes).readout
+pub within : (bytes : List ℕ) → restart_reply bytes ≡ Ok tt → Within (readout_of bytes).readout
 within bytes e = whole_within (pages_read bytes).pages (accepted_pages bytes e).whole
   where
     whole_within : (ps : List Page) → Whole formats ps → Within (lay_pages ps no_readout)
@@ -279,7 +279,7 @@ within bytes e = whole_within (pages_read bytes).pages (accepted_pages bytes e).
             long : length (get_or (page_at ps c).frames (x - suc (page_at ps c).header.base) no_frame).entries ≡ length ps
             long = formed_at (length ps) (page_at ps c).frames (w.sheet c here).formed (x - suc (page_at ps c).header.base) inside
 
-module _ (bytes : List ℕ) (e : restart_reply bytes ≡ Done) where
+module _ (bytes : List ℕ) (e : restart_reply bytes ≡ Ok tt) where
   abbrev read : Readout
   read = (readout_of bytes).readout
 
@@ -310,18 +310,18 @@ void_refused = refl
 
 -- ---- what a restart answers and hands back
 module _ (bytes : List ℕ) (x : Reading) (e : x ≡ readout_of bytes) where
-  pub read_within : x.verdict ≡ Done → Within x.readout
+  pub read_within : x.verdict ≡ Ok tt → Within x.readout
   read_within a = subst (λ (y : Reading). Within y.readout) (sym e) (within bytes (sym (ap (λ (y : Reading). y.verdict) e) ∙ a))
 
-  pub restart_done : (next : Cabinet) → x.verdict ≡ Done → next ≡ restarted_cabinet x.readout → Restarted bytes (accepted done) next
+  pub restart_done : (next : Cabinet) → x.verdict ≡ Ok tt → next ≡ restarted_cabinet x.readout → Restarted bytes (accepted done) next
   restart_done next a n =
-      let v : restart_reply bytes ≡ Done = sym (ap (λ (y : Reading). y.verdict) e) ∙ a in
+      let v : restart_reply bytes ≡ Ok tt = sym (ap (λ (y : Reading). y.verdict) e) ∙ a in
       record {
         answer = sym (ap reply_of v);
         cabinet = n ∙ ap (λ (y : Reading). restarted_cabinet y.readout) e ∙ sym (ap (λ (y : Reply). cabinet_for y (readout_of bytes).readout) v);
       }
 
-  pub restart_refused : (next : Cabinet) (q : Refusal) → x.verdict ≡ Refused q → next ≡ zero_cabinet void_head → Restarted bytes (refused q) next
+  pub restart_refused : (next : Cabinet) (q : Refusal) → x.verdict ≡ Err q → next ≡ zero_cabinet void_head → Restarted bytes (refused q) next
   restart_refused next q a n =
-      let v : restart_reply bytes ≡ Refused q = sym (ap (λ (y : Reading). y.verdict) e) ∙ a in
+      let v : restart_reply bytes ≡ Err q = sym (ap (λ (y : Reading). y.verdict) e) ∙ a in
       record { answer = sym (ap reply_of v); cabinet = n ∙ sym (ap (λ (y : Reply). cabinet_for y (readout_of bytes).readout) v) }

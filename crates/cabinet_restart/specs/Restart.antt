@@ -1,11 +1,10 @@
 -- The cabinet that a restart hands back, list by list.
-use Rattle.std.specs.Prelude.{ℕ, ◌+◌, ◌*◌, ◌≤◌, ◌<◌, ◌≡◌, true, false, List}
+use Rattle.std.specs.Prelude.{ℕ, ◌+◌, ◌*◌, ◌≤◌, ◌<◌, ◌≡◌, true, false, List, Ok, Err}
 use Rattle.base_limits.specs.Ring.{ring_place}
 use Rattle.base_limits.specs.Document.{most_cards, last_state}
 use Rattle.base_laws.specs.Below.{tabulate}
 use Rattle.sheet_lines.specs.Format.{formats}
-use Rattle.base_refusal.specs.declared.Reply as refusal
-use Rattle.base_refusal.specs.declared.Reply.TheVariants.{Done, Refused}
+use Rattle.base_refusal.specs.Reply as refusal
 use Rattle.sheet_pages.specs.declared.Readout.{Readout}
 use Rattle.sheet_pages.specs.Ring.{pages_of}
 use Rattle.sheet_readout.specs.Joint.{readout_of}
@@ -47,8 +46,8 @@ restarted_cabinet r = cabinet_of r.entries r.changes r.cards (restarted limits16
 
 -- the void cabinet where the read-out is refused
 abbrev pub cabinet_for : refusal.Reply → Readout → Cabinet
-cabinet_for Done r = restarted_cabinet r
-cabinet_for (Refused x) r = zero_cabinet void_head
+cabinet_for (Ok tt) r = restarted_cabinet r
+cabinet_for (Err x) r = zero_cabinet void_head
 
 -- what a restart answers and hands back
 pub record Restarted (bytes : List ℕ) (reply : Reply) (next : Cabinet) : Type 0 where
@@ -72,7 +71,7 @@ pub record GoesOn (bytes : List ℕ) (next : Cabinet) : Type 0 where
   pub writes : joined_sheets formats limits16 (view next) ≡ bytes
 
 abbrev pub RestartGoesOn : Type 0
-RestartGoesOn = (bytes : List ℕ) (reply : Reply) (next : Cabinet) → Restarted bytes reply next → restart_reply bytes ≡ Done → GoesOn bytes next
+RestartGoesOn = (bytes : List ℕ) (reply : Reply) (next : Cabinet) → Restarted bytes reply next → restart_reply bytes ≡ Ok tt → GoesOn bytes next
 
 -- The void cabinet behind a refused one is always refused with 28.
 abbrev pub VoidRefused : Type 0

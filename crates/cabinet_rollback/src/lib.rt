@@ -8,19 +8,16 @@ ghost use Rattle.theory_protocol.specs.Calls.{trim_checks, roll_checks, all_roll
 ghost use Rattle.cabinet_layout.specs.Shape.{limits16, set_of, head_model, bare, with_line, model_of};
 ghost use Rattle.cabinet_layout.specs.Answers.{first_failing, after28};
 
-use base_limits::Limits;
 use base_refusal::{Refusal, Reply};
 use cabinet_layout::{Head, is_rolling, is_up};
-use cabinet_replies::{is_card, next};
+use cabinet_replies::{is_card, refuse_if};
 
 // 6. trim
 pub fn trim_verdict(valid: bool, head: Head) -> Reply
     ensures { result ≡ first_failing (after28 (not valid) (trim_checks limits16 (head_model head))) }
 {
-    let phase = head.phase;
-    let up = is_up(phase);
-    let r = next(Reply::Done, !valid, Refusal::BadCabinet);
-    next(r, !up, Refusal::WrongPhase)
+    refuse_if(!valid, Refusal::BadCabinet)?;
+    refuse_if(!is_up(head.phase), Refusal::WrongPhase)
 }
 
 // 10. roll
@@ -28,13 +25,11 @@ pub fn roll_verdict(valid: bool, head: Head, rolled: u16, card: u32) -> Reply
     ensures { result ≡ first_failing (after28 (not valid) (roll_checks limits16 (model_of [] [] (with_line (bare head) [] rolled)) card)) }
 {
     let there = is_card(head, card);
-    let phase = head.phase;
-    let rolling = is_rolling(phase);
+    refuse_if(!valid, Refusal::BadCabinet)?;
+    refuse_if(!there, Refusal::NoSuchCard)?;
+    refuse_if(!is_rolling(head.phase), Refusal::WrongPhase)?;
     let already = base_bits::has(rolled, card);
-    let r = next(Reply::Done, !valid, Refusal::BadCabinet);
-    let r = next(r, !there, Refusal::NoSuchCard);
-    let r = next(r, !rolling, Refusal::WrongPhase);
-    next(r, already, Refusal::AlreadyRolled)
+    refuse_if(already, Refusal::AlreadyRolled)
 }
 
 // The cards rolled, with one card more.

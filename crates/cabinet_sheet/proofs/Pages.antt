@@ -1,4 +1,6 @@
 -- The sheet of the parts of a cabinet is the sheet of the whole: no frame above stored is looked at. Assumes nothing.
+use Rattle.std.specs.Prelude.{Result}
+use Rattle.base_refusal.specs.declared.Refusal.{Refusal}
 use Prim.Native.Nat.{ℕ, suc, ◌+◌, ◌-◌, ◌≤◌, ◌<◌}
 use mathlib.Core.Path.{◌≡◌, refl, sym, ◌∙◌, ap, ap₂, subst}
 use mathlib.Core.Bool.{Bool, true, false, not}
@@ -15,7 +17,6 @@ use Rattle.base_refusal.specs.declared.Refusal.TheVariants.{NoSuchCard, TooShort
 use Rattle.sheet_lines.specs.Format.{formats}
 use Rattle.sheet_lines.specs.declared.Frame.{Frame}
 use Rattle.sheet_pages.specs.Pages.{Page, page_bytes}
-use Rattle.sheet_page_writer.specs.declared.Written.{Written}
 use Rattle.theory_history.specs.Vector.{no_entries}
 use Rattle.theory_history.specs.Vector as history
 use Rattle.theory_protocol.specs.Model.{Model, is_card}
@@ -100,7 +101,7 @@ module _ (entries changes : List ℕ) (s : Core) where
             sheet_same c (le_trans p.stored_held p.held_reached)
 
   -- what the writer of the parts tells is what the plan of the whole says
-  pub told_same : (c : ℕ) (before after : List ℕ) (whole : Bool) (reply : Written) → whole ≡ valid limits16 m
+  pub told_same : (c : ℕ) (before after : List ℕ) (whole : Bool) (reply : (Result ℕ Refusal)) → whole ≡ valid limits16 m
       → SheetResult (sheet_plan_for whole part c (length before)) before after reply
       → SheetResult (sheet_plan codec limits16 m c (length before)) before after reply
   told_same c before after whole reply ew t = subst (λ (p : Plan). SheetResult p before after reply) (plan_same c (length before) whole ew) t

@@ -1,4 +1,5 @@
 -- What the writer of a card's sheet answers is what its plan says. Assumes nothing.
+use Rattle.std.specs.Prelude.{Result, Ok, Err}
 use Prim.Native.Nat.{ℕ, ◌≤◌, ◌<◌, zero-le}
 use mathlib.Core.Path.{◌≡◌, refl, sym, ◌∙◌, ap, ap₂, subst}
 use mathlib.Core.Bool.{Bool, true, false, not}
@@ -12,9 +13,6 @@ use Rattle.base_laws.proofs.Logic.{test, not_intro, and_right}
 use Rattle.base_laws.proofs.Seq.{sets_part}
 use Rattle.base_refusal.specs.declared.Refusal.{Refusal}
 use Rattle.base_refusal.specs.declared.Refusal.TheVariants.{NoSuchCard, TooShort, BadCabinet}
-use Rattle.base_refusal.specs.declared.Reply.TheVariants.{Done}
-use Rattle.sheet_page_writer.specs.declared.Written.{Written}
-use Rattle.sheet_page_writer.specs.declared.Written.TheVariants.{Length, Refused}
 use Rattle.sheet_page_writer.specs.Write.{Wrote, wrote_bytes}
 use Rattle.sheet_page_writer.proofs.Rows.{wrote_short, wrote_whole}
 use Rattle.theory_protocol.specs.Plan.{Answer, written, Check, ◌⇒◌, Plan, checked, accepted, refused}
@@ -32,13 +30,13 @@ use Rattle.cabinet_sheet.specs.Card.{Within, sheet_model, sheet_plan_for, SheetR
 use Rattle.cabinet_sheet.proofs.Sheets.{page_is, header_passes}
 
 -- a plan that refuses, and a writer that answers that refusal and changes no byte
-told_refused : (p : Plan) (before : List ℕ) (r : Refusal) → p ≡ record { reply = refused r; edits = [] } → SheetResult p before before (Refused r)
-told_refused p before r e = subst (λ (q : Plan). SheetResult q before before (Refused r)) (sym e) (record { answer = refl; inside = zero-le; buffer = refl })
+told_refused : (p : Plan) (before : List ℕ) (r : Refusal) → p ≡ record { reply = refused r; edits = [] } → SheetResult p before before (Err r)
+told_refused p before r e = subst (λ (q : Plan). SheetResult q before before (Err r)) (sym e) (record { answer = refl; inside = zero-le; buffer = refl })
 
 -- a plan that accepts, and a writer that answers the length of the bytes and leaves them at the front of the buffer
-told_written : (p : Plan) (bytes before : List ℕ) → length bytes ≤ length before → p ≡ record { reply = accepted (written bytes); edits = [] } → SheetResult p before (sets before 0 bytes) (Length (length bytes))
+told_written : (p : Plan) (bytes before : List ℕ) → length bytes ≤ length before → p ≡ record { reply = accepted (written bytes); edits = [] } → SheetResult p before (sets before 0 bytes) (Ok (length bytes))
 told_written p bytes before h e =
-    subst (λ (q : Plan). SheetResult q before (sets before 0 bytes) (Length (length bytes))) (sym e)
+    subst (λ (q : Plan). SheetResult q before (sets before 0 bytes) (Ok (length bytes))) (sym e)
     (record {
       answer = ap (λ (l : List ℕ). accepted (written l)) (sets_part bytes before 0 (omega arith));
       inside = let l = length-sets before 0 bytes in omega arith;
@@ -46,25 +44,25 @@ told_written p bytes before h e =
     })
 
 -- the last check: "lent list or buffer too short for the whole answer"
-told_last : (bytes before after : List ℕ) (reply : Written) (p : Plan)
+told_last : (bytes before after : List ℕ) (reply : (Result ℕ Refusal)) (p : Plan)
     → p ≡ checked (ltb (length before) (length bytes) ⇒ TooShort ∷ []) (written bytes) []
-    → reply ≡ (wrote_bytes Done bytes before).answer → after ≡ (wrote_bytes Done bytes before).buffer → SheetResult p before after reply
+    → reply ≡ (wrote_bytes (Ok tt) bytes before).answer → after ≡ (wrote_bytes (Ok tt) bytes before).buffer → SheetResult p before after reply
 told_last bytes before after reply p e r a =
     test (leb (length bytes) (length before)) (λ t. fits (leb-true (length bytes) (length before) t)) (λ t. short (leb-false (length bytes) (length before) t))
   where
-    turned : (w : Wrote) → wrote_bytes Done bytes before ≡ w → SheetResult p before w.buffer w.answer → SheetResult p before after reply
+    turned : (w : Wrote) → wrote_bytes (Ok tt) bytes before ≡ w → SheetResult p before w.buffer w.answer → SheetResult p before after reply
     turned w q t =
-        subst (λ (x : Written). SheetResult p before after x) (sym (r ∙ ap (λ (y : Wrote). y.answer) q))
+        subst (λ (x : (Result ℕ Refusal)). SheetResult p before after x) (sym (r ∙ ap (λ (y : Wrote). y.answer) q))
         (subst (λ (x : List ℕ). SheetResult p before x w.answer) (sym (a ∙ ap (λ (y : Wrote). y.buffer) q)) t)
 
     fits : length bytes ≤ length before → SheetResult p before after reply
     fits h =
-        turned (record { answer = Length (length bytes); buffer = sets before 0 bytes }) (wrote_whole bytes before (length bytes) refl h)
+        turned (record { answer = Ok (length bytes); buffer = sets before 0 bytes }) (wrote_whole bytes before (length bytes) refl h)
         (told_written p bytes before h (e ∙ ap (λ (b : Bool). checked (b ⇒ TooShort ∷ []) (written bytes) []) (le-ltb (length before) (length bytes) h)))
 
     short : length before < length bytes → SheetResult p before after reply
     short h =
-        turned (record { answer = Refused TooShort; buffer = before }) (wrote_short bytes before (length bytes) refl h)
+        turned (record { answer = Err TooShort; buffer = before }) (wrote_short bytes before (length bytes) refl h)
         (told_refused p before TooShort (e ∙ ap (λ (b : Bool). checked (b ⇒ TooShort ∷ []) (written bytes) []) (lt-ltb (length before) (length bytes) h)))
 
 -- the checks before the last
@@ -89,12 +87,12 @@ module _ (whole : Bool) (entries changes : List ℕ) (h : Head) (rolled : ℕ) (
   abbrev last : List Check
   last = ltb (length before) (length bytes) ⇒ TooShort ∷ []
 
-  pub told_invalid : whole ≡ false → SheetResult (sheet_plan_for whole m c (length before)) before before (Refused BadCabinet)
+  pub told_invalid : whole ≡ false → SheetResult (sheet_plan_for whole m c (length before)) before before (Err BadCabinet)
   told_invalid e =
       told_refused (sheet_plan_for whole m c (length before)) before BadCabinet
       (first_fails (not whole) BadCabinet (not (is_card limits16 m c) ⇒ NoSuchCard ∷ last) (written bytes) (not_intro e))
 
-  pub told_absent : whole ≡ true → is_card limits16 m c ≡ false → SheetResult (sheet_plan_for whole m c (length before)) before before (Refused NoSuchCard)
+  pub told_absent : whole ≡ true → is_card limits16 m c ≡ false → SheetResult (sheet_plan_for whole m c (length before)) before before (Err NoSuchCard)
   told_absent e n =
       told_refused (sheet_plan_for whole m c (length before)) before NoSuchCard
       (first_passes (not whole) BadCabinet (not (is_card limits16 m c) ⇒ NoSuchCard ∷ last) (written bytes) (ap not e)
@@ -111,13 +109,13 @@ module _ (whole : Bool) (entries changes : List ℕ) (h : Head) (rolled : ℕ) (
     pub passes_7 : header_allowed (format_for formats hd) hd.card 0 hd ≡ true
     passes_7 = ap (λ (x : Header). header_allowed (format_for formats x) x.card 0 x) is_header ∙ header_passes entries changes h rolled base stored c w there
 
-    pub told_whole : whole ≡ true → (after : List ℕ) (reply : Written)
-        → (reply ≡ (wrote_bytes Done (page_bytes formats (ring_page changes entries hd)) before).answer) × (after ≡ (wrote_bytes Done (page_bytes formats (ring_page changes entries hd)) before).buffer)
+    pub told_whole : whole ≡ true → (after : List ℕ) (reply : (Result ℕ Refusal))
+        → (reply ≡ (wrote_bytes (Ok tt) (page_bytes formats (ring_page changes entries hd)) before).answer) × (after ≡ (wrote_bytes (Ok tt) (page_bytes formats (ring_page changes entries hd)) before).buffer)
         → SheetResult (sheet_plan_for whole m c (length before)) before after reply
     told_whole e after reply t =
         let q : ring_page changes entries hd ≡ sheet_of limits16 m c = ap (ring_page changes entries) is_header ∙ page_is entries changes h rolled base stored c w there in
         told_last bytes before after reply (sheet_plan_for whole m c (length before))
         (first_passes (not whole) BadCabinet (not (is_card limits16 m c) ⇒ NoSuchCard ∷ last) (written bytes) (ap not e)
         ∙ first_passes (not (is_card limits16 m c)) NoSuchCard last (written bytes) (ap not n))
-        (t.0 ∙ ap (λ (p : Page). (wrote_bytes Done (page_bytes formats p) before).answer) q)
-        (t.1 ∙ ap (λ (p : Page). (wrote_bytes Done (page_bytes formats p) before).buffer) q)
+        (t.0 ∙ ap (λ (p : Page). (wrote_bytes (Ok tt) (page_bytes formats p) before).answer) q)
+        (t.1 ∙ ap (λ (p : Page). (wrote_bytes (Ok tt) (page_bytes formats p) before).buffer) q)

@@ -1,5 +1,6 @@
 -- A card's sheet out of a cabinet held in lists, and what its writer answers and leaves in the buffer.
-use Rattle.std.specs.Prelude.{ℕ, ◌+◌, ◌≤◌, ◌<◌, ◌≡◌, Bool, true, not, List, [], length, take}
+use Rattle.base_refusal.specs.declared.Refusal.{Refusal}
+use Rattle.std.specs.Prelude.{ℕ, ◌+◌, ◌≤◌, ◌<◌, ◌≡◌, Bool, true, not, List, [], length, take, Result, Ok, Err}
 use Rattle.std.proofs.lemmas.List.Edits.{sets}
 use Rattle.base_limits.specs.Document.{most_cards, most_in_hand, last_state, last_number}
 use Rattle.sheet_lines.specs.Format.{formats}
@@ -12,8 +13,6 @@ use Rattle.theory_codec.specs.Sheets.{sheet_of, codec}
 use Rattle.cabinet_layout.specs.declared.Head.{Head}
 use Rattle.cabinet_layout.specs.Shape.{limits16, phase_of, at, bare, with_numbers, with_line, model_of}
 use Rattle.cabinet_layout.specs.Answers.{after28}
-use Rattle.sheet_page_writer.specs.declared.Written.{Written}
-use Rattle.sheet_page_writer.specs.declared.Written.TheVariants.{Length, Refused}
 
 -- what a cabinet that passes 28 shows of its head, and of the numbers of card c where it is there
 pub record Within (h : Head) (base stored : List ℕ) (c : ℕ) : Type 0 where
@@ -33,14 +32,14 @@ abbrev pub sheet_plan_for : Bool → Model → (card places : ℕ) → Plan
 sheet_plan_for whole m c places = checked (after28 (not whole) (sheet_checks codec limits16 m c places)) (written (page_bytes formats (sheet_of limits16 m c))) []
 
 -- the answer in document 01's values: so many of the buffer's first bytes are the sheet
-abbrev pub sheet_reply_of : List ℕ → Written → plan.Reply
-sheet_reply_of buffer (Length k) = accepted (written (take k buffer))
-sheet_reply_of buffer (Refused r) = refused r
+abbrev pub sheet_reply_of : List ℕ → Result ℕ Refusal → plan.Reply
+sheet_reply_of buffer (Ok k) = accepted (written (take k buffer))
+sheet_reply_of buffer (Err r) = refused r
 
 -- the length answered, and 0 with a refusal
-abbrev pub length_told : Written → ℕ
-length_told (Length k) = k
-length_told (Refused r) = 0
+abbrev pub length_told : Result ℕ Refusal → ℕ
+length_told (Ok k) = k
+length_told (Err r) = 0
 
 -- the buffer after the call: "buffer bytes beyond it keep what they held"
 abbrev pub buffer_after : plan.Reply → List ℕ → List ℕ
@@ -53,7 +52,7 @@ buffer_after (accepted (fixed rows lost)) b = b
 buffer_after (refused r) b = b
 
 -- what the writer of a sheet answers and leaves in the buffer, by its plan
-pub record SheetResult (p : Plan) (before after : List ℕ) (reply : Written) : Type 0 where
+pub record SheetResult (p : Plan) (before after : List ℕ) (reply : (Result ℕ Refusal)) : Type 0 where
   pub answer : sheet_reply_of after reply ≡ p.reply
   pub inside : length_told reply ≤ length after
   pub buffer : after ≡ buffer_after p.reply before

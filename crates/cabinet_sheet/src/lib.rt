@@ -12,7 +12,6 @@ use base_refusal::Refusal;
 use cabinet_layout::{Core, Head};
 use cabinet_replies::is_card;
 use cabinet_sheet_header::header_of;
-use sheet_page_writer::Written;
 
 // Writes a card's sheet at the front of the lent buffer: 28, 2, 4, or its length. A refusal changes no byte.
 fn write_card<'a, 'b>(
@@ -25,16 +24,15 @@ fn write_card<'a, 'b>(
     base: [u32; Limits::CARDS],
     stored: [u32; Limits::CARDS],
     card: u32,
-) -> Written
+) -> Result<usize, Refusal>
     requires { valid ≡ true → Within head base stored card }
     ensures { SheetResult (sheet_plan_for valid (sheet_model entries.now changes.now head rolled base stored) card (length b.old)) b.old b.new result }
 {
     if !valid {
-        return Written::Refused(Refusal::BadCabinet);
+        return Err(Refusal::BadCabinet);
     }
-    let there = is_card(head, card);
-    if !there {
-        return Written::Refused(Refusal::NoSuchCard);
+    if !is_card(head, card) {
+        return Err(Refusal::NoSuchCard);
     }
     let low = cabinet_layout::at(base, card);
     let high = cabinet_layout::at(stored, card);
@@ -49,14 +47,20 @@ pub fn sheet<'a, 'b>(
     changes: &'b [u32; Limits::FRAMES],
     core: Core,
     card: u32,
-) -> Written
+) -> Result<usize, Refusal>
     ensures { SheetResult (sheet_plan codec limits16 (model_of entries.now changes.now core) card (length b.old)) b.old b.new result }
 {
     let valid = cabinet_valid::cabinet_valid(entries, changes, core);
-    let base = core.base;
-    let head = core.head;
-    let rolled = core.rolled;
     // "Frames run from base + 1 to stored."
-    let top = core.stored;
-    write_card(b, entries, changes, valid, head, rolled, base, top, card)
+    write_card(
+        b,
+        entries,
+        changes,
+        valid,
+        core.head,
+        core.rolled,
+        core.base,
+        core.stored,
+        card,
+    )
 }

@@ -14,10 +14,7 @@ fn session_for(head: Head, rolled: u16, card: u32) -> u32
     requires { is_rolling (phase_of head.phase) ≡ true → head.session ≡ 4294967295 → ⊥ }
     ensures { result ≡ session_for head rolled card }
 {
-    let phase = head.phase;
-    let rolling = is_rolling(phase);
-    let done = base_bits::has(rolled, card);
-    if rolling & done {
+    if is_rolling(head.phase) && base_bits::has(rolled, card) {
         head.session + 1
     } else {
         head.session
@@ -29,9 +26,8 @@ pub fn header_of(head: Head, rolled: u16, base: u32, stored: u32, card: u32) -> 
     requires { (base ≤ stored) × (is_rolling (phase_of head.phase) ≡ true → head.session ≡ 4294967295 → ⊥) }
     ensures { result ≡ card_header head rolled base stored card }
 {
-    let session = session_for(head, rolled, card);
     Header {
-        session,
+        session: session_for(head, rolled, card),
         card,
         cards: head.cards,
         base,

@@ -13,10 +13,9 @@ use cabinet_layout::Slot;
 pub fn slot_at(slots: [Slot; Limits::SLOTS], p: usize) -> Slot
     ensures { open_of result ≡ open_at slots p }
 {
-    if p < Limits::SLOTS {
-        slots[p]
-    } else {
-        cabinet_layout::free_slot()
+    match slots.get(p) {
+        Some(o) => *o,
+        None => cabinet_layout::free_slot(),
     }
 }
 
@@ -24,30 +23,20 @@ pub fn slot_at(slots: [Slot; Limits::SLOTS], p: usize) -> Slot
 pub fn slot_of(slots: [Slot; Limits::SLOTS], k: u32) -> usize
     ensures { result ≡ first_below limits16.slots (λ p. is_open (open_at slots p) && eqb (open_at slots p).change.number k) }
 {
-    let mut p: usize = 0;
-    while p < Limits::SLOTS {
-        let o = slots[p];
-        if (o.number != 0) & (o.number == k) {
-            return p;
-        }
-        p += 1;
-    }
-    p
+    slots
+        .iter()
+        .position(|o| (o.number != 0) & (o.number == k))
+        .unwrap_or(Limits::SLOTS)
 }
 
 // The first free slot, and 8 where there is none.
 pub fn free_at(slots: [Slot; Limits::SLOTS]) -> usize
     ensures { result ≡ first_below limits16.slots (λ p. not (is_open (open_at slots p))) }
 {
-    let mut p: usize = 0;
-    while p < Limits::SLOTS {
-        let o = slots[p];
-        if !(o.number != 0) {
-            return p;
-        }
-        p += 1;
-    }
-    p
+    slots
+        .iter()
+        .position(|o| o.number == 0)
+        .unwrap_or(Limits::SLOTS)
 }
 
 // The change has yet to write a card.

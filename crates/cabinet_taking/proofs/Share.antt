@@ -1,7 +1,8 @@
 -- What a take leaves is what its edits leave. Assumes nothing.
+use Rattle.std.specs.Prelude.{Ok, Err, is_ok}
 use Prim.Native.Nat.{ℕ, suc, ◌*◌, ◌<◌}
-use mathlib.Core.Path.{◌≡◌, sym, ◌∙◌, ap, ap₂}
-use mathlib.Core.Bool.{Bool, true, false, not, cond}
+use mathlib.Core.Path.{◌≡◌, refl, sym, ◌∙◌, ap, ap₂}
+use mathlib.Core.Bool.{Bool, true, false, not, cond, true≢false}
 use mathlib.Core.List.{List, [], ◌∷◌}
 use native.Mathlib.Omega.{arith}
 use lib.ListN.{set}
@@ -10,20 +11,17 @@ use borrow.Author.Tests.{ne_eqb, lt-ltb}
 use Rattle.base_limits.specs.Ring.{ring_place}
 use Rattle.base_laws.proofs.Logic.{and_intro, not_intro}
 use Rattle.base_bits.specs.Member.{member}
-use Rattle.base_refusal.specs.declared.Refusal.{Refusal}
 use Rattle.theory_protocol.specs.Model.{slot_of}
 use Rattle.theory_protocol.specs.Edit.{Edit}
 use Rattle.theory_protocol.specs.Edit as edit
 use Rattle.theory_protocol.specs.Plan.{done, Check, Plan, checked, accepted, refused}
 use Rattle.theory_protocol.specs.Calls.{take_checks, share_edit, took_share}
-use Rattle.theory_history.specs.Vector.{joined}
 use Rattle.cabinet_layout.specs.declared.Slot.{Slot}
 use Rattle.cabinet_layout.specs.declared.Vector.{Vector}
 use Rattle.cabinet_layout.specs.declared.Core.{Core}
-use Rattle.base_refusal.specs.declared.Reply.{Reply}
-use Rattle.base_refusal.specs.declared.Reply.TheVariants.{Done, Refused}
+use Rattle.base_refusal.specs.Reply.{Reply}
 use Rattle.cabinet_layout.specs.Answers.{reply_of, first_failing, after28}
-use Rattle.cabinet_layout.specs.Shape.{limits16, at, list_of, vector_at, vector_for, open_of, open_at, slot_for, with_vectors, with_numbers, with_slots}
+use Rattle.cabinet_layout.specs.Shape.{limits16, at, list_of, vector_for, open_of, open_at, slot_for, with_vectors, with_numbers, with_slots}
 use Rattle.cabinet_layout.specs.Applied.{applied_all, entries_all, changes_all}
 use Rattle.cabinet_layout.proofs.Checks.{done_plan, refused_plan}
 use Rattle.cabinet_plans.specs.Plans.{alone, is_made, TakeCarriedOn}
@@ -79,23 +77,6 @@ grown_changes s c x p q h ew ex l =
     ∙ ap (λ (y : ℕ). set l (ring_place c y) q.number) ex
     ∙ ap (λ (b : Bool). changes_all (chosen b q p c) s l) (sym ew)
 
-pub share_raised : (s : Core) (c p : ℕ) (w j : Vector) (q sh : Slot)
-    → member q.writes c ≡ false
-    → w.entries ≡ q.vector
-    → j ≡ vector_for (joined (vector_at s.pending c) (at w.entries))
-    → sh ≡ slot_for (took_share limits16 (open_of q) c)
-    → with_vectors (with_slots s (set s.slots p sh) s.ended) s.last (set s.pending c j) ≡ applied_all (share_edits q p c) s
-share_raised s c p w j q sh ew ev ej es =
-    let l : j ≡ vector_for (joined (vector_at s.pending c) (at q.vector)) = ej ∙ ap (λ (y : List ℕ). vector_for (joined (vector_at s.pending c) (at y))) ev in
-    (λ i. with_vectors (with_slots s (set s.slots p (es i)) s.ended) s.last (set s.pending c (l i)))
-    ∙ ap (λ (b : Bool). applied_all (chosen b q p c) s) (sym ew)
-
-pub raised_entries : (s : Core) (c p : ℕ) (q : Slot) → member q.writes c ≡ false → (l : List ℕ) → l ≡ entries_all (share_edits q p c) s l
-raised_entries s c p q ew l = ap (λ (b : Bool). entries_all (chosen b q p c) s l) (sym ew)
-
-pub raised_changes : (s : Core) (c p : ℕ) (q : Slot) → member q.writes c ≡ false → (l : List ℕ) → l ≡ changes_all (share_edits q p c) s l
-raised_changes s c p q ew l = ap (λ (b : Bool). changes_all (chosen b q p c) s l) (sym ew)
-
 -- ---- the whole answer
 module _ (whole : Bool) (s : Core) (k c : ℕ) where
   abbrev checks : List Check
@@ -106,7 +87,7 @@ module _ (whole : Bool) (s : Core) (k c : ℕ) where
 
   pub take_done : (p : ℕ) (vector : List ℕ) (state made : ℕ) (r : Reply) (next : Core)
       → r ≡ first_failing checks
-      → r ≡ Done
+      → r ≡ Ok tt
       → p ≡ slot_of limits16 (alone s) k
       → next ≡ applied_all (those p) s
       → ((l : List ℕ) → cond (is_made c state) (sets l (ring_place c state * 16) (list_of (at vector))) l ≡ entries_all (those p) s l)
@@ -121,13 +102,13 @@ module _ (whole : Bool) (s : Core) (k c : ℕ) where
         changes = λ l. fm l ∙ ap (λ (i : ℕ). changes_all (those i) s l) ep ∙ sym (ap (λ (x : Plan). changes_all x.edits s l) pl);
       }
 
-  pub take_refused : (vector : List ℕ) (r : Reply) (q : Refusal) (next : Core) → r ≡ first_failing checks → r ≡ Refused q → next ≡ s
-      → TakeCarriedOn whole s k c vector 0 0 (reply_of r) next
-  take_refused vector r q next e d n =
+  pub take_refused : (vector : List ℕ) (r : Reply) → r ≡ first_failing checks → is_ok r ≡ false → TakeCarriedOn whole s k c vector 0 0 (reply_of r) s
+  take_refused vector (Ok tt) e f = absurd (true≢false f)
+  take_refused vector (Err q) e f =
       let P : ℕ = slot_of limits16 (alone s) k in
-      let pl : checked checks done (those P) ≡ record { reply = refused q; edits = [] } = refused_plan checks done (those P) q (sym e ∙ d) in
+      let pl : checked checks done (those P) ≡ record { reply = refused q; edits = [] } = refused_plan checks done (those P) q (sym e) in
       record {
-        carried = core_refused s next checks (those P) r q e d n;
+        carried = core_refused s s checks (those P) (Err q) q e refl refl;
         entries = λ l. sym (ap (λ (x : Plan). entries_all x.edits s l) pl);
         changes = λ l. sym (ap (λ (x : Plan). changes_all x.edits s l) pl);
       }

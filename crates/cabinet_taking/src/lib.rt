@@ -24,44 +24,36 @@ pub fn take(valid: bool, mut core: Core, change: u32, card: u32) -> TakenCore
     requires { valid ≡ true → Stands core }
     ensures { TakeCarriedOn valid core change card result.vector.entries result.state result.change (reply_of result.reply) result.core }
 {
-    let slots = core.slots;
-    let head = core.head;
-    let r = cabinet_slot_replies::take_verdict(valid, head, slots, change, card);
+    let reply = cabinet_slot_replies::take_verdict(valid, core.head, core.slots, change, card);
     let mut frame = Vector {
         entries: [0u32; Limits::CARDS],
     };
     let mut state: u32 = 0;
     let mut made: u32 = 0;
-    match r {
-        Reply::Done => {
-            let at = cabinet_slots::slot_of(slots, change);
-            let o = slots[at];
-            let shared = cabinet_awaited::took(o, card);
-            core.slots[at] = shared;
-            let w = cabinet_parts::vector_of(o);
-            let c = card as usize;
-            if base_bits::has(o.writes, card) {
-                let x = core.reached[c] + 1;
-                core.last[c] = w;
-                core.pending[c] = w;
-                core.held[c] = x;
-                core.reached[c] = x;
-                frame = w;
-                state = x;
-                made = o.number;
-            } else {
-                let pending = core.pending;
-                let q = cabinet_parts::raised(pending[c], w);
-                core.pending[c] = q;
-            }
+    if reply.is_ok() {
+        let at = cabinet_slots::slot_of(core.slots, change);
+        let o = core.slots[at];
+        core.slots[at] = cabinet_awaited::took(o, card);
+        let w = cabinet_parts::vector_of(o);
+        let c = card as usize;
+        if base_bits::has(o.writes, card) {
+            let x = core.reached[c] + 1;
+            core.last[c] = w;
+            core.pending[c] = w;
+            core.held[c] = x;
+            core.reached[c] = x;
+            frame = w;
+            state = x;
+            made = o.number;
+        } else {
+            core.pending[c] = cabinet_parts::raised(core.pending[c], w);
         }
-        Reply::Refused(_) => {}
     }
     TakenCore {
-        core: core,
+        core,
         vector: frame,
-        state: state,
+        state,
         change: made,
-        reply: r,
+        reply,
     }
 }

@@ -8,34 +8,29 @@ ghost use Rattle.cabinet_layout.specs.Answers.{reply_of, safe_reply_of};
 ghost use Rattle.cabinet_layout.specs.Applied.{CoreCarried};
 
 use base_limits::Limits;
-use base_refusal::Reply;
-use cabinet_layout::{Core, CoreAnswer, SafeReply};
+use base_refusal::Refusal;
+use cabinet_layout::{Core, CoreAnswer, Safety};
 
 // 6. trim: "every base moves to the line that the present stored numbers give."
 pub fn trim<'a>(
     entries: &'a [u32; Limits::ENTRIES],
     changes: &'a [u32; Limits::FRAMES],
     mut core: Core,
-) -> CoreAnswer
+) -> CoreAnswer<()>
     ensures { CoreCarried core (trim_plan limits16 (model_of entries.now changes.now core)) (reply_of result.reply) result.core }
 {
     let valid = cabinet_valid::cabinet_valid(entries, changes, core);
-    let base = core.base;
-    let stored = core.stored;
-    let reached = core.reached;
-    let head = core.head;
-    let r = cabinet_rollback::trim_verdict(valid, head);
-    match r {
-        Reply::Done => {
-            let lines = cabinet_recovery::lines(entries, head, base, stored, reached);
-            core.base = lines;
-        }
-        Reply::Refused(_) => {}
+    let reply = cabinet_rollback::trim_verdict(valid, core.head);
+    if reply.is_ok() {
+        core.base = cabinet_recovery::lines(
+            entries,
+            core.head,
+            core.base,
+            core.stored,
+            core.reached,
+        );
     }
-    CoreAnswer {
-        core: core,
-        reply: r,
-    }
+    CoreAnswer { core, reply }
 }
 
 // 7. safe
@@ -44,7 +39,7 @@ pub fn safe<'a>(
     changes: &'a [u32; Limits::FRAMES],
     core: Core,
     change: u32,
-) -> SafeReply
+) -> Result<Safety, Refusal>
     ensures { safe_reply_of result ≡ (safe_plan limits16 (model_of entries.now changes.now core) change).reply }
 {
     let valid = cabinet_valid::cabinet_valid(entries, changes, core);

@@ -16,8 +16,7 @@ use cabinet_writes::writes_valid;
 fn line_valid(phase: Phase, base: u32, stored: u32, line: u32) -> bool
     ensures { result ≡ line_valid (part_of 0 (phase_of phase) (numbers_of base stored 0 0) (ring [] []) line) 0 }
 {
-    let rolling = is_rolling(phase);
-    !rolling | ((base <= line) & (line <= stored))
+    !is_rolling(phase) | ((base <= line) & (line <= stored))
 }
 
 // The numbers, the fixed line and the frames of a card that is there.
@@ -36,8 +35,7 @@ fn there_valid<'a>(
     ensures { result ≡ there_valid (part_of head.cards (phase_of head.phase) (numbers_of base stored held reached) (ring entries.now changes.now) line) c }
 {
     let numbers = cabinet_numbers::numbers_valid(base, stored, held, reached);
-    let phase = head.phase;
-    let fixed = line_valid(phase, base, stored, line);
+    let fixed = line_valid(head.phase, base, stored, line);
     if numbers {
         let cards = head.cards as usize;
         let frames = frames_valid(entries, changes, c, base, reached, cards);
@@ -95,18 +93,14 @@ fn all_cards_valid<'a>(
     let reached = core.reached;
     let line = core.line;
     let head = core.head;
+    // a loop, not `all`: in the closure the proof lacks that c is below 16, which two lists of vectors need
     let mut ok = true;
-    let mut c: usize = 0;
-    while c < Limits::CARDS {
-        let l = last[c];
-        let l = l.entries;
-        let p = pending[c];
-        let p = p.entries;
-        ok = ok
-            & card_valid(
-                entries, changes, l, p, base[c], stored[c], held[c], reached[c], line[c], head, c,
-            );
-        c += 1;
+    for c in 0..Limits::CARDS {
+        let l = last[c].entries;
+        let p = pending[c].entries;
+        ok &= card_valid(
+            entries, changes, l, p, base[c], stored[c], held[c], reached[c], line[c], head, c,
+        );
     }
     ok
 }

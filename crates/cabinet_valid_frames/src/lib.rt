@@ -14,13 +14,7 @@ fn frame_entries_valid(entries: &[u32; Limits::ENTRIES], from: usize, cards: usi
     requires { from + 16 ≤ 12288 }
     ensures { result ≡ entries_valid limits16 (present_of cards) (λ j. at entries.now (from + j)) }
 {
-    let mut ok = true;
-    let mut j: usize = 0;
-    while j < Limits::CARDS {
-        ok = ok & (entries[from + j] <= cabinet_numbers::top(j < cards));
-        j += 1;
-    }
-    ok
+    (0..Limits::CARDS).all(|j| entries[from + j] <= cabinet_numbers::top(j < cards))
 }
 
 // "a kept frame that breaks 9": the frame of state x of card c, by itself, at its place in the ring.
@@ -45,13 +39,7 @@ fn rising_entries(entries: &[u32; Limits::ENTRIES], from: usize, next: usize) ->
     requires { (from + 16 ≤ 12288) × (next + 16 ≤ 12288) }
     ensures { result ≡ all_below limits16.width (λ j. leb (at entries.now (from + j)) (at entries.now (next + j))) }
 {
-    let mut ok = true;
-    let mut j: usize = 0;
-    while j < Limits::CARDS {
-        ok = ok & (entries[from + j] <= entries[next + j]);
-        j += 1;
-    }
-    ok
+    (0..Limits::CARDS).all(|j| entries[from + j] <= entries[next + j])
 }
 
 // "change .. not rising, .. an entry falling": the frames at two places of the ring, one after the other.
@@ -92,18 +80,17 @@ pub fn frames_valid<'a>(
 {
     let n = reached - base;
     let first = c * Limits::IN_HAND;
+    // a loop, not `all`: the place among the 48 is carried along from state to state
     let mut ok = true;
     let mut slot = base % Limits::IN_HAND_U32;
-    let mut k: u32 = 0;
-    while k < n {
+    for k in 0..n {
         let x = base + k + 1;
         let place = first + slot as usize;
         slot = after(slot);
         let next = first + slot as usize;
         let frame = frame_valid(entries, changes, c, next, x, cards);
         let rises = rises_valid(entries, changes, place, next);
-        ok = ok & (frame & ((k == 0) | rises));
-        k += 1;
+        ok &= frame & ((k == 0) | rises);
     }
     ok
 }

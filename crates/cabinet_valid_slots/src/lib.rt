@@ -14,15 +14,11 @@ use cabinet_layout::{Head, Slot};
 fn writes_fit(o: Slot, base: [u32; Limits::CARDS], reached: [u32; Limits::CARDS]) -> bool
     ensures { result ≡ all_below limits16.width (λ c. not (to_write (open_of o) c) || room_to_write limits16 (numbers_of (at base c) 0 0 (at reached c)) 0) }
 {
-    let mut ok = true;
-    let mut c: usize = 0;
-    while c < Limits::CARDS {
+    (0..Limits::CARDS).all(|c| {
         let written = base_bits::has(o.writes, c as u32);
         let taken = base_bits::has(o.taken, c as u32);
-        ok = ok & (!(written & !taken) | cabinet_numbers::room(base[c], reached[c]));
-        c += 1;
-    }
-    ok
+        !(written & !taken) | cabinet_numbers::room(base[c], reached[c])
+    })
 }
 
 // An open change "that touches an absent card or has yet to write a card at base + 48 or 60,000", or whose vector is outside the limits, is not. A free slot is.
@@ -40,9 +36,7 @@ fn slot_valid(
     let touched = base_bits::union(o.reads, o.writes);
     let inside = base_set_bounds::within(touched, head.cards);
     let fit = writes_fit(o, base, reached);
-    let v = o.vector;
-    let cards = head.cards as usize;
-    let entries = cabinet_numbers::entries_valid(v, cards);
+    let entries = cabinet_numbers::entries_valid(o.vector, head.cards as usize);
     inside & fit & entries
 }
 
@@ -55,12 +49,5 @@ pub fn all_slots_valid(
 ) -> bool
     ensures { result ≡ all_below limits16.slots (λ p. slot_valid limits16 (numbers_model head base [] [] reached) (open_at slots p)) }
 {
-    let mut ok = true;
-    let mut p: usize = 0;
-    while p < Limits::SLOTS {
-        let o = slots[p];
-        ok = ok & slot_valid(o, base, reached, head);
-        p += 1;
-    }
-    ok
+    slots.iter().all(|o| slot_valid(*o, base, reached, head))
 }

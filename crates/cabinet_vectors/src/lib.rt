@@ -12,7 +12,7 @@ use cabinet_layout::{Slot, Vector};
 pub fn greater(a: u32, b: u32) -> u32
     ensures { result ≡ max a b }
 {
-    if a < b { b } else { a }
+    a.max(b)
 }
 
 // The greater of two vectors, entry by entry.
@@ -20,10 +20,8 @@ pub fn join(u: [u32; Limits::CARDS], v: [u32; Limits::CARDS]) -> [u32; Limits::C
     ensures { result ≡ list_of (joined (at u) (at v)) }
 {
     let mut out = [0u32; Limits::CARDS];
-    let mut j: usize = 0;
-    while j < Limits::CARDS {
+    for j in 0..Limits::CARDS {
         out[j] = greater(u[j], v[j]);
-        j += 1;
     }
     out
 }
@@ -58,13 +56,12 @@ fn share_of(
     ensures { result ≡ list_of (cond written (with_own c reached (at pending)) (cond read (at last) no_entries)) }
 {
     if written {
-        return with_own(pending, c, reached);
+        with_own(pending, c, reached)
+    } else if read {
+        copied(last)
+    } else {
+        [0u32; Limits::CARDS]
     }
-    if read {
-        let r = copied(last);
-        return r;
-    }
-    [0u32; Limits::CARDS]
 }
 
 // "The vector is the greatest, entry by entry, over all touched cards as they stood at the decision"
@@ -78,18 +75,15 @@ pub fn decision(
     ensures { result ≡ list_of (vector_of limits16.width (tracked_of reached last pending) (open_of o).change) }
 {
     let mut out = [0u32; Limits::CARDS];
-    let mut c: usize = 0;
-    while c < Limits::CARDS {
+    for c in 0..Limits::CARDS {
         let written = base_bits::has(o.writes, c as u32);
         let read = base_bits::has(o.reads, c as u32);
-        let l = last[c];
-        let l = l.entries;
-        let p = pending[c];
-        let p = p.entries;
+        let l = last[c].entries;
+        let p = pending[c].entries;
         let s = share_of(written, read, c, reached[c], l, p);
+        // by way of a name: a call's array laid right over one that is held gets no proof
         let more = join(out, s);
         out = more;
-        c += 1;
     }
     out
 }

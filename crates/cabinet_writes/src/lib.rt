@@ -14,7 +14,7 @@ use cabinet_layout::{Head, is_rolling};
 pub fn writes_to(writing: u32) -> u32
     ensures { result ≡ writing - 1 }
 {
-    if writing == 0 { 0 } else { writing - 1 }
+    writing.saturating_sub(1)
 }
 
 // "A running s outside stored to reached, or a write running in phase rolling", of each card that is there.
@@ -26,18 +26,13 @@ pub fn writes_valid(
 ) -> bool
     ensures { result ≡ all_below limits16.width (write_valid (writes_model head stored [] reached writing)) }
 {
-    let phase = head.phase;
-    let rolling = is_rolling(phase);
+    let rolling = is_rolling(head.phase);
     let cards = head.cards as usize;
-    let mut ok = true;
-    let mut c: usize = 0;
-    while c < Limits::CARDS {
+    (0..Limits::CARDS).all(|c| {
         let s = writes_to(writing[c]);
         let runs = (c < cards) & (writing[c] != 0);
-        ok = ok & (!runs | (!rolling & (stored[c] <= s) & (s <= reached[c])));
-        c += 1;
-    }
-    ok
+        !runs | (!rolling & (stored[c] <= s) & (s <= reached[c]))
+    })
 }
 
 // "while a write is unreported": a card that is there has a write running.
@@ -45,11 +40,5 @@ pub fn some_writing(head: Head, writing: [u32; Limits::CARDS]) -> bool
     ensures { result ≡ some_writing limits16 (writes_model head [] [] [] writing) }
 {
     let cards = head.cards as usize;
-    let mut found = false;
-    let mut c: usize = 0;
-    while c < Limits::CARDS {
-        found = found | ((c < cards) & (writing[c] != 0));
-        c += 1;
-    }
-    found
+    (0..Limits::CARDS).any(|c| (c < cards) & (writing[c] != 0))
 }

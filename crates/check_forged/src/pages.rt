@@ -1,19 +1,17 @@
 // The writer of one sheet, lent a ring with any numbers and told any header: 7, then 9, then 4. All other places of the ring hold
 // 77, and the buffer dots.
 use base_limits::Limits;
+use base_refusal::Refusal;
+use base_streams::say;
 use sheet_lines::Header;
-use sheet_page_writer::Written;
 use sheet_writer::write_sheet;
 
-// Two frames of card 0 of two: the change of each, its own dependency and the other card's.
-#[derive(Clone, Copy)]
-struct Rows {
+// A frame of card 0 of two: its change, its own dependency and the other card's.
+#[derive(Clone, Copy, Default)]
+struct Row {
     change: u32,
     own: u32,
     other: u32,
-    next_change: u32,
-    next_own: u32,
-    next_other: u32,
 }
 
 fn header(session: u32, card: u32, cards: u32, base: u32, count: u32) -> Header {
@@ -26,52 +24,43 @@ fn header(session: u32, card: u32, cards: u32, base: u32, count: u32) -> Header 
     }
 }
 
-fn changes(rows: Rows) -> [u32; Limits::FRAMES] {
+fn changes(rows: [Row; 2]) -> [u32; Limits::FRAMES] {
     let mut to = [77u32; Limits::FRAMES];
-    to[1] = rows.change;
-    to[2] = rows.next_change;
+    to[1] = rows[0].change;
+    to[2] = rows[1].change;
     to
 }
 
-fn entries(rows: Rows) -> [u32; Limits::ENTRIES] {
+fn entries(rows: [Row; 2]) -> [u32; Limits::ENTRIES] {
     let mut to = [77u32; Limits::ENTRIES];
-    to[16] = rows.own;
-    to[17] = rows.other;
-    to[32] = rows.next_own;
-    to[33] = rows.next_other;
+    to[16] = rows[0].own;
+    to[17] = rows[0].other;
+    to[32] = rows[1].own;
+    to[33] = rows[1].other;
     to
 }
 
 // Writes into the first bytes of a buffer.
-fn write_within(rows: Rows, h: Header, b: &mut [u8], room: usize) -> Written {
+fn write_within(rows: [Row; 2], h: Header, b: &mut [u8], room: usize) -> Result<usize, Refusal> {
     let c = changes(rows);
     let e = entries(rows);
-    if room <= b.len() {
-        write_sheet(&mut b[0..room], &c, &e, h)
-    } else {
-        Written::Length(0)
+    match b.get_mut(..room) {
+        Some(front) => write_sheet(front, &c, &e, h),
+        None => Ok(0),
     }
 }
 
 // Writes into so many first bytes of 80.
-fn write(rt: &(impl Print + Eprint), rows: Rows, h: Header, room: usize) {
-    let mut b = [46u8; 80];
+fn write(rt: &(impl Print + Eprint), rows: [Row; 2], h: Header, room: usize) {
+    let mut b = [b'.'; 80];
     let w = write_within(rows, h, &mut b, room);
-    crate::lent::say_written(rt, w);
-    base_streams::print(rt, &b);
-    base_streams::print(rt, b"\n");
+    crate::lent::say_answer(rt, "wrote", w);
+    crate::lent::say_line(rt, &b);
 }
 
 // One frame.
-fn one(change: u32, own: u32, other: u32) -> Rows {
-    Rows {
-        change,
-        own,
-        other,
-        next_change: 0,
-        next_own: 0,
-        next_other: 0,
-    }
+fn one(change: u32, own: u32, other: u32) -> [Row; 2] {
+    [Row { change, own, other }, Row::default()]
 }
 
 // The header alone.
@@ -85,18 +74,24 @@ fn head(rt: &(impl Print + Eprint), session: u32, card: u32, cards: u32, base: u
 }
 
 // The first frames of card 0: into enough bytes and into too few.
-fn frames(rt: &(impl Print + Eprint), rows: Rows, count: u32) {
+fn frames(rt: &(impl Print + Eprint), rows: [Row; 2], count: u32) {
     write(rt, rows, header(1, 0, 2, 0, count), 80);
     write(rt, rows, header(1, 0, 2, 0, count), 10);
 }
 
 // A second frame after one of change 5 that hangs on this state of the other card.
 fn two(rt: &(impl Print + Eprint), other: u32, next_change: u32, next_other: u32) {
-    let mut rows = one(5, 1, other);
-    rows.next_change = next_change;
-    rows.next_own = 2;
-    rows.next_other = next_other;
-    frames(rt, rows, 2);
+    let first = Row {
+        change: 5,
+        own: 1,
+        other,
+    };
+    let next = Row {
+        change: next_change,
+        own: 2,
+        other: next_other,
+    };
+    frames(rt, [first, next], 2);
 }
 
 // Headers at their limits, and those that 7 refuses.

@@ -7,27 +7,25 @@ use base_limits::Limits;
 use cabinet::Cabinet;
 use cabinet_records::CardRecord;
 
+const SESSIONS: u32 = 100;
+
+const CHANGES: u32 = Limits::GREATEST_STATE / SESSIONS;
+
 // Change k of the session takes card 0 to its next state, which is stored and trimmed.
 fn rise(c: Cabinet, k: u32, state: u32) -> Cabinet {
     let a = c.open(0, 1);
     let a = a.cabinet.vote(k, 0, true);
     let a = a.cabinet.take(k, 0);
     let a = a.cabinet.store(0, state);
-    let a = a.cabinet.trim();
-    let next = a.cabinet;
-    next
+    a.cabinet.trim().cabinet
 }
 
 // The changes of a session.
-fn session(first: Cabinet, from: u32) -> Cabinet
+fn session(mut c: Cabinet, from: u32) -> Cabinet
     requires { from < 60000 }
 {
-    let mut c = first;
-    let mut k: u32 = 1;
-    while k <= 600 {
-        let next = rise(c, k, from + k);
-        c = next;
-        k += 1;
+    for k in 1..=CHANGES {
+        c = rise(c, k, from + k);
     }
     c
 }
@@ -42,23 +40,15 @@ fn renew(c: Cabinet) -> Cabinet {
     let mut list = [0u32; 1];
     let a = c.lose(0);
     let out = a.cabinet.fix_array([zero; Limits::CARDS], 2, &mut list);
-    let a = out.answer;
-    let a = a.cabinet.roll(0);
-    let a = a.cabinet.roll(1);
-    let next = a.cabinet;
-    next
+    let a = out.answer.cabinet.roll(0);
+    a.cabinet.roll(1).cabinet
 }
 
-// 100 sessions.
+// All sessions.
 fn climbed() -> Cabinet {
-    let a = Cabinet::fresh(2);
-    let mut c = a.cabinet;
-    let mut from: u32 = 0;
-    while from < Limits::GREATEST_STATE {
-        let s = session(c, from);
-        let next = renew(s);
-        c = next;
-        from += 600;
+    let mut c = Cabinet::fresh(2).cabinet;
+    for s in 0..SESSIONS {
+        c = renew(session(c, s * CHANGES));
     }
     c
 }
@@ -68,6 +58,6 @@ pub fn check(rt: &(impl Print + Eprint)) {
     run(
         rt,
         climbed(),
-        b"show\nopen 0 1\nopen 0 3\nopen 1 2\nvote 1 0 1\nvote 1 1 1\ntake 1 0\ntake 1 1\nopen 3 1\nsheet 0 65536\nlose 2\nfix 2 1\nrestart\nroll 1\nroll 0\nshow\n",
+        "show\nopen 0 1\nopen 0 3\nopen 1 2\nvote 1 0 1\nvote 1 1 1\ntake 1 0\ntake 1 1\nopen 3 1\nsheet 0 65536\nlose 2\nfix 2 1\nrestart\nroll 1\nroll 0\nshow\n",
     );
 }

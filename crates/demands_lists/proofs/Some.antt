@@ -1,4 +1,5 @@
 -- Every call gets an answer, whatever the cabinet and the arguments. Assumes nothing.
+use Rattle.std.specs.Prelude.{Ok, Err}
 use Prim.Native.Nat.{ℕ, ◌+◌, ◌≤◌, zero-le}
 use mathlib.Core.Path.{◌≡◌, refl, sym, ◌∙◌, ap, ap₂}
 use mathlib.Core.List.{List, [], ◌∷◌}
@@ -21,10 +22,8 @@ use Rattle.theory_protocol.proofs.Steps.{checked_case}
 use Rattle.cabinet_layout.specs.Shape.{limits16, at, list_of, present_of}
 use Rattle.cabinet_layout.proofs.Held.{at_list}
 use Rattle.cabinet_layout.proofs.Limits.{width16}
-use Rattle.cabinet_recovery.specs.declared.FixReply.TheVariants.{Fixed, NotFixed}
 use Rattle.cabinet_recovery.specs.Fix.{rows_of, list_after}
 use Rattle.cabinet_recovery.proofs.Rows.{selected_same}
-use Rattle.sheet_page_writer.specs.declared.Written.TheVariants.{Length, Refused}
 use Rattle.cabinet_sheet.specs.Card.{buffer_after}
 use Rattle.cabinet_records.specs.declared.CardRecord.{CardRecord}
 use Rattle.cabinet.specs.declared.Cabinet.{Cabinet}
@@ -65,7 +64,7 @@ module _ (s : Cabinet) (records : List CardRecord) (list : List ℕ) where
         after = record { records = records; numbers = list };
         answered =
             record {
-              told = NotFixed r;
+              told = Err r;
               both =
                   record {
                     carried =
@@ -92,7 +91,7 @@ module _ (s : Cabinet) (records : List CardRecord) (list : List ℕ) where
         after = record { records = records_after plan.reply records; numbers = sets list 0 lost };
         answered =
             record {
-              told = Fixed (length lost);
+              told = Ok (length lost);
               both =
                   record {
                     carried =
@@ -139,7 +138,7 @@ module _ (s : Cabinet) (c : ℕ) (buffer : List ℕ) where
         after = record { records = []; numbers = buffer };
         answered =
             record {
-              told = Refused r;
+              told = Err r;
               carried =
                   record {
                     told = record { answer = sym (ap (λ (p : Plan). p.reply) e); inside = zero-le; buffer = sym (ap (λ (p : Plan). buffer_after p.reply buffer) e) };
@@ -160,7 +159,7 @@ module _ (s : Cabinet) (c : ℕ) (buffer : List ℕ) where
         after = record { records = []; numbers = sets buffer 0 bytes };
         answered =
             record {
-              told = Length (length bytes);
+              told = Ok (length bytes);
               carried =
                   record {
                     told =

@@ -1,4 +1,5 @@
 -- Demands 1, 2 and 3 of the 16-card cabinet: what it shows runs as the model runs. Assumes nothing.
+use Rattle.std.specs.Prelude.{Ok, Err}
 use Prim.Native.Nat.{ℕ, ◌+◌, ◌*◌, ◌≤◌}
 use mathlib.Core.Path.{◌≡◌, refl, sym, ◌∙◌, ap, subst, subst₂}
 use mathlib.Core.Bool.{Bool, true, false, not, ◌&&◌, cond}
@@ -10,8 +11,7 @@ use borrow.Author.Tests.{leb-true, lt-ltb, le-ltb}
 use Rattle.base_limits.specs.Ring.{ring_place}
 use Rattle.base_laws.proofs.Logic.{test, and_left, and_right}
 use Rattle.base_bits.specs.Member.{member}
-use Rattle.base_refusal.specs.declared.Reply as refusal
-use Rattle.base_refusal.specs.declared.Reply.TheVariants.{Done, Refused}
+use Rattle.base_refusal.specs.Reply as refusal
 use Rattle.sheet_lines.specs.Format.{formats}
 use Rattle.theory_history.specs.Change.{Numbers}
 use Rattle.theory_codec.specs.Sheets.{codec}
@@ -116,14 +116,14 @@ restarted_sized r z =
 restarted_shows : (b : Bool) (v : refusal.Reply) (bytes : List ℕ) (s t : Cabinet) → Sized s → Narrow (view s) → restart_reply bytes ≡ v
     → t ≡ going_on (checked (not b ⇒ BadCabinet ∷ verdict_checks v) done []).reply (cabinet_for v (readout_of bytes).readout) s
     → Shows (after_restart (checked (not b ⇒ BadCabinet ∷ verdict_checks v) done []).reply (restarted_from limits16 bytes) (view s)) t
-restarted_shows true Done bytes s t z w v e =
+restarted_shows true (Ok tt) bytes s t z w v e =
     subst (Shows (restarted_from limits16 bytes)) (sym e)
     (record {
       same = restarts.restarted_shows bytes v;
       sized = restarted_sized (readout_of bytes).readout (restarts.readout_sized bytes v);
       narrow = subst Narrow (restarts.ring_shows bytes v) (restarted_narrow (readout_of bytes).readout);
     })
-restarted_shows true (Refused r) bytes s t z w v e = subst (Shows (view s)) (sym e) (shown s z w)
+restarted_shows true (Err r) bytes s t z w v e = subst (Shows (view s)) (sym e) (shown s z w)
 restarted_shows false v bytes s t z w q e = subst (Shows (view s)) (sym e) (shown s z w)
 
 pub step : (s : Cabinet) → Sized s → Narrow (view s) → (asked : Asked) → Typed asked → (reply : Reply) (t : Cabinet) (after : Lent) → Answered s asked reply t after → Step s (call_of asked) reply t

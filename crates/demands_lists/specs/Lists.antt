@@ -1,5 +1,6 @@
 -- Lists of calls of the 16-card cabinet: "Each call gets the cabinet that the last one returned", and answers what its contract says.
-use Rattle.std.specs.Prelude.{ℕ, ◌<◌, ◌≡◌, List, [], length}
+use Rattle.base_refusal.specs.declared.Refusal.{Refusal}
+use Rattle.std.specs.Prelude.{ℕ, ◌<◌, ◌≡◌, List, [], length, Result}
 use Rattle.base_limits.specs.Document.{most_cards, most_frames, most_entries}
 use Rattle.base_bits.specs.Member.{member}
 use Rattle.theory_protocol.specs.Plan.{Reply, accepted, done}
@@ -7,7 +8,6 @@ use Rattle.theory_protocol.specs.Calls.{open_plan, lose_plan}
 use Rattle.theory_protocol.specs.Run as run
 use Rattle.theory_protocol.specs.Run.{Plain, Call, plain_plan, Calls, none, further}
 use Rattle.cabinet_layout.specs.Shape.{limits16}
-use Rattle.cabinet_recovery.specs.declared.FixReply.{FixReply}
 use Rattle.cabinet_recovery.specs.Fix.{fix_reply_of}
 use Rattle.cabinet_layout.specs.declared.Core.{Core}
 use Rattle.cabinet.specs.declared.Cabinet.{Cabinet}
@@ -17,7 +17,6 @@ use Rattle.cabinet.specs.Lent.{FixLent}
 use Rattle.cabinet_records.specs.declared.CardRecord.{CardRecord}
 use Rattle.cabinet.specs.Writing.{SheetCarried}
 use Rattle.cabinet_sheet.specs.Card.{sheet_reply_of}
-use Rattle.sheet_page_writer.specs.declared.Written.{Written}
 use Rattle.cabinet_joined.specs.Joined.{FromOwnSheets}
 use Rattle.cabinet.specs.Fresh.{Freshly}
 
@@ -87,13 +86,13 @@ pub record Sized (s : Cabinet) : Type 0 where
 
 -- fix: what its contract says, and its reply in document 01's values
 pub record FixAnswered (s : Cabinet) (records : List CardRecord) (list : List ℕ) (reply : Reply) (next : Cabinet) (after : Lent) : Type 0 where
-  pub told : FixReply
+  pub told : Result ℕ Refusal
   pub both : FixLent s records after.records list after.numbers told next
   pub answer : reply ≡ fix_reply_of s.core.head.cards next.core.stored next.core.line after.numbers told
 
 -- a card's sheet into a lent buffer: what its contract says, and its reply in document 01's values
 pub record SheetAnswered (s : Cabinet) (card : ℕ) (before : List ℕ) (reply : Reply) (next : Cabinet) (after : Lent) : Type 0 where
-  pub told : Written
+  pub told : Result ℕ Refusal
   pub carried : SheetCarried s card before after.numbers told next
   pub answer : reply ≡ sheet_reply_of after.numbers told
   pub no_records : after.records ≡ []

@@ -1,4 +1,5 @@
 -- What `sheet` writes of a card of a cabinet that 28 lets pass reads back as that card's sheet. Assumes nothing.
+use Rattle.std.specs.Prelude.{Ok}
 use Prim.Native.Nat.{ℕ, ◌^◌, ◌≤◌, ◌<◌}
 use mathlib.Core.Path.{◌≡◌, refl, sym, ◌∙◌, ap, subst}
 use mathlib.Core.Bool.{Bool, true, false, not, ◌&&◌}
@@ -10,7 +11,6 @@ use borrow.Author.Tests.{le-ltb, ltb-true}
 use Rattle.base_limits.specs.Ring.{ring_place}
 use Rattle.base_laws.proofs.Logic.{and_left, and_right, cond_case}
 use Rattle.base_refusal.specs.declared.Refusal.TheVariants.{NoSuchCard, TooShort, BadCabinet}
-use Rattle.base_refusal.specs.declared.Reply.TheVariants.{Done}
 use Rattle.base_bits.specs.Member.{member}
 use Rattle.sheet_lines.specs.Format.{format, formats}
 use Rattle.sheet_pages.specs.declared.Reading.{Reading}
@@ -42,10 +42,10 @@ module _ (n c : ℕ) (p : Page) (few : n ≤ 16) (here : c < n) (s : SheetOf for
   allowed : Allowed format c 0 p
   allowed = allowed_of n c 0 p s here few refl
 
-  lines_back : read_sheets formats false c (page_bytes formats p) ≡ record { pages = p ∷ []; verdict = Done; rest = [] }
+  lines_back : read_sheets formats false c (page_bytes formats p) ≡ record { pages = p ∷ []; verdict = (Ok tt); rest = [] }
   lines_back = ap (read_sheets formats false c) (sym (append-nil (page_bytes formats p))) ∙ written_reads_back formats formats_valid false c p [] allowed tt refl
 
-  sheet_back : sheet_read_of c (page_bytes formats p) ≡ record { readout = lay_pages (p ∷ []) no_readout; verdict = Done }
+  sheet_back : sheet_read_of c (page_bytes formats p) ≡ record { readout = lay_pages (p ∷ []) no_readout; verdict = (Ok tt) }
   unfolding sheet_read_of
   sheet_back = rw (le-ltb 65536 (length (page_bytes formats p)) (omega (arith, sheet_few n c p few s)), lines_back)
 

@@ -1,4 +1,5 @@
 -- Fix answers at most 776 lost changes, and 16 card records and 776 numbers are never too few for it. Assumes nothing.
+use Rattle.std.specs.Prelude.{Ok, Err}
 use Prim.Native.Nat.{ℕ, zero-le}
 use mathlib.Core.Path.{◌≡◌, refl, sym, ◌∙◌, ap}
 use mathlib.Core.Bool.{Bool, true, false, not, ◌||◌}
@@ -8,7 +9,6 @@ use lib.Dec.{leb, ltb}
 use lib.ListN.{length, take}
 use lib.Seq.{length-take-le}
 use Rattle.base_refusal.specs.declared.Refusal.TheVariants.{TooShort, WrongPhase, LimitReached, BadCabinet, WriteUnreported}
-use Rattle.cabinet_recovery.specs.declared.FixReply.TheVariants.{Fixed, NotFixed}
 use Rattle.cabinet_recovery.specs.Fix.{rows_of, fix_reply_of}
 use Rattle.theory_protocol.specs.Model.{is_down}
 use Rattle.theory_protocol.specs.Valid.{valid}
@@ -43,8 +43,8 @@ answered false false false false true rows told_rows lost told es q = let z : �
 answered false false false false false rows told_rows lost told es q = (refl, cc)
 
 pub few_lost : FewLost
-few_lost s places before after (NotFixed r) next carried = zero-le
-few_lost s places before after (Fixed k) next carried =
+few_lost s places before after (Err r) next carried = zero-le
+few_lost s places before after (Ok k) next carried =
     omega (arith, model.few_lost limits16 (view s) (not_not (valid limits16 (view s)) w.0), ap length w.1, length-take-le k after carried.told.inside, most_776)
   where
     w : (not (valid limits16 (view s)) ≡ false) × (take k after ≡ lost_numbers limits16 (view s))

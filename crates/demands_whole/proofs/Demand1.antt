@@ -1,4 +1,5 @@
 -- Demand 1, of all that a caller can call. Assumes nothing.
+use Rattle.std.specs.Prelude.{Ok, Err}
 use Prim.Native.Nat.{ℕ}
 use mathlib.Core.Path.{◌≡◌, refl, sym, ◌∙◌, ap, subst}
 use mathlib.Core.Bool.{Bool, true, false, cond}
@@ -11,8 +12,7 @@ use Rattle.base_laws.proofs.Logic.{cond_case}
 use Rattle.base_refusal.specs.declared.Refusal.{Refusal}
 use Rattle.base_refusal.proofs.Rows.{row_of}
 use Rattle.base_refusal.specs.declared.Refusal.TheVariants.{CardCount}
-use Rattle.base_refusal.specs.declared.Reply as refusal
-use Rattle.base_refusal.specs.declared.Reply.TheVariants.{Done, Refused}
+use Rattle.base_refusal.specs.Reply as refusal
 use Rattle.sheet_lines.specs.Format.{formats}
 use Rattle.sheet_pages.specs.Pages.{Page, page_bytes, read_sheets}
 use Rattle.sheet_pages.specs.Walk.{no_readout, lay_pages, pages_for}
@@ -21,7 +21,6 @@ use Rattle.sheet_readout.proofs.Accepted.{read_or}
 use Rattle.sheet_reader.specs.Single.{sheet_read_of}
 use Rattle.sheet_writer.specs.Single.{page_verdict, wrote}
 use Rattle.sheet_page_writer.specs.Write.{Wrote, wrote_bytes}
-use Rattle.sheet_page_writer.specs.declared.Written.TheVariants.{Refused as written-refused}
 use Rattle.theory_protocol.specs.Plan.{done, Reply, accepted, refused, reply_of, ◌⇒◌}
 use Rattle.theory_protocol.specs.Calls.{fresh_refused}
 use Rattle.theory_protocol.specs.Codec.{verdict_checks}
@@ -48,34 +47,34 @@ fresh_gets n reply next f = let g = fresh_of (fresh_refused limits16 n) n reply 
 -- ---- restart
 restart_of : (v : refusal.Reply) (bytes : List ℕ) (reply : Reply) (next : Cabinet) → reply ≡ reply_of v → next ≡ cabinet_for v (readout_of bytes).readout
     → Said (verdict_checks v) reply × ((r : Refusal) → reply ≡ refused r → next ≡ zero_cabinet void_head)
-restart_of Done bytes reply next e c = (subst (Said []) (sym e) (answers done tt), λ r q. not_both done r (sym e ∙ q))
-restart_of (Refused x) bytes reply next e c = (subst (Said (true ⇒ x ∷ [])) (sym e) (refuses x (inl (refl, refl)) (row_of x).listed), λ r q. c)
+restart_of (Ok tt) bytes reply next e c = (subst (Said []) (sym e) (answers done tt), λ r q. not_both done r (sym e ∙ q))
+restart_of (Err x) bytes reply next e c = (subst (Said (true ⇒ x ∷ [])) (sym e) (refuses x (inl (refl, refl)) (row_of x).listed), λ r q. c)
 
 restart_gets : (bytes : List ℕ) (reply : Reply) (next : Cabinet) → Restarted bytes reply next → RestartGets bytes reply next
 restart_gets bytes reply next d = let g = restart_of (restart_reply bytes) bytes reply next d.answer d.cabinet in record { said = g.0; void = g.1 }
 
 -- ---- readers
-one_verdict : {A : Type 0} (r : Refusal) → Done ≡ Refused r → A
+one_verdict : {A : Type 0} (r : Refusal) → ◌≡◌ {A = refusal.Reply} (Ok tt) (Err r) → A
 one_verdict r e = let z : ◌≡◌ {A = ℕ} 0 1 = cc in absurd (omega arith)
 
-reads_readout : (bytes : List ℕ) (r : Refusal) → (readout_of bytes).verdict ≡ Refused r → ReaderRefuses (readout_of bytes) r
+reads_readout : (bytes : List ℕ) (r : Refusal) → (readout_of bytes).verdict ≡ Err r → ReaderRefuses (readout_of bytes) r
 reads_readout bytes r e =
     record {
       listed = (row_of r).listed;
-      nothing = ⊎_elim (λ (a : (pages_read bytes).verdict ≡ Done). one_verdict r (sym a ∙ e)) (λ (n : (pages_read bytes).pages ≡ []). ap (λ (ps : List Page). lay_pages ps no_readout) n) (read_or bytes);
+      nothing = ⊎_elim (λ (a : (pages_read bytes).verdict ≡ Ok tt). one_verdict r (sym a ∙ e)) (λ (n : (pages_read bytes).pages ≡ []). ap (λ (ps : List Page). lay_pages ps no_readout) n) (read_or bytes);
     }
 
-reads_sheet : (card : ℕ) (bytes : List ℕ) (r : Refusal) → (sheet_read_of card bytes).verdict ≡ Refused r → ReaderRefuses (sheet_read_of card bytes) r
+reads_sheet : (card : ℕ) (bytes : List ℕ) (r : Refusal) → (sheet_read_of card bytes).verdict ≡ Err r → ReaderRefuses (sheet_read_of card bytes) r
 unfolding sheet_read_of
 reads_sheet card bytes r e = record { listed = (row_of r).listed; nothing = ap (λ (v : refusal.Reply). lay_pages (pages_for v (read_sheets formats false card bytes).pages) no_readout) e }
 
 -- ---- the writer of a sheet by value
-wrote_nothing : (v : refusal.Reply) (bytes buffer : List ℕ) (r : Refusal) → (wrote_bytes v bytes buffer).answer ≡ written-refused r → (wrote_bytes v bytes buffer).buffer ≡ buffer
-wrote_nothing Done bytes buffer r =
-    cond_case (λ (x : Wrote). x.answer ≡ written-refused r → x.buffer ≡ buffer) (leb (length bytes) (length buffer)) (λ t e. let z : ◌≡◌ {A = ℕ} 0 1 = cc in absurd (omega arith)) (λ t e. refl)
-wrote_nothing (Refused x) bytes buffer r = λ e. refl
+wrote_nothing : (v : refusal.Reply) (bytes buffer : List ℕ) (r : Refusal) → (wrote_bytes v bytes buffer).answer ≡ Err r → (wrote_bytes v bytes buffer).buffer ≡ buffer
+wrote_nothing (Ok tt) bytes buffer r =
+    cond_case (λ (x : Wrote). x.answer ≡ Err r → x.buffer ≡ buffer) (leb (length bytes) (length buffer)) (λ t e. let z : ◌≡◌ {A = ℕ} 0 1 = cc in absurd (omega arith)) (λ t e. refl)
+wrote_nothing (Err x) bytes buffer r = λ e. refl
 
-writes_sheet : (p : Page) (buffer : List ℕ) (r : Refusal) → (wrote p buffer).answer ≡ written-refused r → WriterRefuses p buffer r
+writes_sheet : (p : Page) (buffer : List ℕ) (r : Refusal) → (wrote p buffer).answer ≡ Err r → WriterRefuses p buffer r
 unfolding wrote
 writes_sheet p buffer r e = record { listed = (row_of r).listed; unchanged = wrote_nothing (page_verdict p) (page_bytes formats p) buffer r e }
 

@@ -1,4 +1,5 @@
 -- Every line of a text gets an answer, and so does every text. Assumes nothing.
+use Rattle.std.specs.Prelude.{Option, Some, None}
 use Prim.Native.Nat.{ℕ, zero, suc, ◌+◌, ◌-◌, ◌≤◌, min}
 use mathlib.Core.Path.{◌≡◌, refl, sym, ◌∙◌, ap}
 use mathlib.Core.Bool.{Bool, true, false, cond}
@@ -35,8 +36,6 @@ use Rattle.list_commands.specs.declared.Command.{Command}
 use Rattle.list_commands.specs.declared.Command.TheVariants.{Fresh, Asks, Unreadable}
 use Rattle.list_commands.specs.declared.Request.{Request}
 use Rattle.list_commands.specs.declared.Request.TheVariants.{Open, Vote, Take, Withdraw, Store, Begin, End, Trim, Safe, Lose, Fix, Roll, Sheet, Restart, Show, Frames}
-use Rattle.list_parse.specs.declared.Token.{Token}
-use Rattle.list_parse.specs.declared.Token.TheVariants.{Line, End}
 use Rattle.list_parse.specs.Lines.{token_at}
 use Rattle.list_parse.proofs.Lines.{token_forward}
 use Rattle.list_answer_words.specs.Words.{refused_text, none_text, unreadable_text}
@@ -151,22 +150,22 @@ module _ (s : List ℕ) where
     pub last : Replay
     pub text : List ℕ
     pub ran : Ran s nothing_yet place last text
-    pub end : token_at s place ≡ End
+    pub end : token_at s place ≡ None
 
   -- what stands at a place that is no end is before the end
-  more : {said : Command} {place : ℕ} (k at : ℕ) → length s - at ≤ k → Line said place ≡ token_at s at → (1 ≤ k) × (length s - place ≤ k - 1)
+  more : {said : Command} {place : ℕ} (k at : ℕ) → length s - at ≤ k → Some (said, place) ≡ token_at s at → (1 ≤ k) × (length s - place ≤ k - 1)
   more k at h e = let f = token_forward s at e in (omega (arith, f.0, f.1), omega (arith, f.0, f.1))
 
   -- at the end
-  at_end : (at : ℕ) (r : Replay) (t : List ℕ) → Ran s nothing_yet at r t → length s - at ≤ 0 → (h : Token) → token_at s at ≡ h → Ended
-  at_end at r t ran l End e = record { place = at; last = r; text = t; ran = ran; end = e }
-  at_end at r t ran l (Line said place) e = let m = more 0 at l (sym e) in absurd (omega (arith, m.0))
+  at_end : (at : ℕ) (r : Replay) (t : List ℕ) → Ran s nothing_yet at r t → length s - at ≤ 0 → (h : Option (Command × ℕ)) → token_at s at ≡ h → Ended
+  at_end at r t ran l None e = record { place = at; last = r; text = t; ran = ran; end = e }
+  at_end at r t ran l (Some (said, place)) e = let m = more 0 at l (sym e) in absurd (omega (arith, m.0))
 
   -- one line, and on from there
   one_line : (k : ℕ) → ((at : ℕ) (r : Replay) (t : List ℕ) → Ran s nothing_yet at r t → length s - at ≤ k → Ended)
-      → (at : ℕ) (r : Replay) (t : List ℕ) → Ran s nothing_yet at r t → length s - at ≤ suc k → (h : Token) → token_at s at ≡ h → Ended
-  one_line k on at r t ran l End e = record { place = at; last = r; text = t; ran = ran; end = e }
-  one_line k on at r t ran l (Line said place) e =
+      → (at : ℕ) (r : Replay) (t : List ℕ) → Ran s nothing_yet at r t → length s - at ≤ suc k → (h : Option (Command × ℕ)) → token_at s at ≡ h → Ended
+  one_line k on at r t ran l None e = record { place = at; last = r; text = t; ran = ran; end = e }
+  one_line k on at r t ran l (Some (said, place)) e =
       let d : (next : Replay) × (text : List ℕ) × Steps said r next text = some said r in
       on place d.0 (t ++ d.1) (one_more ran said place (sym e) d.0 d.1 d.2) (omega (arith, (more (suc k) at l (sym e)).1))
 

@@ -1,4 +1,5 @@
 -- What runs of a text is lists of calls, and demands 2 and 3 hold of them. Assumes nothing.
+use Rattle.std.specs.Prelude.{Some}
 use Prim.Native.Nat.{ℕ}
 use mathlib.Core.Path.{◌≡◌, refl, sym, ◌∙◌, ap, subst}
 use mathlib.Core.Bool.{Bool, true, false, cond}
@@ -13,7 +14,6 @@ use Rattle.cabinet.specs.Fresh.{zero_cabinet, fresh_head, void_head, Freshly}
 use Rattle.list_commands.specs.declared.Command.{Command}
 use Rattle.list_commands.specs.declared.Command.TheVariants.{Fresh, Asks, Unreadable}
 use Rattle.list_commands.specs.declared.Request.{Request}
-use Rattle.list_parse.specs.declared.Token.TheVariants.{Line}
 use Rattle.list_parse.specs.Lines.{token_at}
 use Rattle.list_answers.specs.Texts.{reply_text}
 use Rattle.list_results.specs.declared.Replay.{Replay}
@@ -33,7 +33,7 @@ record Made (s : List ℕ) (at : ℕ) (r : Replay) (t : List ℕ) : Type 0 where
   pub list : List16 n cs r.cabinet
   pub listed : Listed s at r t n cs list
 
-module _ (s : List ℕ) (at : ℕ) (r : Replay) (t : List ℕ) (said : Command) (place : ℕ) (token : Line said place ≡ token_at s at) (new : Replay) (u : List ℕ) where
+module _ (s : List ℕ) (at : ℕ) (r : Replay) (t : List ℕ) (said : Command) (place : ℕ) (token : Some (said, place) ≡ token_at s at) (new : Replay) (u : List ℕ) where
   -- one call more
   one_more_lem : Made s at r t → (asked : Asked) → Makes said asked → Typed asked → (reply : Reply) (after : Lent) → Answered r.cabinet asked reply new.cabinet after → u ≡ reply_text reply → Made s place new (t ++ u)
   one_more_lem m asked k typed reply after d e =
@@ -56,13 +56,13 @@ pub same_replay : (r new : Replay) → new.cabinet ≡ r.cabinet → new.begun �
 same_replay r new p q = λ i. record { cabinet = p i; begun = q i }
 
 -- a question about the present cabinet
-asked : (s : List ℕ) (at : ℕ) (r : Replay) (t : List ℕ) → Made s at r t → r.begun ≡ true → (place : ℕ) (new : Replay) (u : List ℕ) (q : Request) → Line (Asks q) place ≡ token_at s at → Steps (Asks q) r new u
+asked : (s : List ℕ) (at : ℕ) (r : Replay) (t : List ℕ) → Made s at r t → r.begun ≡ true → (place : ℕ) (new : Replay) (u : List ℕ) (q : Request) → Some ((Asks q), place) ≡ token_at s at → Steps (Asks q) r new u
     → new.begun ≡ true → Meant r.cabinet q new.cabinet u → Made s place new (t ++ u)
 asked s at r t m begun place new u q h st b (called a k typed reply after d e) = one_more_lem s at r t (Asks q) place h new u m a k typed reply after d e
 asked s at r t m begun place new u q h st b (stayed k e) = no_call s at r t (Asks q) place h new u m k (same_replay r new e (b ∙ sym begun)) st
 
 -- a fresh cabinet, which begins a list
-fresh_begins : (s : List ℕ) (at : ℕ) (r : Replay) (t : List ℕ) → Ran s nothing_yet at r t → (n place : ℕ) → Line (Fresh n) place ≡ token_at s at → (new : Replay) (u : List ℕ) → Freshened n r new u
+fresh_begins : (s : List ℕ) (at : ℕ) (r : Replay) (t : List ℕ) → Ran s nothing_yet at r t → (n place : ℕ) → Some ((Fresh n), place) ≡ token_at s at → (new : Replay) (u : List ℕ) → Freshened n r new u
     → fresh_refused limits16 n ≡ false → Made s place new (t ++ u)
 fresh_begins s at r t ran n place h new u f e =
     subst (λ (x : List ℕ). Made s place new (t ++ x)) (sym (f.answer ∙ ap (λ (b : Bool). reply_text (cond b (refused CardCount) (accepted done))) e))

@@ -1,17 +1,15 @@
 -- Demand 1, of all that a caller can call: "Any caller, any bytes, sets or numbers, gets an answer or a refusal from document 01. A refusal changes neither the cabinet nor any lent list or buffer."
 -- Statements alone: the proofs are in proofs/Demand1.antt. What a function's contract says by an equation has an answer for every input.
-use Rattle.std.specs.Prelude.{ℕ, ◌≡◌, false, List, [], ◌∷◌}
+use Rattle.std.specs.Prelude.{ℕ, ◌≡◌, false, List, [], ◌∷◌, Err}
 use Rattle.base_refusal.specs.declared.Refusal.{Refusal}
 use Rattle.base_refusal.specs.declared.Refusal.TheVariants.{CardCount}
 use Rattle.base_refusal.specs.Number.{Listed, number_of}
-use Rattle.base_refusal.specs.declared.Reply.TheVariants.{Refused}
 use Rattle.sheet_pages.specs.declared.Reading.{Reading}
 use Rattle.sheet_pages.specs.Pages.{Page}
 use Rattle.sheet_pages.specs.Walk.{no_readout}
 use Rattle.sheet_readout.specs.Joint.{readout_of}
 use Rattle.sheet_reader.specs.Single.{sheet_read_of}
 use Rattle.sheet_writer.specs.Single.{wrote}
-use Rattle.sheet_page_writer.specs.declared.Written.TheVariants.{Refused as written-refused}
 use Rattle.theory_protocol.specs.Plan.{Reply, refused, ◌⇒◌}
 use Rattle.theory_protocol.specs.Calls.{fresh_refused}
 use Rattle.theory_protocol.specs.Codec.{verdict_checks}
@@ -82,9 +80,9 @@ pub record Demand1 : Type 0 where
   pub calls : CallsAnswer
   pub restart : (bytes : List ℕ) (reply : Reply) (next : Cabinet) → Restarted bytes reply next → RestartGets bytes reply next
   -- the reader of one sheet, and the reader of a read-out
-  pub reads_sheet : (card : ℕ) (bytes : List ℕ) (r : Refusal) → (sheet_read_of card bytes).verdict ≡ Refused r → ReaderRefuses (sheet_read_of card bytes) r
-  pub reads_readout : (bytes : List ℕ) (r : Refusal) → (readout_of bytes).verdict ≡ Refused r → ReaderRefuses (readout_of bytes) r
-  pub writes_sheet : (p : Page) (buffer : List ℕ) (r : Refusal) → (wrote p buffer).answer ≡ written-refused r → WriterRefuses p buffer r
+  pub reads_sheet : (card : ℕ) (bytes : List ℕ) (r : Refusal) → (sheet_read_of card bytes).verdict ≡ Err r → ReaderRefuses (sheet_read_of card bytes) r
+  pub reads_readout : (bytes : List ℕ) (r : Refusal) → (readout_of bytes).verdict ≡ Err r → ReaderRefuses (readout_of bytes) r
+  pub writes_sheet : (p : Page) (buffer : List ℕ) (r : Refusal) → (wrote p buffer).answer ≡ Err r → WriterRefuses p buffer r
   -- the text entry points: one line, and a whole list
   pub step : StepAnswers
   pub run : RunAnswers

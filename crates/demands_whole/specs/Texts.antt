@@ -1,5 +1,5 @@
 -- The lists of calls that a text makes, and demands 2 and 3 of them. Statements alone: the proofs are in proofs/Texts.antt.
-use Rattle.std.specs.Prelude.{ℕ, ◌≤◌, ◌<◌, min, ◌≡◌, Bool, true, List, ◌++◌, length}
+use Rattle.std.specs.Prelude.{ℕ, ◌≤◌, ◌<◌, min, ◌≡◌, Bool, true, List, ◌++◌, length, Some}
 use Rattle.theory_protocol.specs.Plan.{Reply, accepted, done}
 use Rattle.theory_protocol.specs.Run.{vote_call, take_call, withdraw_call, store_call, begin_call, end_call, trim_call, safe_call, roll_call, Calls, none, further}
 use Rattle.theory_protocol.specs.Calls.{fresh_refused}
@@ -9,7 +9,6 @@ use Rattle.cabinet.specs.Fresh.{Freshly}
 use Rattle.list_commands.specs.declared.Command.{Command}
 use Rattle.list_commands.specs.declared.Command.TheVariants.{Fresh, Asks, Unreadable}
 use Rattle.list_commands.specs.declared.Request.TheVariants.{Open, Vote, Take, Withdraw, Store, Begin, End, Trim, Safe, Lose, Fix, Roll, Sheet, Restart, Show, Frames}
-use Rattle.list_parse.specs.declared.Token.TheVariants.{Line}
 use Rattle.list_parse.specs.Lines.{token_at}
 use Rattle.list_answers.specs.Texts.{reply_text}
 use Rattle.list_results.specs.declared.Replay.{Replay}
@@ -48,12 +47,12 @@ pub data NoCall : Command → Type 0 where
 
 -- the list of calls since the last accepted fresh, where the lines before a place ran and left this replay and these answers
 pub data Listed (s : List ℕ) : ℕ → (r : Replay) → List ℕ → (n : ℕ) (cs : Calls) → List16 n cs r.cabinet → Type 0 where
-  begins : {at : ℕ} {r : Replay} {t : List ℕ} → Ran s nothing_yet at r t → (n place : ℕ) → Line (Fresh n) place ≡ token_at s at → (new : Replay) (f : Freshly n (accepted done) new.cabinet)
+  begins : {at : ℕ} {r : Replay} {t : List ℕ} → Ran s nothing_yet at r t → (n place : ℕ) → Some ((Fresh n), place) ≡ token_at s at → (new : Replay) (f : Freshly n (accepted done) new.cabinet)
       → Listed s place new (t ++ reply_text (accepted done)) n none (start new.cabinet f)
-  calls : {at : ℕ} {r : Replay} {t : List ℕ} {n : ℕ} {cs : Calls} {l : List16 n cs r.cabinet} → Listed s at r t n cs l → (said : Command) (place : ℕ) → Line said place ≡ token_at s at
+  calls : {at : ℕ} {r : Replay} {t : List ℕ} {n : ℕ} {cs : Calls} {l : List16 n cs r.cabinet} → Listed s at r t n cs l → (said : Command) (place : ℕ) → Some (said, place) ≡ token_at s at
       → (asked : Asked) → Makes said asked → (typed : Typed asked) (reply : Reply) (new : Replay) (after : Lent) (d : Answered r.cabinet asked reply new.cabinet after)
       → Listed s place new (t ++ reply_text reply) n (further cs (call_of asked) reply) (next l asked typed reply new.cabinet after d)
-  stays : {at : ℕ} {r : Replay} {t : List ℕ} {n : ℕ} {cs : Calls} {l : List16 n cs r.cabinet} → Listed s at r t n cs l → (said : Command) (place : ℕ) → Line said place ≡ token_at s at
+  stays : {at : ℕ} {r : Replay} {t : List ℕ} {n : ℕ} {cs : Calls} {l : List16 n cs r.cabinet} → Listed s at r t n cs l → (said : Command) (place : ℕ) → Some (said, place) ≡ token_at s at
       → NoCall said → (text : List ℕ) → Steps said r r text → Listed s place r (t ++ text) n cs l
 
 -- what is so of the list that led to the present cabinet

@@ -21,8 +21,7 @@ fn put_entry(b: &mut [u8], w: Progress, there: bool, entry: u32) -> Progress
     if entry == 0 {
         return base_text::put(b, w, b" -");
     }
-    let state = [entry - 1];
-    base_lines::put_numbers(b, w, &state)
+    base_lines::put_numbers(b, w, &[entry - 1])
 }
 
 // The entries of a vector, one for each card of the cabinet.
@@ -30,11 +29,8 @@ fn put_entries(b: &mut [u8], w: Progress, cards: u32, vector: [u32; Limits::CARD
     ensures { Put b.old w (entries_text (selected limits16.width (present_of cards) (at vector))) result b.new }
 {
     let mut at = w;
-    let mut j: u32 = 0;
-    while j < Limits::CARDS_U32 {
-        let entry = vector[j as usize];
-        at = put_entry(b, at, j < cards, entry);
-        j += 1;
+    for (j, entry) in vector.iter().enumerate() {
+        at = put_entry(b, at, j < cards as usize, *entry);
     }
     at
 }
@@ -43,10 +39,8 @@ fn put_entries(b: &mut [u8], w: Progress, cards: u32, vector: [u32; Limits::CARD
 pub fn put_frame(b: &mut [u8], w: Progress, cards: u32, state: u32, f: Frame) -> Progress
     ensures { Put b.old w (frame_text state f.change (selected limits16.width (present_of cards) (at f.entries))) result b.new }
 {
-    let change = [f.change];
-    let vector = f.entries;
     let w = base_lines::put_number(b, w, state);
-    let w = base_lines::put_numbers(b, w, &change);
-    let w = put_entries(b, w, cards, vector);
+    let w = base_lines::put_numbers(b, w, &[f.change]);
+    let w = put_entries(b, w, cards, f.entries);
     base_text::put(b, w, b"\n")
 }

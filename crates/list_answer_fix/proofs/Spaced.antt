@@ -1,10 +1,11 @@
 -- Laws of the text of fix: how it goes on. Assumes nothing.
-use Prim.Native.Nat.{ℕ, ◌+◌, ◌-◌, min}
+use Prim.Native.Nat.{ℕ, ◌+◌, min}
 use mathlib.Core.Path.{◌≡◌, refl, sym, ◌∙◌, ap, ap₂}
 use mathlib.Core.Bool.{Bool, cond}
 use mathlib.Core.List.{List, [], ◌∷◌, ◌++◌, append_assoc, append-nil}
+use native.Mathlib.Nat.{sub-zero}
 use native.Mathlib.Omega.{arith}
-use lib.ListN.{length, take, drop, length-take}
+use lib.ListN.{length, take, length-take}
 use borrow.Author.Tests.{lt-ltb, le-ltb}
 use Rattle.base_laws.specs.Below.{selected}
 use Rattle.base_laws.proofs.Below.{selected_first}
@@ -46,10 +47,13 @@ rows_length n stored line =
 
 -- the places that hold numbers of changes lost
 pub fixed_as : (n : ℕ) (stored line list : List ℕ) (k places some count : ℕ) → length list ≡ 776 → some ≡ min k places → count ≡ min some 776
-    → fixed_text n stored line (take (count - 0) (drop 0 list)) count ≡ answer_text (fixed (rows_of n stored line) (take k (take places list)))
+    → fixed_text n stored line (take count list) count ≡ answer_text (fixed (rows_of n stored line) (take k (take places list)))
 fixed_as n stored line list k places some count size e q =
-    ap₂ (λ (a b : ℕ). text_line fixed_word (a ∷ b ∷ []) ++ (rows_text (rows_of n stored line) ++ text_line lost_word (take (count - 0) list))) (sym (rows_length n stored line)) long
-    ∙ ap (λ (l : List ℕ). text_line fixed_word (length (rows_of n stored line) ∷ length (take k (take places list)) ∷ []) ++ (rows_text (rows_of n stored line) ++ text_line lost_word l)) (taken_twice list 776 k places some count size e q)
+    ap₂ (λ (a b : ℕ). text_line fixed_word (a ∷ b ∷ []) ++ (rows_text (rows_of n stored line) ++ text_line lost_word (take count list))) (sym (rows_length n stored line)) long
+    ∙ ap (λ (l : List ℕ). text_line fixed_word (length (rows_of n stored line) ∷ length (take k (take places list)) ∷ []) ++ (rows_text (rows_of n stored line) ++ text_line lost_word l)) front
   where
+    front : take count list ≡ take k (take places list)
+    front = ap (λ (m : ℕ). take m list) (sym (sub-zero count)) ∙ taken_twice list 776 k places some count size e q
+
     long : count ≡ length (take k (take places list))
     long = omega (arith, length-take k (take places list), length-take places list)

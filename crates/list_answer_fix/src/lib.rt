@@ -1,17 +1,17 @@
 // How the answer of fix is written, out of the lists that were lent.
 #![tactic(auto)]
 
-ghost use Rattle.std.specs.Prelude.{◌≡◌, take};
+ghost use Rattle.std.specs.Prelude.{take};
 ghost use Rattle.cabinet_recovery.specs.Fix.{rows_of, fix_reply_of};
 ghost use Rattle.base_text.specs.Put.{Put};
 ghost use Rattle.list_answers.specs.Texts.{rows_text, reply_text};
-ghost use Rattle.list_answer_fix.specs.Fixed.{row_count, fixed_text};
+ghost use Rattle.list_answer_fix.specs.Fixed.{fixed_text};
 
 use base_limits::Limits;
+use base_refusal::Refusal;
 use base_text::Progress;
-use cabinet_recovery::FixReply;
 
-// The lines of fix's card records.
+// The lines of fix's card records. Two arrays go side by side, beside the card's number: a chain of zips is no plainer than the index.
 fn put_rows(
     b: &mut [u8],
     w: Progress,
@@ -22,25 +22,12 @@ fn put_rows(
     ensures { Put b.old w (rows_text (rows_of cards stored line)) result b.new }
 {
     let mut at = w;
-    let mut c: u32 = 0;
-    while c < Limits::CARDS_U32 {
+    for c in 0..Limits::CARDS_U32 {
         let i = c as usize;
         let row = [stored[i], line[i]];
         at = base_lines::put_card(b, at, cards, c, &row);
-        c += 1;
     }
     at
-}
-
-// How many card records there are.
-fn row_count(cards: u32) -> u32
-    ensures { result ≡ row_count cards }
-{
-    if cards < Limits::CARDS_U32 {
-        cards
-    } else {
-        Limits::CARDS_U32
-    }
 }
 
 // An accepted fix, with the numbers of the changes lost.
@@ -55,8 +42,7 @@ fn put_fixed(
 ) -> Progress
     ensures { Put b.old w (fixed_text cards stored line lost.now count) result b.new }
 {
-    let counts = [row_count(cards), count];
-    let w = base_lines::put_line(b, w, b"fixed", &counts);
+    let w = base_lines::put_line(b, w, b"fixed", &[cards.min(Limits::CARDS_U32), count]);
     let w = put_rows(b, w, cards, stored, line);
     base_lines::put_line(b, w, b"lost", lost)
 }
@@ -70,16 +56,15 @@ pub fn put_fix(
     line: [u32; Limits::CARDS],
     list: [u32; Limits::MOST_LOST],
     places: usize,
-    r: FixReply,
+    r: Result<usize, Refusal>,
 ) -> Progress
     ensures { Put b.old w (reply_text (fix_reply_of cards stored line (take places list) r)) result b.new }
 {
     match r {
-        FixReply::Fixed(k) => {
-            let some = base_text::least(k, places);
-            let count = base_text::least(some, Limits::MOST_LOST);
-            put_fixed(b, w, cards, stored, line, &list[0..count], count as u32)
+        Ok(k) => {
+            let count = k.min(places).min(Limits::MOST_LOST);
+            put_fixed(b, w, cards, stored, line, &list[..count], count as u32)
         }
-        FixReply::NotFixed(q) => list_answer_words::put_refusal(b, w, q),
+        Err(q) => list_answer_words::put_refusal(b, w, q),
     }
 }

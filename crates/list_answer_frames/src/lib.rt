@@ -15,11 +15,11 @@ use cabinet_layout::Core;
 use cabinet_replies::is_card;
 
 // The lines of so many states above a card's base, as the ring has them.
-fn put_states<'a, 'b>(
-    b: &'a mut [u8],
+fn put_states(
+    b: &mut [u8],
     w: Progress,
-    entries: &'b [u32; Limits::ENTRIES],
-    changes: &'b [u32; Limits::FRAMES],
+    entries: &[u32; Limits::ENTRIES],
+    changes: &[u32; Limits::FRAMES],
     cards: u32,
     card: u32,
     base: u32,
@@ -29,49 +29,33 @@ fn put_states<'a, 'b>(
     ensures { Put b.old w (joined (tabulate count (λ k. ring_text changes.now entries.now cards card (suc (base + k))))) result b.new }
 {
     let mut at = w;
-    let mut k: u32 = 0;
-    while k < count {
+    for k in 0..count {
         let state = base + 1 + k;
         let f = sheet_page_writer::frame_of(changes, entries, card, state);
         at = list_answer_entries::put_frame(b, at, cards, state, f);
-        k += 1;
     }
     at
 }
 
-// How many states of a card are in hand.
-fn in_hand(base: u32, reached: u32) -> u32
-    ensures { result ≡ reached - base }
-{
-    if reached < base { 0 } else { reached - base }
-}
-
 // What the states in hand of a card hang on: 28, 2, or a line for each of them.
-pub fn put_frames<'a, 'b>(
-    b: &'a mut [u8],
+pub fn put_frames(
+    b: &mut [u8],
     w: Progress,
-    entries: &'b [u32; Limits::ENTRIES],
-    changes: &'b [u32; Limits::FRAMES],
+    entries: &[u32; Limits::ENTRIES],
+    changes: &[u32; Limits::FRAMES],
     core: Core,
     card: u32,
 ) -> Progress
     ensures { Put b.old w (frames_answer limits16 (model_of entries.now changes.now core) card) result b.new }
 {
-    let valid = cabinet_valid::cabinet_valid(entries, changes, core);
-    if !valid {
+    if !cabinet_valid::cabinet_valid(entries, changes, core) {
         return list_answer_words::put_refusal(b, w, Refusal::BadCabinet);
     }
-    let head = core.head;
-    let there = is_card(head, card);
-    if !there {
+    if !is_card(core.head, card) {
         return list_answer_words::put_refusal(b, w, Refusal::NoSuchCard);
     }
-    let bases = core.base;
-    let ends = core.reached;
-    let base = cabinet_layout::at(bases, card);
-    let reached = cabinet_layout::at(ends, card);
-    let count = in_hand(base, reached);
-    let number = [count];
-    let w = base_lines::put_line(b, w, b"frames", &number);
-    put_states(b, w, entries, changes, head.cards, card, base, count)
+    let base = cabinet_layout::at(core.base, card);
+    let count = cabinet_layout::at(core.reached, card).saturating_sub(base);
+    let w = base_lines::put_line(b, w, b"frames", &[count]);
+    put_states(b, w, entries, changes, core.head.cards, card, base, count)
 }

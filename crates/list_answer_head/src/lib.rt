@@ -22,13 +22,10 @@ fn put_phase(b: &mut [u8], w: Progress, phase: Phase) -> Progress
 pub fn put_head(b: &mut [u8], w: Progress, head: Head) -> Progress
     ensures { Put b.old w (head_text head) result b.new }
 {
-    let session = [head.session];
-    let cards = [head.cards];
-    let phase = head.phase;
     let w = base_text::put(b, w, b"session");
-    let w = base_lines::put_numbers(b, w, &session);
+    let w = base_lines::put_numbers(b, w, &[head.session]);
     let w = base_text::put(b, w, b" ");
-    let w = put_phase(b, w, phase);
+    let w = put_phase(b, w, head.phase);
     let w = base_text::put(b, w, b" ");
-    base_lines::put_line(b, w, b"cards", &cards)
+    base_lines::put_line(b, w, b"cards", &[head.cards])
 }

@@ -8,15 +8,14 @@ ghost use Rattle.base_lines.specs.Lines.{text_line};
 ghost use Rattle.list_answers.specs.Texts.{reply_text, sheet_word};
 
 use base_limits::Limits;
+use base_refusal::Refusal;
 use base_text::Progress;
-use sheet_page_writer::Written;
 
 // An accepted sheet: its length, and after this line its bytes.
 fn put_bytes(b: &mut [u8], w: Progress, bytes: &[u8], count: u32) -> Progress
     ensures { Put b.old w (text_line sheet_word (count ∷ []) ++ bytes.now) result b.new }
 {
-    let length = [count];
-    let w = base_lines::put_line(b, w, b"sheet", &length);
+    let w = base_lines::put_line(b, w, b"sheet", &[count]);
     base_text::put(b, w, bytes)
 }
 
@@ -26,17 +25,15 @@ pub fn put_sheet(
     w: Progress,
     sheet: &[u8; Limits::LONGEST],
     places: usize,
-    r: Written,
+    r: Result<usize, Refusal>,
 ) -> Progress
     ensures { Put b.old w (reply_text (sheet_reply_of (take places sheet.now) r)) result b.new }
 {
     match r {
-        Written::Length(k) => {
-            let lent = base_text::least(k, places);
-            let count = base_text::least(lent, Limits::LONGEST);
-            let whole = &sheet[..];
-            put_bytes(b, w, &whole[0..count], count as u32)
+        Ok(k) => {
+            let count = k.min(places).min(Limits::LONGEST);
+            put_bytes(b, w, &sheet[..count], count as u32)
         }
-        Written::Refused(q) => list_answer_words::put_refusal(b, w, q),
+        Err(q) => list_answer_words::put_refusal(b, w, q),
     }
 }

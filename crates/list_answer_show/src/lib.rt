@@ -16,10 +16,9 @@ fn put_row(b: &mut [u8], w: Progress, card: u32, numbers: &[u32], writing: u32) 
     if writing == 0 {
         return base_lines::put_row(b, w, card, numbers);
     }
-    let row = [writing - 1];
     let w = base_lines::put_number(b, w, card);
     let w = base_lines::put_numbers(b, w, numbers);
-    base_lines::put_line(b, w, b" writing", &row)
+    base_lines::put_line(b, w, b" writing", &[writing - 1])
 }
 
 // The line of a card that the cabinet has.
@@ -39,7 +38,7 @@ fn put_card(
     w
 }
 
-// The lines of the cards.
+// The lines of the cards. Five arrays go side by side, beside the card's number: a chain of zips is no plainer than the index.
 fn put_cards(
     b: &mut [u8],
     w: Progress,
@@ -53,12 +52,10 @@ fn put_cards(
     ensures { Put b.old w (cards_text cards base stored held reached writing) result b.new }
 {
     let mut at = w;
-    let mut c: u32 = 0;
-    while c < Limits::CARDS_U32 {
+    for c in 0..Limits::CARDS_U32 {
         let i = c as usize;
         let row = [base[i], stored[i], held[i], reached[i]];
         at = put_card(b, at, cards, c, &row, writing[i]);
-        c += 1;
     }
     at
 }
@@ -76,7 +73,6 @@ pub fn put_show(
 ) -> Progress
     ensures { Put b.old w (show_text head base stored held reached writing) result b.new }
 {
-    let cards = head.cards;
     let w = list_answer_head::put_head(b, w, head);
-    put_cards(b, w, cards, base, stored, held, reached, writing)
+    put_cards(b, w, head.cards, base, stored, held, reached, writing)
 }

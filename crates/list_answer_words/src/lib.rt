@@ -25,15 +25,8 @@ pub fn put_unreadable(b: &mut [u8], w: Progress) -> Progress
 pub fn put_refusal(b: &mut [u8], w: Progress, q: Refusal) -> Progress
     ensures { Put b.old w (refused_text q) result b.new }
 {
-    let t = base_refusal::tell(q);
-    match t {
-        Told::Card(n, card) => {
-            let both = [n, card];
-            base_lines::put_line(b, w, b"refused", &both)
-        }
-        Told::Alone(n) => {
-            let alone = [n];
-            base_lines::put_line(b, w, b"refused", &alone)
-        }
+    match base_refusal::tell(q) {
+        Told::Card(n, card) => base_lines::put_line(b, w, b"refused", &[n, card]),
+        Told::Alone(n) => base_lines::put_line(b, w, b"refused", &[n]),
     }
 }

@@ -12,19 +12,9 @@ ghost use Rattle.list_results.specs.Result.{Planned, Written, Continuing};
 use base_limits::Limits;
 use base_text::Progress;
 use cabinet::Cabinet;
+use cabinet_layout::Core;
 use cabinet_records::CardRecord;
-use list_results::{Replay, Stepped};
-
-// How many places for change numbers are lent: at most 776.
-fn lent_places(numbers: u32) -> usize
-    ensures { result ≡ min numbers 776 }
-{
-    if numbers < Limits::MOST_LOST_U32 {
-        numbers as usize
-    } else {
-        Limits::MOST_LOST
-    }
-}
+use list_results::Stepped;
 
 // A list for change numbers.
 fn blank_list() -> [u32; Limits::MOST_LOST]
@@ -49,35 +39,15 @@ fn blank_records() -> [CardRecord; Limits::CARDS]
 pub fn fix(c: Cabinet, records: u32, numbers: u32, b: &mut [u8], w: Progress) -> Stepped
     ensures { Written (Continuing (Planned c (fix_plan limits16 (view c) (min records 16) (min numbers 776))) result.replay) b.old w result.written b.new }
 {
-    let core = c.core;
-    let head = core.head;
-    let cards = head.cards;
-    let blank = blank_records();
+    let cards = c.core.head.cards;
     let mut list = blank_list();
-    let places = lent_places(numbers);
-    let out = c.fix_array(blank, records as usize, &mut list[0..places]);
-    let a = out.answer;
-    let r = a.reply;
-    let cabinet = a.cabinet;
-    let stored = cabinet.core.stored;
-    let line = cabinet.core.line;
-    let written = list_whole_lent::put_fix(b, w, cards, stored, line, list, places, r);
-    let replay = Replay {
-        cabinet,
-        begun: true,
-    };
-    Stepped { replay, written }
-}
-
-// How many bytes of a buffer for a sheet are lent: at most 65,536.
-fn lent_bytes(bytes: u32) -> usize
-    ensures { result ≡ min bytes 65536 }
-{
-    if bytes < Limits::LONGEST_U32 {
-        bytes as usize
-    } else {
-        Limits::LONGEST
-    }
+    let places = (numbers as usize).min(Limits::MOST_LOST);
+    let a = c
+        .fix_array(blank_records(), records as usize, &mut list[0..places])
+        .answer;
+    let Core { stored, line, .. } = a.cabinet.core;
+    let written = list_whole_lent::put_fix(b, w, cards, stored, line, list, places, a.reply);
+    Stepped::with(a.cabinet, written)
 }
 
 // A buffer for a sheet.
@@ -92,14 +62,8 @@ pub fn sheet(c: Cabinet, card: u32, bytes: u32, b: &mut [u8], w: Progress) -> St
     ensures { Written (Continuing (Planned c (sheet_plan codec limits16 (view c) card (min bytes 65536))) result.replay) b.old w result.written b.new }
 {
     let mut buffer = blank_buffer();
-    let places = lent_bytes(bytes);
+    let places = (bytes as usize).min(Limits::LONGEST);
     let a = c.sheet(card, &mut buffer[0..places]);
-    let r = a.reply;
-    let written = list_whole_lent::put_sheet(b, w, &buffer, places, r);
-    let cabinet = a.cabinet;
-    let replay = Replay {
-        cabinet,
-        begun: true,
-    };
-    Stepped { replay, written }
+    let written = list_whole_lent::put_sheet(b, w, &buffer, places, a.reply);
+    Stepped::with(a.cabinet, written)
 }

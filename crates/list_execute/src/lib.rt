@@ -5,7 +5,6 @@ ghost use Rattle.list_answer_words.specs.Words.{none_text, unreadable_text};
 ghost use Rattle.list_results.specs.Result.{Written};
 ghost use Rattle.list_results.specs.Step.{Steps, Stays, Freshened};
 
-use base_refusal::Reply;
 use base_text::Progress;
 use cabinet::Cabinet;
 use list_commands::{Command, Request};
@@ -16,18 +15,10 @@ fn freshen(r: Replay, cards: u32, b: &mut [u8], w: Progress) -> Stepped
     ensures { Written (Freshened cards r result.replay) b.old w result.written b.new }
 {
     let a = Cabinet::fresh(cards);
-    let reply = a.reply;
-    let written = list_whole::put_reply(b, w, reply);
-    match reply {
-        Reply::Done => {
-            let cabinet = a.cabinet;
-            let replay = Replay {
-                cabinet,
-                begun: true,
-            };
-            Stepped { replay, written }
-        }
-        Reply::Refused(_) => Stepped { replay: r, written },
+    let written = list_whole::put_reply(b, w, a.reply);
+    match a.reply {
+        Ok(()) => Stepped::with(a.cabinet, written),
+        Err(_) => Stepped { replay: r, written },
     }
 }
 
@@ -56,8 +47,7 @@ pub fn done(r: Replay, said: Command, b: &mut [u8], w: Progress) -> Stepped
         Command::Fresh(cards) => freshen(r, cards, b, w),
         Command::Unreadable => unreadable(r, b, w),
         Command::Asks(q) => {
-            let begun = r.begun;
-            if !begun {
+            if !r.begun {
                 return none(r, b, w);
             }
             let c = r.cabinet;
@@ -76,10 +66,9 @@ pub fn done(r: Replay, said: Command, b: &mut [u8], w: Progress) -> Stepped
                 Request::Trim => list_calls::trim(c, b, w),
                 Request::Safe(change) => list_calls::safe(c, change, b, w),
                 Request::Lose(cards) => list_calls_sets::lose(c, cards, b, w),
-                Request::Fix {
-                    records: a,
-                    numbers: n,
-                } => list_calls_lent::fix(c, a, n, b, w),
+                Request::Fix { records, numbers } => list_calls_lent::fix(
+                    c, records, numbers, b, w,
+                ),
                 Request::Roll(card) => list_calls::roll(c, card, b, w),
                 Request::Sheet { card, bytes } => list_calls_lent::sheet(c, card, bytes, b, w),
                 Request::Restart => list_calls_looks::restart(c, b, w),

@@ -1,11 +1,12 @@
 -- Which call a line is, by its word and its numbers.
-use Rattle.std.specs.Prelude.{ℕ, cond, List, [], ◌∷◌}
+use Rattle.std.specs.Prelude.{ℕ, cond, List, [], ◌∷◌, Result, Ok, Err}
 use Rattle.list_commands.specs.declared.Command.{Command}
 use Rattle.list_commands.specs.declared.Command.TheVariants.{Fresh, Asks, Unreadable}
 use Rattle.list_commands.specs.declared.Request.TheVariants.{Open, Take, Withdraw, Store, Begin, End, Trim, Safe, Lose, Roll, Restart, Show, Frames}
 use Rattle.list_commands.specs.Calls.{as_fix, as_sheet, as_vote}
+use Rattle.list_words.specs.declared.Malformed.{Malformed}
 use Rattle.list_words.specs.declared.Figures.{Figures}
-use Rattle.list_words.specs.declared.Figures.TheVariants.{Zero, One, Two, Three, Malformed}
+use Rattle.list_words.specs.declared.Figures.TheVariants.{Zero, One, Two, Three}
 use Rattle.base_search.specs.Search.{same}
 
 -- ---- the names of the calls, as bytes
@@ -88,9 +89,9 @@ parse_two w a b =
 abbrev pub parse_three : List ℕ → (a b c : ℕ) → Command
 parse_three w a b c = cond (same w vote_name) (as_vote a b c) Unreadable
 
-abbrev pub parse_with : List ℕ → Figures → Command
-parse_with w Zero = parse_bare w
-parse_with w (One a) = parse_one w a
-parse_with w (Two a b) = parse_two w a b
-parse_with w (Three a b c) = parse_three w a b c
-parse_with w Malformed = Unreadable
+abbrev pub parse_with : List ℕ → Result Figures Malformed → Command
+parse_with w (Ok Zero) = parse_bare w
+parse_with w (Ok (One a)) = parse_one w a
+parse_with w (Ok (Two a b)) = parse_two w a b
+parse_with w (Ok (Three a b c)) = parse_three w a b c
+parse_with w (Err e) = Unreadable

@@ -5,8 +5,9 @@ ghost use Rattle.std.specs.Prelude.{◌≡◌};
 ghost use Rattle.list_names.specs.Names.{parse_bare, parse_one, parse_two, parse_three, parse_with};
 
 use list_commands::{Command, Request};
-use list_words::Figures;
+use list_words::{Figures, Malformed};
 
+// The names are compared one after the other: of a `match` on byte strings the proof knows only the lengths, and did not close.
 // The calls with no number.
 fn say_bare(word: &[u8]) -> Command
     ensures { result ≡ parse_bare word.now }
@@ -90,14 +91,14 @@ fn say_three(word: &[u8], a: u32, b: u32, c: u32) -> Command
 }
 
 // The call that a word and the numbers after it are.
-pub fn say_with(word: &[u8], f: Figures) -> Command
+pub fn say_with(word: &[u8], f: Result<Figures, Malformed>) -> Command
     ensures { result ≡ parse_with word.now f }
 {
     match f {
-        Figures::Zero => say_bare(word),
-        Figures::One(a) => say_one(word, a),
-        Figures::Two(a, b) => say_two(word, a, b),
-        Figures::Three(a, b, c) => say_three(word, a, b, c),
-        Figures::Malformed => Command::Unreadable,
+        Ok(Figures::Zero) => say_bare(word),
+        Ok(Figures::One(a)) => say_one(word, a),
+        Ok(Figures::Two(a, b)) => say_two(word, a, b),
+        Ok(Figures::Three(a, b, c)) => say_three(word, a, b, c),
+        Err(_) => Command::Unreadable,
     }
 }

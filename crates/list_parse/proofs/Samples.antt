@@ -1,11 +1,11 @@
 -- The definitions at lines that are written out. Assumes nothing.
+use Rattle.std.specs.Prelude.{Some, None}
 use Prim.Native.Nat.{ℕ}
 use mathlib.Core.Path.{◌≡◌, refl}
 use mathlib.Core.Bool.{true}
 use mathlib.Core.List.{List, [], ◌∷◌, ◌++◌}
 use Rattle.list_commands.specs.declared.Command.TheVariants.{Asks, Unreadable}
 use Rattle.list_commands.specs.declared.Request.TheVariants.{Open, Vote, Trim, Fix, Frames}
-use Rattle.list_parse.specs.declared.Token.TheVariants.{Line, End}
 use Rattle.list_names.specs.Names.{open_name, vote_name, trim_name, fix_name, frames_name}
 use Rattle.list_parse.specs.Lines.{parse_line, token_at}
 
@@ -54,11 +54,11 @@ frames_bare = refl
 abbrev two : List ℕ
 two = trim_name ++ (10 ∷ trim_name)
 
-first_line : token_at two 0 ≡ Line (Asks Trim) 5
+first_line : token_at two 0 ≡ Some ((Asks Trim), 5)
 first_line = refl
 
-last_line : token_at two 5 ≡ Line (Asks Trim) 9
+last_line : token_at two 5 ≡ Some ((Asks Trim), 9)
 last_line = refl
 
-no_line_lem : token_at two 9 ≡ End
+no_line_lem : token_at two 9 ≡ None
 no_line_lem = refl

@@ -6,13 +6,6 @@ ghost use Rattle.list_parse.specs.Lines.{parse_line, token_at};
 
 use list_commands::Command;
 
-// What stands at a place of a text: a line, and the place where the next one begins, or the end.
-#[derive(Clone, Copy)]
-pub enum Token {
-    Line(Command, usize),
-    End,
-}
-
 // What a line says, its byte 10 left out.
 pub fn parse(line: &[u8]) -> Command
     ensures { result ≡ parse_line line.now }
@@ -26,17 +19,17 @@ pub fn parse(line: &[u8]) -> Command
 }
 
 // What stands at a place of a text.
-pub fn line_at(s: &[u8], from: usize) -> Token
+pub fn line_at(s: &[u8], from: usize) -> Option<(Command, usize)>
     ensures { result ≡ token_at s.now from }
 {
     if s.len() <= from {
-        return Token::End;
+        return None;
     }
     let end = base_search::find(s, from, 10);
     let said = parse(&s[from..end]);
     if end < s.len() {
-        Token::Line(said, end + 1)
+        Some((said, end + 1))
     } else {
-        Token::Line(said, end)
+        Some((said, end))
     }
 }

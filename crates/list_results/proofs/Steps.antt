@@ -1,4 +1,5 @@
 -- Laws of a line that asks for a fresh cabinet, or something of the present one. Assumes nothing.
+use Rattle.std.specs.Prelude.{Ok, Err}
 use Prim.Native.Nat.{ℕ}
 use mathlib.Core.Path.{◌≡◌, sym, ◌∙◌, ap, subst}
 use mathlib.Core.Bool.{Bool, true, false, cond}
@@ -10,8 +11,7 @@ use Rattle.base_refusal.specs.declared.Refusal.TheVariants.{CardCount}
 use Rattle.base_text.specs.declared.Progress.{Progress}
 use Rattle.theory_protocol.specs.Plan.{accepted, refused, done}
 use Rattle.theory_protocol.specs.Calls.{fresh_refused}
-use Rattle.base_refusal.specs.declared.Reply as verdict
-use Rattle.base_refusal.specs.declared.Reply.TheVariants.{Done, Refused}
+use Rattle.base_refusal.specs.Reply as verdict
 use Rattle.cabinet_layout.specs.Answers.{reply_of}
 use Rattle.cabinet_layout.specs.Shape.{limits16}
 use Rattle.cabinet.specs.declared.Cabinet.{Cabinet}
@@ -27,7 +27,7 @@ use Rattle.list_results.specs.Result.{Result, Written, Continuing}
 use Rattle.list_results.specs.Step.{Steps, Asked, Stays, Freshened}
 
 -- a fresh cabinet that was made was not refused, and one that was refused was
-passed : {n : ℕ} {q : verdict.Reply} {c : Cabinet} → Freshly n (reply_of q) c → q ≡ Done → fresh_refused limits16 n ≡ false
+passed : {n : ℕ} {q : verdict.Reply} {c : Cabinet} → Freshly n (reply_of q) c → q ≡ Ok tt → fresh_refused limits16 n ≡ false
 passed {n} {q} f d =
     test (fresh_refused limits16 n)
     (λ t.
@@ -35,7 +35,7 @@ passed {n} {q} f d =
     let k : ◌≡◌ {A = ℕ} 0 1 = cc in absurd (omega arith))
     (λ t. t)
 
-failed : {n : ℕ} {q : verdict.Reply} {c : Cabinet} {x : Refusal} → Freshly n (reply_of q) c → q ≡ Refused x → fresh_refused limits16 n ≡ true
+failed : {n : ℕ} {q : verdict.Reply} {c : Cabinet} {x : Refusal} → Freshly n (reply_of q) c → q ≡ Err x → fresh_refused limits16 n ≡ true
 failed {n} {q} {c} {x} f d =
     test (fresh_refused limits16 n) (λ t. t)
     (λ t.
@@ -49,7 +49,7 @@ module _ {b : List ℕ} {w r : Progress} {e : List ℕ} where
 
   -- ---- a fresh cabinet
 
-  pub freshened_done : {n : ℕ} {q : verdict.Reply} {c : Cabinet} (old : Replay) → Freshly n (reply_of q) c → q ≡ Done → Whole b w (reply_text (reply_of q)) r e
+  pub freshened_done : {n : ℕ} {q : verdict.Reply} {c : Cabinet} (old : Replay) → Freshly n (reply_of q) c → q ≡ Ok tt → Whole b w (reply_text (reply_of q)) r e
       → Written (Freshened n old (record { cabinet = c; begun = true })) b w r e
   freshened_done {n} {q} {c} old f d u =
       record {
@@ -63,7 +63,7 @@ module _ {b : List ℕ} {w r : Progress} {e : List ℕ} where
         put = u;
       }
 
-  pub freshened_refused : {n : ℕ} {q : verdict.Reply} {c : Cabinet} {x : Refusal} (old : Replay) → Freshly n (reply_of q) c → q ≡ Refused x → Whole b w (reply_text (reply_of q)) r e → Written (Freshened n old old) b w r e
+  pub freshened_refused : {n : ℕ} {q : verdict.Reply} {c : Cabinet} {x : Refusal} (old : Replay) → Freshly n (reply_of q) c → q ≡ Err x → Whole b w (reply_text (reply_of q)) r e → Written (Freshened n old old) b w r e
   freshened_refused {n} {q} {c} {x} old f d u =
       record {
         text = reply_text (reply_of q);

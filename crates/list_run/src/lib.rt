@@ -5,7 +5,6 @@ ghost use Rattle.list_results.specs.Going.{nothing_yet};
 ghost use Rattle.list_texts.specs.Steps.{Passed, Replayed, Counted};
 
 use base_text::Progress;
-use list_parse::Token;
 
 // All lines of a list, their answers written or counted from a place on.
 fn pass(text: &[u8], out: &mut [u8], from: Progress) -> Progress
@@ -14,21 +13,13 @@ fn pass(text: &[u8], out: &mut [u8], from: Progress) -> Progress
     let mut r = list_results::begin();
     let mut w = from;
     let mut at = 0;
-    loop {
-        let token = list_parse::line_at(text, at);
-        match token {
-            Token::End => {
-                return w;
-            }
-            Token::Line(said, next) => {
-                let s = list_execute::done(r, said, out, w);
-                let n = s.replay;
-                r = n;
-                w = s.written;
-                at = next;
-            }
-        }
+    while let Some((said, next)) = list_parse::line_at(text, at) {
+        let s = list_execute::done(r, said, out, w);
+        r = s.replay;
+        w = s.written;
+        at = next;
     }
+    w
 }
 
 // A whole list of calls: the count of bytes of the answers, or that the buffer is too short for them, and then nothing is
@@ -50,6 +41,5 @@ pub fn run(text: &[u8], out: &mut [u8]) -> Progress
 pub extern "C" fn yerwaqis_replay(text: &[u8], out: &mut [u8]) -> usize
     ensures { Counted text.now out.old result out.new }
 {
-    let w = run(text, out);
-    base_text::count_of(w)
+    base_text::count_of(run(text, out))
 }

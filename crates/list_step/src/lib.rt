@@ -13,16 +13,15 @@ use list_results::{Replay, Stepped};
 pub fn execute(r: Replay, said: Command, b: &mut [u8], w: Progress) -> Stepped
     ensures { Executed said r b.old w result.replay result.written b.new }
 {
-    let mut s = list_execute::done(r, said, b, w);
-    let x = s.written;
-    match x {
-        Progress::Next(_) => {}
-        Progress::Counting(_) => {}
-        Progress::TooShort => {
-            s.replay = r;
-        }
+    let s = list_execute::done(r, said, b, w);
+    match s.written {
+        Progress::Next(_) => s,
+        Progress::Counting(_) => s,
+        Progress::TooShort => Stepped {
+            replay: r,
+            written: s.written,
+        },
     }
-    s
 }
 
 // One line, its byte 10 left out: the answer goes to the front of the buffer, and nothing is done where it has no room there.

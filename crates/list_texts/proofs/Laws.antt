@@ -1,4 +1,5 @@
 -- Laws of the lines of a text. Assumes nothing.
+use Rattle.std.specs.Prelude.{Option, Some, None}
 use Prim.Native.Nat.{ℕ, ◌+◌, ◌-◌, ◌≤◌, ◌<◌}
 use mathlib.Core.Path.{◌≡◌, refl, sym, ◌∙◌, ap, ap₂, subst}
 use mathlib.Core.List.{List, [], ◌++◌}
@@ -12,8 +13,6 @@ use Rattle.base_laws.proofs.Seq.{sets_append}
 use Rattle.base_text.specs.declared.Progress.{Progress}
 use Rattle.base_text.specs.declared.Progress.TheVariants.{Next, Counting, TooShort}
 use Rattle.list_commands.specs.declared.Command.{Command}
-use Rattle.list_parse.specs.declared.Token.{Token}
-use Rattle.list_parse.specs.declared.Token.TheVariants.{Line, End}
 use Rattle.list_parse.specs.Lines.{token_at}
 use Rattle.base_text.specs.Put.{greatest, counted_on, place_after, buffer_after, Put, whole_after, fitting_of}
 use Rattle.base_text.proofs.Puts.{place_fits, place_beyond, count_fits, count_beyond, put_nothing, put_then, put_length}
@@ -70,8 +69,8 @@ pub going_none : {s : List ℕ} {r : Replay} (b : List ℕ) (from : Progress) �
 going_none {s} {r} b from z =
     subst (λ (x : Replay). Going s b from 0 x from b) (sym z) (record { text = []; ran = no_line; answer = (put_nothing b from).answer; size = refl; buffer = holds_none b from })
 
-pub going_more : {s b : List ℕ} {from : Progress} {at : ℕ} {r : Replay} {w : Progress} {e : List ℕ} {h : Token} {said : Command} {place : ℕ} {next : Replay} {x : Progress} {f : List ℕ}
-    → Going s b from at r w e → h ≡ token_at s at → h ≡ Line said place → Written (Steps said r next) e w x f → Going s b from place next x f
+pub going_more : {s b : List ℕ} {from : Progress} {at : ℕ} {r : Replay} {w : Progress} {e : List ℕ} {h : (Option (Command × ℕ))} {said : Command} {place : ℕ} {next : Replay} {x : Progress} {f : List ℕ}
+    → Going s b from at r w e → h ≡ token_at s at → h ≡ Some (said, place) → Written (Steps said r next) e w x f → Going s b from place next x f
 going_more {s} {b} {from} {at} {r} {w} {e} {h} {said} {place} {next} {x} {f} g l z u =
     record {
       text = g.text ++ u.text;
@@ -81,7 +80,7 @@ going_more {s} {b} {from} {at} {r} {w} {e} {h} {said} {place} {next} {x} {f} g l
       buffer = holds_more b from g.text u.text w e f g.buffer g.answer g.size u.put.buffer;
     }
 
-pub going_ends : {s b : List ℕ} {from : Progress} {at : ℕ} {r : Replay} {w : Progress} {e : List ℕ} {h : Token} → Going s b from at r w e → h ≡ token_at s at → h ≡ End → Passed s nothing_yet b from w e
+pub going_ends : {s b : List ℕ} {from : Progress} {at : ℕ} {r : Replay} {w : Progress} {e : List ℕ} {h : (Option (Command × ℕ))} → Going s b from at r w e → h ≡ token_at s at → h ≡ None → Passed s nothing_yet b from w e
 going_ends {at = at} {r = r} g l z = record { place = at; last = r; text = g.text; ran = g.ran; end = sym l ∙ z; answer = g.answer; size = g.size; buffer = g.buffer }
 
 -- ---- counted, and written where all has room

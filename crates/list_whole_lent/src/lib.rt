@@ -1,4 +1,4 @@
-// The answers told out of lists, each written whole or not at all: it is counted first, and written where the buffer has room for all of it.
+// The answers told out of lists, each written whole or not at all.
 #![tactic(auto)]
 
 ghost use Rattle.std.specs.Prelude.{take};
@@ -11,10 +11,10 @@ ghost use Rattle.list_answer_show.specs.Show.{show_text};
 ghost use Rattle.list_answer_frames.specs.Frames.{frames_answer};
 
 use base_limits::Limits;
+use base_refusal::Refusal;
 use base_text::Progress;
 use cabinet_layout::{Core, Head};
-use cabinet_recovery::FixReply;
-use sheet_page_writer::Written;
+use list_whole_words::whole;
 
 // The answer of fix.
 pub fn put_fix(
@@ -25,22 +25,15 @@ pub fn put_fix(
     line: [u32; Limits::CARDS],
     list: [u32; Limits::MOST_LOST],
     places: usize,
-    r: FixReply,
+    r: Result<usize, Refusal>,
 ) -> Progress
     ensures { Whole b.old w (reply_text (fix_reply_of cards stored line (take places list) r)) result b.new }
 {
-    let counted = list_answer_fix::put_fix(
+    whole(
         b,
-        Progress::Counting(0),
-        cards,
-        stored,
-        line,
-        list,
-        places,
-        r,
-    );
-    let from = base_text::fitting(b.len(), w, counted);
-    list_answer_fix::put_fix(b, from, cards, stored, line, list, places, r)
+        w,
+        |b, w| list_answer_fix::put_fix(b, w, cards, stored, line, list, places, r),
+    )
 }
 
 // The answer of sheet writing.
@@ -49,13 +42,15 @@ pub fn put_sheet(
     w: Progress,
     sheet: &[u8; Limits::LONGEST],
     places: usize,
-    r: Written,
+    r: Result<usize, Refusal>,
 ) -> Progress
     ensures { Whole b.old w (reply_text (sheet_reply_of (take places sheet.now) r)) result b.new }
 {
-    let counted = list_answer_sheet::put_sheet(b, Progress::Counting(0), sheet, places, r);
-    let from = base_text::fitting(b.len(), w, counted);
-    list_answer_sheet::put_sheet(b, from, sheet, places, r)
+    whole(
+        b,
+        w,
+        |b, from| list_answer_sheet::put_sheet(b, from, sheet, places, r),
+    )
 }
 
 // What a cabinet is.
@@ -71,39 +66,27 @@ pub fn put_show(
 ) -> Progress
     ensures { Whole b.old w (show_text head base stored held reached writing) result b.new }
 {
-    let counted = list_answer_show::put_show(
+    whole(
         b,
-        Progress::Counting(0),
-        head,
-        base,
-        stored,
-        held,
-        reached,
-        writing,
-    );
-    let from = base_text::fitting(b.len(), w, counted);
-    list_answer_show::put_show(b, from, head, base, stored, held, reached, writing)
+        w,
+        |b, w| list_answer_show::put_show(b, w, head, base, stored, held, reached, writing),
+    )
 }
 
 // What the states in hand of a card hang on.
-pub fn put_frames<'a, 'b>(
-    b: &'a mut [u8],
+pub fn put_frames(
+    b: &mut [u8],
     w: Progress,
-    entries: &'b [u32; Limits::ENTRIES],
-    changes: &'b [u32; Limits::FRAMES],
+    entries: &[u32; Limits::ENTRIES],
+    changes: &[u32; Limits::FRAMES],
     core: Core,
     card: u32,
 ) -> Progress
     ensures { Whole b.old w (frames_answer limits16 (model_of entries.now changes.now core) card) result b.new }
 {
-    let counted = list_answer_frames::put_frames(
+    whole(
         b,
-        Progress::Counting(0),
-        entries,
-        changes,
-        core,
-        card,
-    );
-    let from = base_text::fitting(b.len(), w, counted);
-    list_answer_frames::put_frames(b, from, entries, changes, core, card)
+        w,
+        |b, w| list_answer_frames::put_frames(b, w, entries, changes, core, card),
+    )
 }

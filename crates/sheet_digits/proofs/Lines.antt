@@ -1,4 +1,5 @@
 -- Laws of lines: a line that is written passes, a line that passes is the line that is written, a line with one altered byte does not pass, and none passes from two starts. Assumes nothing.
+use Rattle.std.specs.Prelude.{Ok}
 use Prim.Native.Nat.{ℕ, zero, suc, ◌+◌, ◌-◌, ◌%◌, ◌≤◌, ◌<◌}
 use mathlib.Core.Path.{◌≡◌, refl, sym, ◌∙◌, ap}
 use mathlib.Core.Bool.{true, ◌&&◌}
@@ -13,7 +14,6 @@ use lib.Seq.{take-suc, take-add, take_at, drop_at, get_or_at, take-length, lengt
 use borrow.Author.Tests.{leb-true, eqb-true, le-leb, eq-eqb}
 use Rattle.base_laws.proofs.Logic.{test, and_left, and_right, and_intro}
 use Rattle.sheet_digits.specs.declared.Sums.{Sums}
-use Rattle.sheet_digits.specs.declared.Line.TheVariants.{Whole}
 use Rattle.sheet_digits.specs.Digits.{all_digits, digits, number}
 use Rattle.sheet_digits.specs.Line.{added, summed, check_of, sheet_line, shaped, checked, shape_of}
 use Rattle.sheet_digits.proofs.Digits.{all_append, all_left, all_right, all_get_d, is_below, digits_length, digits_all, number_digits, digits_number}
@@ -40,18 +40,18 @@ pub shape_shaped : (n : ℕ) (input : List ℕ) → Shape n input → shaped n i
 unfolding shaped
 shape_shaped n input s = and_intro (le-leb (n + 5) (length input) s.long) (and_intro s.all (eq-eqb (get_or input (n + 4) 0) 10 s.ends))
 
-pub whole_shaped : (n : ℕ) (input : List ℕ) → shape_of n input ≡ Whole → shaped n input ≡ true
+pub whole_shaped : (n : ℕ) (input : List ℕ) → shape_of n input ≡ Ok tt → shaped n input ≡ true
 unfolding shape_of
 whole_shaped n [] e = let z : ◌≡◌ {A = ℕ} 0 1 = cc in absurd (omega arith)
 whole_shaped n (b ∷ bs) e = test (shaped n (b ∷ bs)) (λ t. t) (λ t. let z : ◌≡◌ {A = ℕ} 0 1 = cc (rw t at e) in absurd (omega arith))
 
-pub shaped_whole : (n : ℕ) (input : List ℕ) → shaped n input ≡ true → shape_of n input ≡ Whole
+pub shaped_whole : (n : ℕ) (input : List ℕ) → shaped n input ≡ true → shape_of n input ≡ Ok tt
 unfolding shape_of
 shaped_whole n [] e = absurd (omega (arith, (shape n [] e).long))
 shaped_whole n (b ∷ bs) e = rw e
 
 -- where a line stands at `at`, the input is long enough
-pub whole_room : (n at : ℕ) (s : List ℕ) → shape_of n (drop at s) ≡ Whole → at + n + 5 ≤ length s
+pub whole_room : (n at : ℕ) (s : List ℕ) → shape_of n (drop at s) ≡ Ok tt → at + n + 5 ≤ length s
 whole_room n at s e =
     let h : n + 5 ≤ length (drop at s) = (shape n (drop at s) (whole_shaped n (drop at s) e)).long in
     let l : length (drop at s) ≡ length s - at = length-drop at s in

@@ -1,9 +1,8 @@
 -- Document 01's lines of a sheet: digits, the check over them, byte 10.
-use Rattle.std.specs.Prelude.{ℕ, ◌+◌, ◌*◌, ◌%◌, ◌^◌, Bool, ◌&&◌, cond, List, [], ◌∷◌, ◌++◌, leb, eqb, length, take, drop, get_or}
+use Rattle.base_refusal.specs.Reply.{Reply}
+use Rattle.std.specs.Prelude.{ℕ, ◌+◌, ◌*◌, ◌%◌, ◌^◌, Bool, ◌&&◌, cond, List, [], ◌∷◌, ◌++◌, leb, eqb, length, take, drop, get_or, Ok, Err}
 use Rattle.base_refusal.specs.declared.Refusal.TheVariants.{BadLine, EndOrMore}
 use Rattle.sheet_digits.specs.declared.Sums.{Sums}
-use Rattle.sheet_digits.specs.declared.Line.{Line}
-use Rattle.sheet_digits.specs.declared.Line.TheVariants.{Whole, Fault}
 use Rattle.sheet_digits.specs.Digits.{all_digits, digits, number}
 
 -- "The first adds the byte, then the second adds the first", both "of eight bits that wrap at 256"
@@ -32,6 +31,6 @@ unfoldable pub checked : Sums → ℕ → List ℕ → Bool
 checked start n input = eqb (number (take 4 (drop n input))) (check_of (summed start (take n input)))
 
 -- whether a line of n digits before the check is where the input stands: 8 where it ends, 5 where it is no such line
-unfoldable pub shape_of : ℕ → List ℕ → Line
-shape_of n [] = Fault EndOrMore
-shape_of n (b ∷ bs) = cond (shaped n (b ∷ bs)) Whole (Fault BadLine)
+unfoldable pub shape_of : ℕ → List ℕ → Reply
+shape_of n [] = Err EndOrMore
+shape_of n (b ∷ bs) = cond (shaped n (b ∷ bs)) (Ok tt) (Err BadLine)

@@ -5,8 +5,6 @@ ghost use Rattle.std.specs.Prelude.{◌≡◌, ◌+◌, ◌≤◌, ◌<◌, leng
 ghost use Rattle.std.proofs.lemmas.List.Edits.{sets};
 ghost use Rattle.sheet_digits.specs.Digits.{is_digit, digit, digit_value, digits, number};
 
-use base_refusal::Refusal;
-
 // The two running sums of a line's check.
 #[derive(Clone, Copy)]
 pub struct Sums {
@@ -14,22 +12,11 @@ pub struct Sums {
     pub second: u8,
 }
 
-// What stands where a line is due.
-#[derive(Clone, Copy)]
-pub enum Line {
-    Whole,
-    Fault(Refusal),
-}
-
 // Whether a byte is an upper-case digit.
 pub fn is_digit(b: u8) -> bool
     ensures { result ≡ is_digit b }
 {
-    if b < 58 {
-        48 <= b
-    } else {
-        if b < 65 { false } else { b < 71 }
-    }
+    b.is_ascii_digit() || (b'A'..=b'F').contains(&b)
 }
 
 // The byte of a digit.
@@ -45,16 +32,11 @@ fn value_of(b: u8) -> u32
     ensures value { result ≡ digit_value b }
     ensures small { result < 16 }
 {
-    if b < 48 {
-        return 0;
+    match b {
+        b'0'..=b'9' => b as u32 - 48,
+        b'A'..=b'F' => b as u32 - 55,
+        _ => 0,
     }
-    if b < 58 {
-        return b as u32 - 48;
-    }
-    if b < 65 {
-        return 0;
-    }
-    if b < 71 { b as u32 - 55 } else { 0 }
 }
 
 // The number that the digits from `at` on give.
@@ -63,15 +45,14 @@ pub fn number_at(s: &[u8], at: usize, width: usize) -> u32
     ensures { result ≡ number (take width (drop at s.now)) }
 {
     let mut n: u32 = 0;
-    let mut i = 0;
-    while i < width {
+    for i in 0..width {
         n = n * 16 + value_of(s[at + i]);
-        i += 1;
     }
     n
 }
 
 // The same, of the 4 digits of most state numbers without a count.
+// Stays beside `number_at`, for speed: the width is known only in the run, so that no const parameter has it.
 pub fn state_at(s: &[u8], at: usize, width: usize) -> u32
     requires { (at + width ≤ length s.now) × (width ≤ 8) }
     ensures { result ≡ number (take width (drop at s.now)) }
@@ -89,15 +70,14 @@ pub fn put_number(b: &mut [u8], at: usize, width: usize, n: u32)
     ensures { b.new ≡ sets b.old at (digits width n) }
 {
     let mut rest = n;
-    let mut k = width;
-    while 0 < k {
-        k -= 1;
+    for k in (0..width).rev() {
         b[at + k] = digit_of(rest % 16);
-        rest = rest / 16;
+        rest /= 16;
     }
 }
 
 // The same, in the 4 digits of most state numbers without a count.
+// Stays beside `put_number`, for speed: the width is known only in the run, so that no const parameter has it.
 pub fn put_state(b: &mut [u8], at: usize, width: usize, n: u32)
     requires { at + width ≤ length b.old }
     ensures { b.new ≡ sets b.old at (digits width n) }

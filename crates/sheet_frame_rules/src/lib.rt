@@ -1,7 +1,7 @@
 // What refusal 9 lets pass: a frame after another.
 #![tactic(auto)]
 
-ghost use Rattle.std.specs.Prelude.{◌≡◌, ◌+◌, ◌-◌, ◌≤◌, min, not, ◌||◌, eqb, leb};
+ghost use Rattle.std.specs.Prelude.{◌≡◌, ◌+◌, ◌-◌, ◌≤◌, not, ◌||◌, eqb, leb};
 ghost use Rattle.base_laws.specs.Below.{all_below};
 ghost use Rattle.sheet_lines.specs.Format.{format_of};
 ghost use Rattle.sheet_lines.specs.Lines.{entries_allowed, frame_allowed, entry_allowed};
@@ -13,27 +13,14 @@ use sheet_lines::{Frame, Layout};
 fn follows(short: bool, p: u32, e: u32) -> bool
     ensures { result ≡ (short || leb p e) }
 {
-    if short {
-        return true;
-    }
-    p <= e
+    short || p <= e
 }
 
 // Whether refusal 9 lets an entry pass.
 fn entry_allowed(f: Layout, card: u32, state: u32, j: u32, p: u32, e: u32) -> bool
     ensures { result ≡ entry_allowed (format_of f) card state j p e }
 {
-    let states = f.states;
-    if !follows(f.short, p, e) {
-        return false;
-    }
-    if states < e {
-        return false;
-    }
-    if j != card {
-        return true;
-    }
-    e == state
+    follows(f.short, p, e) && e <= f.states && (j != card || e == state)
 }
 
 // Whether it lets the entries of the first n cards pass.
@@ -48,35 +35,20 @@ fn entries_allowed(
     requires { n ≤ 16 }
     ensures { result ≡ entries_allowed (format_of f) card state n last next }
 {
-    let mut j: u32 = 0;
-    while j < n {
+    for j in 0..n {
         let i = j as usize;
         if !entry_allowed(f, card, state, j, last[i], next[i]) {
             return false;
         }
-        j += 1;
     }
     true
-}
-
-fn at_most_16(n: u32) -> u32
-    ensures { result ≡ min n 16 }
-{
-    if n <= Limits::CARDS_U32 {
-        n
-    } else {
-        Limits::CARDS_U32
-    }
 }
 
 // Whether refusal 9 lets pass what frames of 16 entries have of further cards, none each.
 fn absent_allowed(card: u32, state: u32, n: u32) -> bool
     ensures { result ≡ all_below (n - 16) (λ j. not (eqb (16 + j) card) || eqb 0 state) }
 {
-    if card < Limits::CARDS_U32 {
-        return true;
-    }
-    if n <= card {
+    if card < Limits::CARDS_U32 || n <= card {
         return true;
     }
     state == 0
@@ -94,15 +66,11 @@ pub fn frame_allowed(
 ) -> bool
     ensures { result ≡ frame_allowed (format_of f) card n state last told next }
 {
-    if told != state {
-        return false;
-    }
-    if next.change <= last.change {
-        return false;
-    }
-    let before = last.entries;
-    let after = next.entries;
-    if !entries_allowed(f, card, state, at_most_16(n), before, after) {
+    let few = n.min(Limits::CARDS_U32);
+    if told != state
+        || next.change <= last.change
+        || !entries_allowed(f, card, state, few, last.entries, next.entries)
+    {
         return false;
     }
     absent_allowed(card, state, n)

@@ -1,10 +1,10 @@
 -- One turn of each loop, over variables. Assumes nothing.
+use Rattle.std.specs.Prelude.{Ok, Err}
 use Rattle.std.proofs.Common.{◌≡◌, ℕ, suc, ◌+◌, ◌-◌, ◌%◌, ◌^◌, ◌<◌, ◌≤◌, Bool, true, false, cond, ◌&&◌, eqb, leb, List, [], ◌∷◌, ◌++◌, length, get_or, take, drop, set, arith, length-drop, drop_of_length-le, get_or-drop, drop-cons, drop-drop}
 use lib.Seq.{sets}
 use Rattle.base_laws.proofs.Seq.{left, left_step, sets_append}
 use Rattle.base_refusal.specs.declared.Refusal.TheVariants.{BadLine, EndOrMore}
 use Rattle.sheet_digits.specs.declared.Sums.{Sums}
-use Rattle.sheet_digits.specs.declared.Line.TheVariants.{Whole, Fault}
 use Rattle.sheet_digits.specs.Digits.{is_digit, all_digits, digits, number}
 use Rattle.sheet_digits.specs.Line.{summed, check_of, shaped, checked, shape_of}
 use Rattle.sheet_digits.proofs.Digits.{digits_length}
@@ -30,7 +30,7 @@ module _ (s : List ℕ) (at n i : ℕ) (h : i < n) (k : at + n ≤ length s) whe
       rw (q, p) (rw (left_step s at n i 0 h k) at e)
 
 -- past the end no line stands
-pub shape_end : (n at : ℕ) (s : List ℕ) → length s ≤ at → Fault EndOrMore ≡ shape_of n (drop at s)
+pub shape_end : (n at : ℕ) (s : List ℕ) → length s ≤ at → Err EndOrMore ≡ shape_of n (drop at s)
 unfolding shape_of
 shape_end n at s h = rw (drop_of_length-le s h)
 
@@ -41,18 +41,13 @@ pub shape_tests :
     leb (n + 5) (length s - at) ≡ p →
     all_digits (take (n + 4) (drop at s)) ≡ q →
     eqb (get_or s (at + n + 4) 0) 10 ≡ r →
-    cond (p && (q && r)) Whole (Fault BadLine) ≡ shape_of n (drop at s)
+    cond (p && (q && r)) (Ok tt) (Err BadLine) ≡ shape_of n (drop at s)
 unfolding shape_of shaped
 shape_tests n at s {p} {q} {r} h x y z =
     let e : at + n + 4 ≡ at + (n + 4) = omega arith in
     let d : drop at s ≡ get_or s at 0 ∷ drop (suc at) s = drop-cons s at 0 h in
-    let go : cond (shaped n (drop at s)) Whole (Fault BadLine) ≡ shape_of n (drop at s) = rw d in
+    let go : cond (shaped n (drop at s)) (Ok tt) (Err BadLine) ≡ shape_of n (drop at s) = rw d in
     rw (← x, ← y, ← z, e, ← get_or-drop at s (n + 4) 0, ← length-drop at s) go
-
--- after the check was put, byte 10 ends the line
-pub end_step :
-    (b : List ℕ) (at n v : ℕ) → set (sets b (at + n) (digits 4 v)) (at + n + 4) 10 ≡ sets b (at + n) (digits 4 v ++ (10 ∷ []))
-end_step b at n v = rw (sets_append (digits 4 v) b (at + n) (10 ∷ []), digits_length 4 v)
 
 -- the check of a line, judged from its number and its sums
 pub check_judged :

@@ -6,20 +6,18 @@ ghost use Rattle.std.proofs.lemmas.List.Edits.{sets};
 ghost use Rattle.sheet_digits.specs.Digits.{all_digits, digits};
 ghost use Rattle.sheet_digits.specs.Line.{summed, check_of, checked, shape_of};
 
-use base_refusal::Refusal;
-use sheet_digits::{Line, Sums};
+use base_refusal::{Refusal, Reply};
+use sheet_digits::Sums;
 
 // Whether the n bytes from `at` on are digits.
 fn all_digits(s: &[u8], at: usize, n: usize) -> bool
     requires { at + n ≤ length s.now }
     ensures { result ≡ all_digits (take n (drop at s.now)) }
 {
-    let mut i = 0;
-    while i < n {
+    for i in 0..n {
         if !sheet_digits::is_digit(s[at + i]) {
             return false;
         }
-        i += 1;
     }
     true
 }
@@ -31,11 +29,9 @@ fn sums_over(s: &[u8], at: usize, n: usize, start: Sums) -> Sums
 {
     let mut first = start.first;
     let mut second = start.second;
-    let mut i = 0;
-    while i < n {
+    for i in 0..n {
         first = std::num::wrapping_add_u8(first, s[at + i]);
         second = std::num::wrapping_add_u8(second, first);
-        i += 1;
     }
     Sums { first, second }
 }
@@ -48,25 +44,17 @@ fn check_number(s: Sums) -> u32
 }
 
 // What stands at `at`, where a line of n digits before its check is due.
-pub fn shape_at(s: &[u8], at: usize, n: usize) -> Line
+pub fn shape_at(s: &[u8], at: usize, n: usize) -> Reply
     ensures { result ≡ shape_of n (drop at s.now) }
 {
     if s.len() <= at {
-        return Line::Fault(Refusal::EndOrMore);
+        return Err(Refusal::EndOrMore);
     }
-    if s.len() - at < 5 {
-        return Line::Fault(Refusal::BadLine);
+    let left = s.len() - at;
+    if left < 5 || left - 5 < n || !all_digits(s, at, n + 4) || s[at + n + 4] != 10 {
+        return Err(Refusal::BadLine);
     }
-    if s.len() - at - 5 < n {
-        return Line::Fault(Refusal::BadLine);
-    }
-    if !all_digits(s, at, n + 4) {
-        return Line::Fault(Refusal::BadLine);
-    }
-    if s[at + n + 4] != 10 {
-        return Line::Fault(Refusal::BadLine);
-    }
-    Line::Whole
+    Ok(())
 }
 
 // Whether the check after n digits from `at` on is the check over them.

@@ -1,4 +1,5 @@
 -- A line that passes from the start of one sheet, where a line of another is due, for any format. Assumes nothing.
+use Rattle.std.specs.Prelude.{Ok, Err}
 use Prim.Native.Nat.{ℕ, ◌+◌, ◌%◌, ◌≤◌, ◌<◌}
 use mathlib.Core.Path.{◌≡◌, refl, sym, ◌∙◌, ap}
 use mathlib.Core.Bool.{true, false}
@@ -9,9 +10,7 @@ use native.Mathlib.Omega.{arith}
 use lib.ListN.{length}
 use Rattle.base_laws.proofs.Logic.{clash, fails}
 use Rattle.base_refusal.specs.declared.Refusal.TheVariants.{BadLine, BadCheck}
-use Rattle.base_refusal.specs.declared.Reply.TheVariants.{Done, Refused}
 use Rattle.sheet_digits.specs.declared.Sums.{Sums}
-use Rattle.sheet_digits.specs.declared.Line.TheVariants.{Whole, Fault}
 use Rattle.sheet_digits.specs.Digits.{written}
 use Rattle.sheet_digits.specs.Line.{sheet_line, shaped, checked, shape_of}
 use Rattle.sheet_digits.proofs.Digits.{written_all}
@@ -63,7 +62,7 @@ one_length n k input s t =
 
 -- the line of an accepted frame
 pub frame_passing :
-    (f : Format) (start : Sums) (card n state : ℕ) (last : Frame) (line rest : List ℕ) → Eight start → length line ≡ frame_digits f n + 5 → frame_verdict f start card n state last (line ++ rest) ≡ Done → Passing start (frame_digits f n) line
+    (f : Format) (start : Sums) (card n state : ℕ) (last : Frame) (line rest : List ℕ) → Eight start → length line ≡ frame_digits f n + 5 → frame_verdict f start card n state last (line ++ rest) ≡ Ok tt → Passing start (frame_digits f n) line
 frame_passing f start card n state last line rest small l e =
     let k = frame_digits f n in
     let p = frame_passed f start card n state last (line ++ rest) e in
@@ -93,12 +92,12 @@ pub frame_carried :
     Passing other (frame_digits f n) line →
     Eight start →
     (start ≡ other → ⊥) →
-    frame_verdict f start card n state last (line ++ rest) ≡ Refused BadCheck
+    frame_verdict f start card n state last (line ++ rest) ≡ Err BadCheck
 unfolding frame_verdict
 frame_carried f start other card n state last line rest p small d =
     rw (shaped_whole (frame_digits f n) (line ++ rest) (shaped_there other (frame_digits f n) line rest p), checked_once other (frame_digits f n) line rest p start small d)
 
-not_whole : (n : ℕ) (input : List ℕ) → 0 < length input → shaped n input ≡ false → shape_of n input ≡ Fault BadLine
+not_whole : (n : ℕ) (input : List ℕ) → 0 < length input → shaped n input ≡ false → shape_of n input ≡ Err BadLine
 unfolding shape_of
 not_whole n [] h e = absurd (omega arith)
 not_whole n (b ∷ bs) h e = rw e
@@ -108,7 +107,7 @@ pub length_other :
     (f : Format) (start other : Sums) (k card n state : ℕ) (last : Frame) (line rest : List ℕ) →
     Passing other k line →
     (frame_digits f n ≡ k → ⊥) →
-    frame_verdict f start card n state last (line ++ rest) ≡ Refused BadLine
+    frame_verdict f start card n state last (line ++ rest) ≡ Err BadLine
 unfolding frame_verdict
 length_other f start other k card n state last line rest p d =
     let input = line ++ rest in
@@ -122,7 +121,7 @@ pub no_header :
     (f : Format) → Valid f → (start : Sums) (k due first : ℕ) (line rest : List ℕ) →
     Passing start k line →
     ((session : ℕ) → f.start due session ≡ start → ⊥) →
-    header_verdict f due first (line ++ rest) ≡ Done →
+    header_verdict f due first (line ++ rest) ≡ Ok tt →
     ⊥
 no_header f v start k due first line rest p d e =
     let input = line ++ rest in
@@ -137,10 +136,10 @@ no_header f v start k due first line rest p d e =
 -- A header line that passes from a start with another first sum is 6.
 pub header_carried :
     (f : Format) (start : Sums) (due first : ℕ) (input : List ℕ) →
-    shape_of (header_digits f) input ≡ Whole →
+    shape_of (header_digits f) input ≡ Ok tt →
     checked start (header_digits f) input ≡ true →
     ((start_of f (header_in f input)).first % 256 ≡ start.first % 256 → ⊥) →
-    header_verdict f due first input ≡ Refused BadCheck
+    header_verdict f due first input ≡ Err BadCheck
 unfolding header_verdict
 header_carried f start due first input w c d =
     let h = header_in f input in

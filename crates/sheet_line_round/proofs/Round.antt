@@ -1,4 +1,5 @@
 -- Header and frame lines, written and read back, and read and written again, for any format. Assumes nothing.
+use Rattle.std.specs.Prelude.{Ok}
 use Prim.Native.Nat.{ℕ, suc, ◌+◌, ◌-◌, ◌%◌, ◌^◌, ◌≤◌, ◌<◌}
 use mathlib.Core.Path.{◌≡◌, refl, sym, ◌∙◌, ap, ap₂}
 use mathlib.Core.Bool.{Bool, true, not, ◌&&◌, ◌||◌}
@@ -19,7 +20,6 @@ use Rattle.sheet_digits.specs.Digits.{is_numeral, is_letter, is_digit, number, n
 use Rattle.sheet_digits.specs.Line.{added, summed, check_of, sheet_line, shaped, checked}
 use Rattle.sheet_digits.proofs.Digits.{total, Fitting, written_all, numbers_written, written_numbers, number_take, all_get_d}
 use Rattle.sheet_digits.proofs.Lines.{whole_shaped, shaped_whole, line_rest, line_shaped, line_checked, line_bytes, body_all, body_length, shape, altered}
-use Rattle.base_refusal.specs.declared.Reply.TheVariants.{Done}
 use Rattle.sheet_lines.specs.declared.Header.{Header}
 use Rattle.sheet_lines.specs.declared.Frame.{Frame}
 use Rattle.sheet_lines.specs.Format.{Format, Formats, format, formats, none_of, held_by, shown_by}
@@ -136,7 +136,7 @@ module _ (f : Format) (s : Valid f) (due first : ℕ) (h : Header) (rest : List 
   header_rest = line_rest (start_of f h) (header_digits f) (written (header_widths f) (header_numbers h)) rest (written_all (header_widths f) (header_numbers h)) (header_length f h)
 
   -- and is accepted
-  pub header_accepted : header_verdict f due first (header_line f h ++ rest) ≡ Done
+  pub header_accepted : header_verdict f due first (header_line f h ++ rest) ≡ Ok tt
   unfolding header_verdict header_line
   header_accepted = rw header_back (passes BadHeader (shaped_whole (header_digits f) (header_line f h ++ rest) well_shaped) well_checked a)
     where
@@ -149,7 +149,7 @@ module _ (f : Format) (s : Valid f) (due first : ℕ) (h : Header) (rest : List 
           (check_small (start_of f h) (written (header_widths f) (header_numbers h)) (s.first h.card h.session) (s.second h.card h.session))
 
 -- a header line that is accepted is the line that is written of what was read
-pub header_again : (f : Format) (due first : ℕ) (input : List ℕ) → header_verdict f due first input ≡ Done → header_line f (header_in f input) ++ drop (header_digits f + 5) input ≡ input
+pub header_again : (f : Format) (due first : ℕ) (input : List ℕ) → header_verdict f due first input ≡ Ok tt → header_line f (header_in f input) ++ drop (header_digits f + 5) input ≡ input
 unfolding header_line
 header_again f due first input e =
     let p = header_passed f due first input e in
@@ -224,7 +224,7 @@ module _ (f : Format) (s : Valid f) (start : Sums) (p : start.first < 256) (q : 
     unfolding frame_line
     frame_rest = line_rest start (frame_digits f n) (written (frame_widths f n) (frame_numbers f state fr)) rest (written_all (frame_widths f n) (frame_numbers f state fr)) frame_digits_lem
 
-    pub frame_accepted : frame_verdict f start card n state last (frame_line f start n state fr ++ rest) ≡ Done
+    pub frame_accepted : frame_verdict f start card n state last (frame_line f start n state fr ++ rest) ≡ Ok tt
     unfolding frame_verdict frame_line
     frame_accepted = rw (state_back, frame_back) (passes BadFrame (shaped_whole (frame_digits f n) (frame_line f start n state fr ++ rest) well_shaped) well_checked a)
       where
@@ -239,7 +239,7 @@ module _ (f : Format) (s : Valid f) (start : Sums) (p : start.first < 256) (q : 
 -- a frame line that is accepted is the line that is written of what was read
 pub frame_again :
     (f : Format) (start : Sums) (card n state : ℕ) (last : Frame) (input : List ℕ) →
-    frame_verdict f start card n state last input ≡ Done →
+    frame_verdict f start card n state last input ≡ Ok tt →
     frame_line f start n state (frame_in f n input) ++ drop (frame_digits f n + 5) input ≡ input
 unfolding frame_line frame_allowed
 frame_again f start card n state last input e =
@@ -267,19 +267,19 @@ unfolding frame_in entries_in
 entries_all_lem f n input =
     length-map (numbers (replicate n f.width) (drop (f.width + 8) input)) (held_by f.short (none_of f)) ∙ numbers_count (replicate n f.width) (drop (f.width + 8) input) ∙ length-replicate n f.width
 
-pub change_fits : (f : Format) (start : Sums) (card n state : ℕ) (last : Frame) (input : List ℕ) → frame_verdict f start card n state last input ≡ Done → (frame_in f n input).change < 16 ^ 8
+pub change_fits : (f : Format) (start : Sums) (card n state : ℕ) (last : Frame) (input : List ℕ) → frame_verdict f start card n state last input ≡ Ok tt → (frame_in f n input).change < 16 ^ 8
 unfolding frame_in
 change_fits f start card n state last input e =
     let l = (shape (frame_digits f n) input (whole_shaped (frame_digits f n) input (frame_passed f start card n state last input e).whole)).long in
     number_take 8 (drop f.width input) (rw length-drop (omega arith))
 
-pub session_fits : (f : Format) (due first : ℕ) (input : List ℕ) → header_verdict f due first input ≡ Done → (header_in f input).session < 16 ^ 8
+pub session_fits : (f : Format) (due first : ℕ) (input : List ℕ) → header_verdict f due first input ≡ Ok tt → (header_in f input).session < 16 ^ 8
 unfolding header_in
 session_fits f due first input e =
     let l = (shape (header_digits f) input (whole_shaped (header_digits f) input (header_passed f due first input e).whole)).long in
     number_take 8 input (omega arith)
 
-pub state_is : (f : Format) (start : Sums) (card n state : ℕ) (last : Frame) (input : List ℕ) → frame_verdict f start card n state last input ≡ Done → frame_allowed f card n state last state (frame_in f n input) ≡ true
+pub state_is : (f : Format) (start : Sums) (card n state : ℕ) (last : Frame) (input : List ℕ) → frame_verdict f start card n state last input ≡ Ok tt → frame_allowed f card n state last state (frame_in f n input) ≡ true
 unfolding frame_allowed
 state_is f start card n state last input e =
     let p = frame_passed f start card n state last input e in
@@ -291,8 +291,8 @@ state_is f start card n state last input e =
 pub frame_altered :
     (f : Format) (start : Sums) (card n state : ℕ) (last : Frame) (input : List ℕ) (p b : ℕ) →
     p < frame_digits f n + 5 →
-    frame_verdict f start card n state last input ≡ Done →
-    frame_verdict f start card n state last (set input p b) ≡ Done →
+    frame_verdict f start card n state last input ≡ Ok tt →
+    frame_verdict f start card n state last (set input p b) ≡ Ok tt →
     b ≡ get_or input p 0
 frame_altered f start card n state last input p b h e g =
     let k = frame_digits f n in
@@ -354,7 +354,7 @@ not_both n m xs ys h s t e =
     let w : ◌≡◌ {A = ℕ} 0 1 = cc in
     absurd (omega arith)
 
-module _ (F : Formats) (t : Alike F) (due first : ℕ) (input : List ℕ) (p b : ℕ) (e : header_verdict (format_in F input) due first input ≡ Done) (g : header_verdict (format_in F (set input p b)) due first (set input p b) ≡ Done) where
+module _ (F : Formats) (t : Alike F) (due first : ℕ) (input : List ℕ) (p b : ℕ) (e : header_verdict (format_in F input) due first input ≡ Ok tt) (g : header_verdict (format_in F (set input p b)) due first (set input p b) ≡ Ok tt) where
   -- where both lines are of one length
   of_one_length : p < header_digits (format_in F input) + 5 → (format_in F input).width ≡ (format_in F (set input p b)).width → b ≡ get_or input p 0
   of_one_length h r =
@@ -447,8 +447,8 @@ frame_untouched f n input p b h l =
     ∙ ap (from_numbers f) (same_numbers (frame_widths f n) (set input p b) input k (omega arith) (rw length-set (omega arith)) (omega arith) (take-set-le k input p b (omega arith)))
     ∙ sym (frame_from f n input)
 
-pub header_room : (f : Format) (due first : ℕ) (input : List ℕ) → header_verdict f due first input ≡ Done → header_digits f + 5 ≤ length input
+pub header_room : (f : Format) (due first : ℕ) (input : List ℕ) → header_verdict f due first input ≡ Ok tt → header_digits f + 5 ≤ length input
 header_room f due first input e = (shape (header_digits f) input (whole_shaped (header_digits f) input (header_passed f due first input e).whole)).long
 
-pub frame_room : (f : Format) (start : Sums) (card n state : ℕ) (last : Frame) (input : List ℕ) → frame_verdict f start card n state last input ≡ Done → frame_digits f n + 5 ≤ length input
+pub frame_room : (f : Format) (start : Sums) (card n state : ℕ) (last : Frame) (input : List ℕ) → frame_verdict f start card n state last input ≡ Ok tt → frame_digits f n + 5 ≤ length input
 frame_room f start card n state last input e = (shape (frame_digits f n) input (whole_shaped (frame_digits f n) input (frame_passed f start card n state last input e).whole)).long

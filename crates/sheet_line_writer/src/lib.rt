@@ -52,10 +52,8 @@ fn put_entries(
     requires { (n ≤ 16) × (at + n * width ≤ length b.old) }
     ensures { b.new ≡ sets b.old at (written (replicate n width) (map (shown_by short none) entries)) }
 {
-    let mut j = 0;
-    while j < n {
+    for j in 0..n {
         sheet_digits::put_state(b, at + j * width, width, entry_of(short, none, entries[j]));
-        j += 1;
     }
 }
 
@@ -65,11 +63,8 @@ pub fn put_frame(f: Layout, b: &mut [u8], at: usize, start: Sums, n: usize, stat
     ensures { b.new ≡ sets b.old at (frame_line (format_of f) start n state next) }
 {
     let width = f.width;
-    let short = f.short;
-    let none = f.none;
     sheet_digits::put_number(b, at, width, state);
     sheet_digits::put_number(b, at + width, 8, next.change);
-    let entries = next.entries;
-    put_entries(b, at + (width + 8), n, width, short, none, entries);
+    put_entries(b, at + (width + 8), n, width, f.short, f.none, next.entries);
     sheet_line_check::end_line(b, at, width + 8 + n * width, start);
 }

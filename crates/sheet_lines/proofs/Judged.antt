@@ -1,4 +1,5 @@
 -- The tests of the code, put together as the definitions have them, for any format. Assumes nothing.
+use Rattle.std.specs.Prelude.{Result, Ok, Err}
 use Prim.Native.Nat.{ℕ, zero, suc, ◌+◌, ◌*◌, ◌-◌, ◌≤◌, ◌<◌}
 use mathlib.Core.Path.{◌≡◌, refl, sym, ◌∙◌, ap}
 use mathlib.Core.Bool.{Bool, true, false, not, ◌&&◌, ◌||◌, cond}
@@ -17,15 +18,10 @@ use Rattle.base_laws.specs.Below.{all_below}
 use Rattle.base_laws.proofs.Below.{all_at}
 use Rattle.base_laws.proofs.Logic.{clash}
 use Rattle.sheet_digits.specs.declared.Sums.{Sums}
-use Rattle.sheet_digits.specs.declared.Line.TheVariants.{Whole, Fault}
 use Rattle.sheet_digits.specs.Digits.{number, numbers}
 use Rattle.sheet_digits.specs.Line.{checked, shape_of}
-use Rattle.base_refusal.specs.declared.Reply.TheVariants.{Done, Refused}
 use Rattle.sheet_lines.specs.declared.Header.{Header}
 use Rattle.sheet_lines.specs.declared.Frame.{Frame}
-use Rattle.sheet_lines.specs.declared.FrameRead.{FrameRead}
-use Rattle.sheet_lines.specs.declared.FrameLine.TheVariants.{Read as frame-read}
-use Rattle.sheet_lines.specs.declared.HeaderLine.TheVariants.{Fault as header-fault}
 use Rattle.sheet_lines.specs.Format.{Format, none_of, held_by}
 use Rattle.sheet_lines.specs.Lines.{cards_of, start_of, header_digits, header_in, header_allowed, header_verdict, header_or, state_in, entries_by, entries_in, frame_digits, frame_in, entry_allowed, entries_allowed, frame_allowed, frame_verdict, padded, frame_read_of}
 
@@ -43,30 +39,16 @@ pub header_tests :
 unfolding header_allowed
 header_tests f due first h k p q r s t u v = rw (← k, ← p, ← q, ← r, ← s, ← t, ← u, ← v)
 
--- a sum within a limit, told by a difference
-pub within : (base count limit : ℕ) → base ≤ limit → leb (base + count) limit ≡ leb count (limit - base)
-within base count limit h =
-    by_cases (dec_le count (limit - base)) (λ l. le-leb (base + count) limit (omega arith) ∙ sym (le-leb count (limit - base) l))
-    (λ l. lt-leb (base + count) limit (omega arith) ∙ sym (lt-leb count (limit - base) (omega arith)))
-
-pub header_faulty : (f : Format) (due first : ℕ) (input : List ℕ) (r : Refusal) → shape_of (header_digits f) input ≡ Fault r → header-fault r ≡ header_or (header_verdict f due first input) (header_in f input)
-unfolding header_verdict
-header_faulty f due first input r e = rw e
-
 pub header_reply_lem :
     (f : Format) (due first : ℕ) (input : List ℕ) {h : Header} {start : Sums} {c a : Bool} →
-    shape_of (header_digits f) input ≡ Whole →
+    shape_of (header_digits f) input ≡ Ok tt →
     h ≡ header_in f input →
     start ≡ start_of f h →
     c ≡ checked start (header_digits f) input →
     a ≡ header_allowed f due first h →
-    header_or (cond c (cond a Done (Refused BadHeader)) (Refused BadCheck)) h ≡ header_or (header_verdict f due first input) (header_in f input)
+    header_or (cond c (cond a (Ok tt) (Err BadHeader)) (Err BadCheck)) h ≡ header_or (header_verdict f due first input) (header_in f input)
 unfolding header_verdict
 header_reply_lem f due first input s e p q r = rw (s, r, q, p, e)
-
-pub entry_tests :
-    (f : Format) (card state j p e : ℕ) {a b c d : Bool} → (f.short || leb p e) ≡ a → leb e f.states ≡ b → eqb j card ≡ c → eqb e state ≡ d → (a && (b && (not c || d))) ≡ entry_allowed f card state j p e
-entry_tests f card state j p e x y z w = rw (← x, ← y, ← z, ← w)
 
 pub frame_tests :
     (f : Format) (card n state told : ℕ) (last next : Frame) {a b c : Bool} →
@@ -86,19 +68,12 @@ pub entries_same :
 unfolding entries_allowed
 entries_same f card state n ps qs es fs p q = λ i. all_below n (λ j. entry_allowed f card state j (p j i) (q j i))
 
-pub frame_faulty :
-    (f : Format) (start : Sums) (card n state : ℕ) (last next : Frame) (input : List ℕ) (r : Refusal) →
-    shape_of (frame_digits f n) input ≡ Fault r →
-    frame_read_of (Refused r) next ≡ frame_read_of (frame_verdict f start card n state last input) (frame_in f n input)
-unfolding frame_verdict
-frame_faulty f start card n state last next input r e = rw e
-
 pub frame_reply_lem :
     (f : Format) (start : Sums) (card n state : ℕ) (last : Frame) (input : List ℕ) {c a : Bool} →
-    shape_of (frame_digits f n) input ≡ Whole →
+    shape_of (frame_digits f n) input ≡ Ok tt →
     c ≡ checked start (frame_digits f n) input →
     a ≡ frame_allowed f card n state last (state_in f input) (frame_in f n input) →
-    frame_read_of (cond c (cond a Done (Refused BadFrame)) (Refused BadCheck)) (frame_in f n input) ≡ frame_read_of (frame_verdict f start card n state last input) (frame_in f n input)
+    frame_read_of (cond c (cond a (Ok tt) (Err BadFrame)) (Err BadCheck)) (frame_in f n input) ≡ frame_read_of (frame_verdict f start card n state last input) (frame_in f n input)
 unfolding frame_verdict
 frame_reply_lem f start card n state last input s q r = rw (s, r, q)
 
@@ -199,6 +174,6 @@ pub frame_kept :
     (f : Format) (n at : ℕ) (s : List ℕ) {change : ℕ} {entries : List ℕ} →
     change ≡ number (take 8 (drop (at + f.width) s)) →
     entries ≡ padded (entries_in f n (drop (at + (f.width + 8)) s)) →
-    ◌≡◌ {A = FrameRead} (record { entries = entries; line = frame-read change }) (frame_read_of Done (frame_in f n (drop at s)))
+    ◌≡◌ {A = Result Frame Refusal} (Ok (record { change = change; entries = entries })) (frame_read_of (Ok tt) (frame_in f n (drop at s)))
 unfolding frame_in
 frame_kept f n at s q r = rw (q, r, drop-drop f.width at s, drop-drop (f.width + 8) at s)

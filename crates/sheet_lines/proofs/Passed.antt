@@ -1,4 +1,6 @@
 -- What an accepted line tells, for any format. Assumes nothing.
+use Rattle.std.specs.Prelude.{Ok, Err}
+use Rattle.base_refusal.specs.Reply.{Reply}
 use Prim.Native.Nat.{ℕ, ◌+◌, ◌≤◌, ◌<◌}
 use mathlib.Core.Path.{◌≡◌, refl, ap}
 use mathlib.Core.Bool.{Bool, true, false, not, ◌&&◌, ◌||◌}
@@ -10,28 +12,25 @@ use Rattle.base_refusal.specs.declared.Refusal.{Refusal}
 use Rattle.base_refusal.specs.declared.Refusal.TheVariants.{BadHeader, BadFrame}
 use Rattle.base_laws.proofs.Logic.{and_left, and_right, and_intro, not_true}
 use Rattle.sheet_digits.specs.declared.Sums.{Sums}
-use Rattle.sheet_digits.specs.declared.Line.{Line}
-use Rattle.sheet_digits.specs.declared.Line.TheVariants.{Whole, Fault}
 use Rattle.sheet_digits.specs.Line.{checked, shape_of}
-use Rattle.base_refusal.specs.declared.Reply.TheVariants.{Done}
 use Rattle.sheet_lines.specs.declared.Header.{Header}
 use Rattle.sheet_lines.specs.declared.Frame.{Frame}
 use Rattle.sheet_lines.specs.Format.{Format}
 use Rattle.sheet_lines.specs.Lines.{judged, cards_of, start_of, header_digits, header_in, header_allowed, header_verdict, frame_digits, state_in, frame_in, frame_allowed, frame_verdict}
 
 -- a line that is accepted passed all three tests
-pub record Passed (line : Line) (right allowed : Bool) : Type 0 where
-  pub whole : line ≡ Whole
+pub record Passed (line : Reply) (right allowed : Bool) : Type 0 where
+  pub whole : line ≡ Ok tt
   pub right_is : right ≡ true
   pub allowed_is : allowed ≡ true
 
-pub passed : (line : Line) (right allowed : Bool) (r : Refusal) → judged line right allowed r ≡ Done → Passed line right allowed
-passed (Fault x) right allowed r e = let z : ◌≡◌ {A = ℕ} 0 1 = cc in absurd (omega arith)
-passed Whole true true r e = record { whole = refl; right_is = refl; allowed_is = refl }
-passed Whole true false r e = let z : ◌≡◌ {A = ℕ} 0 1 = cc in absurd (omega arith)
-passed Whole false allowed r e = let z : ◌≡◌ {A = ℕ} 0 1 = cc in absurd (omega arith)
+pub passed : (line : Reply) (right allowed : Bool) (r : Refusal) → judged line right allowed r ≡ Ok tt → Passed line right allowed
+passed (Err x) right allowed r e = let z : ◌≡◌ {A = ℕ} 0 1 = cc in absurd (omega arith)
+passed (Ok _) true true r e = record { whole = refl; right_is = refl; allowed_is = refl }
+passed (Ok _) true false r e = let z : ◌≡◌ {A = ℕ} 0 1 = cc in absurd (omega arith)
+passed (Ok _) false allowed r e = let z : ◌≡◌ {A = ℕ} 0 1 = cc in absurd (omega arith)
 
-pub passes : {line : Line} {right allowed : Bool} (r : Refusal) → line ≡ Whole → right ≡ true → allowed ≡ true → judged line right allowed r ≡ Done
+pub passes : {line : Reply} {right allowed : Bool} (r : Refusal) → line ≡ Ok tt → right ≡ true → allowed ≡ true → judged line right allowed r ≡ Ok tt
 passes r x y z = rw (x, y, z)
 
 -- what an allowed header says
@@ -77,7 +76,7 @@ header_beside f due first other h e g =
     and_intro (ap not (ne_eqb h.session 0 l.session))
     (and_intro (eq-eqb h.card due l.card) (and_intro (lt-ltb h.card (cards_of f h) l.below) (and_intro (le-leb (cards_of f h) f.cards l.cards) (and_intro g (and_intro (le-leb h.count f.frames l.count) (le-leb (h.base + h.count) f.states l.states))))))
 
-module _ (f : Format) (due first : ℕ) (input : List ℕ) (e : header_verdict f due first input ≡ Done) where
+module _ (f : Format) (due first : ℕ) (input : List ℕ) (e : header_verdict f due first input ≡ Ok tt) where
   pub header_passed : Passed (shape_of (header_digits f) input) (checked (start_of f (header_in f input)) (header_digits f) input) (header_allowed f due first (header_in f input))
   unfolding header_verdict
   header_passed = passed (shape_of (header_digits f) input) (checked (start_of f (header_in f input)) (header_digits f) input) (header_allowed f due first (header_in f input)) BadHeader e
@@ -85,7 +84,7 @@ module _ (f : Format) (due first : ℕ) (input : List ℕ) (e : header_verdict f
   pub header_within : Header-in-limits f due first (header_in f input)
   header_within = header_limits f due first (header_in f input) header_passed.allowed_is
 
-module _ (f : Format) (start : Sums) (card n state : ℕ) (last : Frame) (input : List ℕ) (e : frame_verdict f start card n state last input ≡ Done) where
+module _ (f : Format) (start : Sums) (card n state : ℕ) (last : Frame) (input : List ℕ) (e : frame_verdict f start card n state last input ≡ Ok tt) where
   pub frame_passed : Passed (shape_of (frame_digits f n) input) (checked start (frame_digits f n) input) (frame_allowed f card n state last (state_in f input) (frame_in f n input))
   unfolding frame_verdict
   frame_passed = passed (shape_of (frame_digits f n) input) (checked start (frame_digits f n) input) (frame_allowed f card n state last (state_in f input) (frame_in f n input)) BadFrame e

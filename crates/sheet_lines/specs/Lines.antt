@@ -1,30 +1,22 @@
 -- Document 01's header line and frame line: their bytes, and what their readers answer.
-use Rattle.std.specs.Prelude.{ℕ, ◌+◌, ◌*◌, Bool, not, ◌&&◌, ◌||◌, cond, List, [], ◌∷◌, map, leb, ltb, eqb, take, drop, get_or, replicate}
+use Rattle.std.specs.Prelude.{ℕ, ◌+◌, ◌*◌, Bool, not, ◌&&◌, ◌||◌, cond, List, [], ◌∷◌, map, leb, ltb, eqb, take, drop, get_or, replicate, Result, Ok, Err}
 use Rattle.std.proofs.lemmas.List.Edits.{sets}
 use Rattle.base_limits.specs.Document.{most_cards}
 use Rattle.base_refusal.specs.declared.Refusal.{Refusal}
 use Rattle.base_refusal.specs.declared.Refusal.TheVariants.{BadCheck, BadHeader, BadFrame}
 use Rattle.sheet_digits.specs.declared.Sums.{Sums}
-use Rattle.sheet_digits.specs.declared.Line.{Line}
-use Rattle.sheet_digits.specs.declared.Line.TheVariants.{Whole, Fault}
 use Rattle.sheet_digits.specs.Digits.{number, numbers, written}
 use Rattle.sheet_digits.specs.Line.{sheet_line, checked, shape_of}
 use Rattle.base_laws.specs.Below.{all_below}
-use Rattle.base_refusal.specs.declared.Reply.{Reply}
-use Rattle.base_refusal.specs.declared.Reply.TheVariants.{Done, Refused}
+use Rattle.base_refusal.specs.Reply.{Reply}
 use Rattle.sheet_lines.specs.declared.Header.{Header}
-use Rattle.sheet_lines.specs.declared.HeaderLine.{HeaderLine}
-use Rattle.sheet_lines.specs.declared.HeaderLine.TheVariants.{Read as header_read, Fault as header-fault}
 use Rattle.sheet_lines.specs.declared.Frame.{Frame}
-use Rattle.sheet_lines.specs.declared.FrameLine.{FrameLine}
-use Rattle.sheet_lines.specs.declared.FrameRead.{FrameRead}
-use Rattle.sheet_lines.specs.declared.FrameLine.TheVariants.{Read as frame-read, Fault as frame-fault}
 use Rattle.sheet_lines.specs.Format.{Format, Formats, none_of, held_by, shown_by}
 
 -- the order of a line's refusals: "8, 5, 6, then 7 or 9"
-abbrev pub judged : Line → Bool → Bool → Refusal → Reply
-judged (Fault r) right allowed refusal = Refused r
-judged Whole right allowed refusal = cond right (cond allowed Done (Refused refusal)) (Refused BadCheck)
+abbrev pub judged : Reply → Bool → Bool → Refusal → Reply
+judged (Err r) right allowed refusal = Err r
+judged (Ok _) right allowed refusal = cond right (cond allowed (Ok tt) (Err refusal)) (Err BadCheck)
 
 -- ---- the header line: "session 8, card 2, number of cards 2, base 4, frame count 4, check 4"
 
@@ -85,14 +77,9 @@ header_verdict f due first input =
     judged (shape_of (header_digits f) input) (checked (start_of f (header_in f input)) (header_digits f) input) (header_allowed f due first (header_in f input)) BadHeader
 
 -- the header where the verdict accepts it, else the refusal
-abbrev pub header_or : Reply → Header → HeaderLine
-header_or Done h = header_read h
-header_or (Refused r) h = header-fault r
-
--- the verdict that the header reader's answer tells
-abbrev pub header_reply : HeaderLine → Reply
-header_reply (header_read h) = Done
-header_reply (header-fault r) = Refused r
+abbrev pub header_or : Reply → Header → Result Header Refusal
+header_or (Ok _) h = Ok h
+header_or (Err r) h = Err r
 
 -- ---- the frame line: "state 4, change 8, one entry of 4 per card (none is FFFF), check 4"; n is the number of cards
 
@@ -145,15 +132,10 @@ unfoldable pub padded : List ℕ → List ℕ
 padded es = sets (replicate most_cards 0) 0 es
 
 -- the frame where the verdict accepts it, else the refusal
-abbrev pub frame_read_of : Reply → Frame → FrameRead
-frame_read_of Done fr = record { entries = padded fr.entries; line = frame-read fr.change }
-frame_read_of (Refused r) fr = record { entries = replicate most_cards 0; line = frame-fault r }
+abbrev pub frame_read_of : Reply → Frame → Result Frame Refusal
+frame_read_of (Ok _) fr = Ok (record { change = fr.change; entries = padded fr.entries })
+frame_read_of (Err r) fr = Err r
 
 -- what stands before the first frame: change 0, no entries
 abbrev pub no_frame : Frame
 no_frame = record { change = 0; entries = replicate most_cards 0 }
-
--- the verdict that the frame reader's answer tells
-abbrev pub frame_reply : FrameLine → Reply
-frame_reply (frame-read change) = Done
-frame_reply (frame-fault r) = Refused r

@@ -3,10 +3,8 @@
 
 ghost use Rattle.std.specs.Prelude.{◌≡◌};
 ghost use Rattle.sheet_lines.specs.Format.{format, format_of, Fits, plain, formats};
-ghost use Rattle.sheet_lines.specs.Lines.{header_reply, frame_reply};
 
 use base_limits::Limits;
-use base_refusal::{Refusal, Reply};
 use sheet_digits::Sums;
 
 // What the readers and writers of lines are told of a sheet's format: the number that says none, the greatest state,
@@ -36,25 +34,12 @@ pub struct Frame {
     pub entries: [u32; Limits::CARDS],
 }
 
-// What the reader of a header line answers.
-#[derive(Clone, Copy)]
-pub enum HeaderLine {
-    Read(Header),
-    Fault(Refusal),
-}
-
-// What the reader of a frame line answers: the change number, or the refusal.
-#[derive(Clone, Copy)]
-pub enum FrameLine {
-    Read(u32),
-    Fault(Refusal),
-}
-
-// The entries stand beside the answer; they are 0 where the line is refused.
-#[derive(Clone, Copy)]
-pub struct FrameRead {
-    pub entries: [u32; Limits::CARDS],
-    pub line: FrameLine,
+impl Frame {
+    // What stands before the first frame: change 0, no entries.
+    pub const NONE: Frame = Frame {
+        change: 0,
+        entries: [0u32; Limits::CARDS],
+    };
 }
 
 // Document 01's layout.
@@ -76,24 +61,6 @@ pub fn layout_of(told: u32) -> Layout
     ensures fits { Fits result }
 {
     plain()
-}
-
-pub fn header_reply(l: HeaderLine) -> Reply
-    ensures { result ≡ header_reply l }
-{
-    match l {
-        HeaderLine::Read(_) => Reply::Done,
-        HeaderLine::Fault(r) => Reply::Refused(r),
-    }
-}
-
-pub fn frame_reply(l: FrameLine) -> Reply
-    ensures { result ≡ frame_reply l }
-{
-    match l {
-        FrameLine::Read(_) => Reply::Done,
-        FrameLine::Fault(r) => Reply::Refused(r),
-    }
 }
 
 // Where the two sums of a sheet's checks start.

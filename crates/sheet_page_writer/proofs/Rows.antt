@@ -1,4 +1,6 @@
 -- Frames out of a ring, written one after another, over variables. Assumes nothing.
+use Rattle.std.specs.Prelude.{Result, Ok, Err}
+use Rattle.base_refusal.specs.declared.Refusal.{Refusal}
 use Prim.Native.Nat.{ℕ, zero, suc, ◌+◌, ◌*◌, ◌-◌, ◌≤◌, ◌<◌}
 use mathlib.Core.Path.{◌≡◌, refl, sym, ◌∙◌, ap, ap₂}
 use mathlib.Core.Bool.{true}
@@ -14,7 +16,6 @@ use Rattle.base_laws.proofs.Logic.{cond_true}
 use Rattle.base_laws.proofs.Seq.{sets_append}
 use Rattle.base_laws.proofs.Fill.{length_tabulate, get_d_tabulate}
 use Rattle.base_refusal.specs.declared.Refusal.TheVariants.{TooShort}
-use Rattle.base_refusal.specs.declared.Reply.TheVariants.{Done}
 use Rattle.sheet_digits.specs.declared.Sums.{Sums}
 use Rattle.sheet_digits.specs.Digits.{digits, written}
 use Rattle.sheet_digits.specs.Line.{sheet_line}
@@ -26,8 +27,6 @@ use Rattle.sheet_lines.proofs.Passed.{header_limits}
 use Rattle.sheet_lines.proofs.Lengths.{frame_line_length, header_line_length}
 use Rattle.sheet_pages.specs.Pages.{frames_bytes, bytes_in, page_bytes}
 use Rattle.sheet_pages.specs.Ring.{ring_frame, ring_page}
-use Rattle.sheet_page_writer.specs.declared.Written.{Written}
-use Rattle.sheet_page_writer.specs.declared.Written.TheVariants.{Length, Refused as written-refused}
 use Rattle.sheet_page_writer.specs.Write.{held_frame, ring_rows, Wrote, wrote_bytes}
 
 -- ---- a run of frames
@@ -184,29 +183,29 @@ module _ (changes entries : List ℕ) (h : Header) (few : cards_of (format_for f
 
 -- ---- the writer's answer
 
-pub wrote_short : (bytes b : List ℕ) (n : ℕ) → length bytes ≡ n → length b < n → wrote_bytes Done bytes b ≡ record { answer = written-refused TooShort; buffer = b }
+pub wrote_short : (bytes b : List ℕ) (n : ℕ) → length bytes ≡ n → length b < n → wrote_bytes (Ok tt) bytes b ≡ record { answer = Err TooShort; buffer = b }
 wrote_short bytes b n e h = rw (lt-leb (length bytes) (length b) (omega arith))
 
-pub wrote_whole : (bytes b : List ℕ) (n : ℕ) → length bytes ≡ n → n ≤ length b → wrote_bytes Done bytes b ≡ record { answer = Length n; buffer = sets b 0 bytes }
+pub wrote_whole : (bytes b : List ℕ) (n : ℕ) → length bytes ≡ n → n ≤ length b → wrote_bytes (Ok tt) bytes b ≡ record { answer = Ok n; buffer = sets b 0 bytes }
 wrote_whole bytes b n e h = rw (le-leb (length bytes) (length b) (omega arith), e)
 
 -- an answer and the buffer behind it, told by a record
-abbrev pub Told : Wrote → Written → List ℕ → Type 0
+abbrev pub Told : Wrote → Result ℕ Refusal → List ℕ → Type 0
 Told w answer after = (answer ≡ w.answer) × (after ≡ w.buffer)
 
-pub told_by : (w v : Wrote) {answer : Written} {after : List ℕ} → v ≡ w → Told w answer after → Told v answer after
+pub told_by : (w v : Wrote) {answer : (Result ℕ Refusal)} {after : List ℕ} → v ≡ w → Told w answer after → Told v answer after
 told_by w v e t = (t.0 ∙ ap (λ (x : Wrote). x.answer) (sym e), t.1 ∙ ap (λ (x : Wrote). x.buffer) (sym e))
 
-pub told_short : (bytes b : List ℕ) (n : ℕ) → length bytes ≡ n → length b < n → Told (wrote_bytes Done bytes b) (written-refused TooShort) b
-told_short bytes b n e h = told_by (record { answer = written-refused TooShort; buffer = b }) (wrote_bytes Done bytes b) (wrote_short bytes b n e h) (refl, refl)
+pub told_short : (bytes b : List ℕ) (n : ℕ) → length bytes ≡ n → length b < n → Told (wrote_bytes (Ok tt) bytes b) (Err TooShort) b
+told_short bytes b n e h = told_by (record { answer = Err TooShort; buffer = b }) (wrote_bytes (Ok tt) bytes b) (wrote_short bytes b n e h) (refl, refl)
 
-pub told_whole : (bytes b : List ℕ) (n : ℕ) {after : List ℕ} → length bytes ≡ n → n ≤ length b → after ≡ sets b 0 bytes → Told (wrote_bytes Done bytes b) (Length n) after
-told_whole bytes b n e h a = told_by (record { answer = Length n; buffer = sets b 0 bytes }) (wrote_bytes Done bytes b) (wrote_whole bytes b n e h) (refl, a)
+pub told_whole : (bytes b : List ℕ) (n : ℕ) {after : List ℕ} → length bytes ≡ n → n ≤ length b → after ≡ sets b 0 bytes → Told (wrote_bytes (Ok tt) bytes b) (Ok n) after
+told_whole bytes b n e h a = told_by (record { answer = Ok n; buffer = sets b 0 bytes }) (wrote_bytes (Ok tt) bytes b) (wrote_whole bytes b n e h) (refl, a)
 
 -- the sheet with 16 entries in each frame, in the format that its header picks
-pub told_page : (changes entries : List ℕ) (h : Header) (b : List ℕ) (f : Format) {answer : Written} {after : List ℕ} → f ≡ format_for formats h → header_allowed (format_for formats h) h.card 0 h ≡ true
-    → Told (wrote_bytes Done (bytes_in f (ring_rows changes entries h)) b) answer after → Told (wrote_bytes Done (page_bytes formats (ring_page changes entries h)) b) answer after
+pub told_page : (changes entries : List ℕ) (h : Header) (b : List ℕ) (f : Format) {answer : (Result ℕ Refusal)} {after : List ℕ} → f ≡ format_for formats h → header_allowed (format_for formats h) h.card 0 h ≡ true
+    → Told (wrote_bytes (Ok tt) (bytes_in f (ring_rows changes entries h)) b) answer after → Told (wrote_bytes (Ok tt) (page_bytes formats (ring_page changes entries h)) b) answer after
 told_page changes entries h b f e p t =
     let l = header_limits (format_for formats h) h.card 0 h p in
-    told_by (wrote_bytes Done (bytes_in f (ring_rows changes entries h)) b) (wrote_bytes Done (page_bytes formats (ring_page changes entries h)) b)
-    (ap (λ (bytes : List ℕ). wrote_bytes Done bytes b) (sym (ap (λ (g : Format). bytes_in g (ring_rows changes entries h)) e ∙ rows_bytes changes entries h l.cards))) t
+    told_by (wrote_bytes (Ok tt) (bytes_in f (ring_rows changes entries h)) b) (wrote_bytes (Ok tt) (page_bytes formats (ring_page changes entries h)) b)
+    (ap (λ (bytes : List ℕ). wrote_bytes (Ok tt) bytes b) (sym (ap (λ (g : Format). bytes_in g (ring_rows changes entries h)) e ∙ rows_bytes changes entries h l.cards))) t

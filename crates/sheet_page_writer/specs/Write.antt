@@ -1,29 +1,27 @@
 -- What the writer of a sheet answers and leaves in the buffer.
-use Rattle.std.specs.Prelude.{ℕ, suc, ◌+◌, cond, List, leb, ltb, length}
+use Rattle.base_refusal.specs.declared.Refusal.{Refusal}
+use Rattle.std.specs.Prelude.{ℕ, suc, ◌+◌, cond, List, leb, ltb, length, Result, Ok, Err}
 use Rattle.std.proofs.lemmas.List.Edits.{sets}
 use Rattle.base_limits.specs.Document.{most_cards}
 use Rattle.base_laws.specs.Below.{tabulate}
 use Rattle.base_refusal.specs.declared.Refusal.TheVariants.{TooShort}
-use Rattle.base_refusal.specs.declared.Reply.{Reply}
-use Rattle.base_refusal.specs.declared.Reply.TheVariants.{Done, Refused}
+use Rattle.base_refusal.specs.Reply.{Reply}
 use Rattle.sheet_lines.specs.declared.Header.{Header}
 use Rattle.sheet_lines.specs.declared.Frame.{Frame}
 use Rattle.sheet_lines.specs.Lines.{no_frame}
 use Rattle.sheet_pages.specs.Pages.{Page}
 use Rattle.sheet_pages.specs.Ring.{ring_frame}
-use Rattle.sheet_page_writer.specs.declared.Written.{Written}
-use Rattle.sheet_page_writer.specs.declared.Written.TheVariants.{Length, Refused as written-refused}
 
 -- what a writer answers, and the buffer behind it
 pub record Wrote : Type 0 where
-  pub answer : Written
+  pub answer : Result ℕ Refusal
   pub buffer : List ℕ
 
 -- the bytes at the front of the buffer, where they are to be written and it is long enough for the whole; else the buffer as it was
 abbrev pub wrote_bytes : Reply → List ℕ → List ℕ → Wrote
-wrote_bytes (Refused r) bytes buffer = record { answer = written-refused r; buffer = buffer }
-wrote_bytes Done bytes buffer =
-    cond (leb (length bytes) (length buffer)) (record { answer = Length (length bytes); buffer = sets buffer 0 bytes }) (record { answer = written-refused TooShort; buffer = buffer })
+wrote_bytes (Err r) bytes buffer = record { answer = Err r; buffer = buffer }
+wrote_bytes (Ok _) bytes buffer =
+    cond (leb (length bytes) (length buffer)) (record { answer = Ok (length bytes); buffer = sets buffer 0 bytes }) (record { answer = Err TooShort; buffer = buffer })
 
 -- the frame of state x of card c, with all 16 entries of its place; zeros of a card that the ring has no place for
 abbrev pub held_frame : (changes entries : List ℕ) → (c x : ℕ) → Frame

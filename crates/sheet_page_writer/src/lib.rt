@@ -1,24 +1,17 @@
 // The sheet that a ring of frames holds for a header, written as bytes.
 #![tactic(auto)]
 
-ghost use Rattle.std.specs.Prelude.{◌≡◌, ◌+◌, ◌*◌, ◌≤◌, ◌<◌, true, length};
+ghost use Rattle.std.specs.Prelude.{◌≡◌, ◌+◌, ◌*◌, ◌≤◌, ◌<◌, true, length, Ok};
 ghost use Rattle.std.proofs.lemmas.List.Edits.{sets};
 ghost use Rattle.sheet_lines.specs.Format.{formats, format_of, Fits};
 ghost use Rattle.sheet_lines.specs.Lines.{cards_of, format_for, header_digits, frame_digits, header_allowed};
 ghost use Rattle.sheet_pages.specs.Pages.{bytes_in, page_bytes};
 ghost use Rattle.sheet_pages.specs.Ring.{ring_page};
-ghost use Rattle.base_refusal.specs.declared.Reply.TheVariants.{Done};
 ghost use Rattle.sheet_page_writer.specs.Write.{held_frame, ring_rows, wrote_bytes};
 
 use base_limits::Limits;
 use base_refusal::Refusal;
 use sheet_lines::{Frame, Header, Layout};
-
-#[derive(Clone, Copy)]
-pub enum Written {
-    Length(usize),
-    Refused(Refusal),
-}
 
 // The frame of a card's state, with all 16 entries of its place; zeros for a card that the ring has no place for.
 pub fn frame_of<'a>(
@@ -30,17 +23,12 @@ pub fn frame_of<'a>(
     ensures { result ≡ held_frame changes.now entries.now card state }
 {
     if Limits::CARDS_U32 <= card {
-        return Frame {
-            change: 0,
-            entries: [0u32; Limits::CARDS],
-        };
+        return Frame::NONE;
     }
     let place = base_limits::ring_place(card, state as usize);
-    let change = changes[place];
-    let row = base_rows::row_at(entries, place);
     Frame {
-        change,
-        entries: row,
+        change: changes[place],
+        entries: base_rows::row_at(entries, place),
     }
 }
 
@@ -56,22 +44,16 @@ fn put_sheet<'a, 'b>(
     ensures { b.new ≡ sets b.old 0 (bytes_in (format_of f) (ring_rows changes.now entries.now h)) }
 {
     let width = f.width;
-    let card = h.card;
-    let session = h.session;
-    let base = h.base;
-    let count = h.count;
     let n = sheet_header_reader::unraised(h.cards, f.raise) as usize;
     sheet_line_writer::put_header(f, b, 0, h);
     let line = width + 8 + n * width + 5;
     let mut at: usize = width + 16 + 5;
-    let mut k: u32 = 0;
-    while k < count {
-        let state = base + 1 + k;
-        let next = frame_of(changes, entries, card, state);
-        let start = sheet_lines::start_of(card, session);
+    for k in 0..h.count {
+        let state = h.base + 1 + k;
+        let next = frame_of(changes, entries, h.card, state);
+        let start = sheet_lines::start_of(h.card, h.session);
         sheet_line_writer::put_frame(f, b, at, start, n, state, next);
         at += line;
-        k += 1;
     }
 }
 
@@ -82,19 +64,18 @@ fn write_in<'a, 'b>(
     changes: &'b [u32; Limits::FRAMES],
     entries: &'b [u32; Limits::ENTRIES],
     h: Header,
-) -> Written
+) -> Result<usize, Refusal>
     requires { Fits f × (header_allowed (format_of f) h.card 0 h ≡ true) }
-    ensures { (result ≡ (wrote_bytes Done (bytes_in (format_of f) (ring_rows changes.now entries.now h)) b.old).answer) × (b.new ≡ (wrote_bytes Done (bytes_in (format_of f) (ring_rows changes.now entries.now h)) b.old).buffer) }
+    ensures { (result ≡ (wrote_bytes (Ok tt) (bytes_in (format_of f) (ring_rows changes.now entries.now h)) b.old).answer) × (b.new ≡ (wrote_bytes (Ok tt) (bytes_in (format_of f) (ring_rows changes.now entries.now h)) b.old).buffer) }
 {
     let width = f.width;
-    let count = h.count;
     let cards = sheet_header_reader::unraised(h.cards, f.raise);
-    let length = width + 16 + 5 + count as usize * (width + 8 + cards as usize * width + 5);
+    let length = width + 16 + 5 + h.count as usize * (width + 8 + cards as usize * width + 5);
     if b.len() < length {
-        return Written::Refused(Refusal::TooShort);
+        return Err(Refusal::TooShort);
     }
     put_sheet(f, b, changes, entries, h);
-    Written::Length(length)
+    Ok(length)
 }
 
 // Writes the sheet that a ring holds for a header that refusal 7 lets pass, in the layout that it picks.
@@ -103,9 +84,9 @@ pub fn write_page<'a, 'b>(
     changes: &'b [u32; Limits::FRAMES],
     entries: &'b [u32; Limits::ENTRIES],
     h: Header,
-) -> Written
+) -> Result<usize, Refusal>
     requires { header_allowed (format_for formats h) h.card 0 h ≡ true }
-    ensures { (result ≡ (wrote_bytes Done (page_bytes formats (ring_page changes.now entries.now h)) b.old).answer) × (b.new ≡ (wrote_bytes Done (page_bytes formats (ring_page changes.now entries.now h)) b.old).buffer) }
+    ensures { (result ≡ (wrote_bytes (Ok tt) (page_bytes formats (ring_page changes.now entries.now h)) b.old).answer) × (b.new ≡ (wrote_bytes (Ok tt) (page_bytes formats (ring_page changes.now entries.now h)) b.old).buffer) }
 {
     let f = sheet_lines::layout_of(h.cards);
     write_in(f, b, changes, entries, h)

@@ -1,4 +1,5 @@
 -- Places where a line is due, in a read-out with no line before them at fault: what stands there decides. For any format. Assumes nothing.
+use Rattle.std.specs.Prelude.{Ok, Err}
 use Prim.Native.Nat.{ℕ, suc, ◌+◌, ◌-◌, ◌%◌, ◌^◌, ◌<◌}
 use mathlib.Core.Path.{◌≡◌, refl, sym, ◌∙◌, ap, subst}
 use mathlib.Core.Bool.{true, cond, ◌||◌}
@@ -11,7 +12,6 @@ use borrow.Author.Tests.{eq-eqb}
 use Rattle.base_laws.proofs.Logic.{or_right}
 use Rattle.base_refusal.specs.declared.Refusal.{Refusal}
 use Rattle.base_refusal.specs.declared.Refusal.TheVariants.{BadCheck}
-use Rattle.base_refusal.specs.declared.Reply.TheVariants.{Done, Refused}
 use Rattle.sheet_digits.specs.declared.Sums.{Sums}
 use Rattle.sheet_digits.specs.Digits.{number}
 use Rattle.sheet_lines.specs.declared.Header.{Header}
@@ -106,7 +106,7 @@ module _ (F : Formats) (s : AllValid F) (n c : ℕ) (front : List ℕ) (d : Fram
   all_bytes rest = ap (λ (bs : List ℕ). bs ++ rest) d.bytes ∙ simp append_assoc
 
   -- the verdict is that of the line there, where it is refused
-  pub due_refused : (rest : List ℕ) (r : Refusal) → next_verdict (format_for F d.header) d.header d.frames rest ≡ Refused r → (read_sheets F true 0 (front ++ rest)).verdict ≡ Refused r
+  pub due_refused : (rest : List ℕ) (r : Refusal) → next_verdict (format_for F d.header) d.header d.frames rest ≡ Err r → (read_sheets F true 0 (front ++ rest)).verdict ≡ Err r
   due_refused rest r v =
       let w = header_reached F s n c d.before d.behind in
       ap (λ (bs : List ℕ). (read_sheets F true 0 bs).verdict) (all_bytes rest)
@@ -114,10 +114,10 @@ module _ (F : Formats) (s : AllValid F) (n c : ℕ) (front : List ℕ) (d : Fram
       ∙ sheet_short F s c w.first d.header d.frames rest r (fewer_of f c w.first n d.header d.frames w.known d.fewer) v w.next
 
   -- in an accepted read-out it is accepted
-  pub due_accepted : (rest : List ℕ) → (read_sheets F true 0 (front ++ rest)).verdict ≡ Done → next_verdict (format_for F d.header) d.header d.frames rest ≡ Done
+  pub due_accepted : (rest : List ℕ) → (read_sheets F true 0 (front ++ rest)).verdict ≡ Ok tt → next_verdict (format_for F d.header) d.header d.frames rest ≡ Ok tt
   due_accepted rest e =
-      ⊎_elim (λ (g : next_verdict f d.header d.frames rest ≡ Done). g)
-      (λ (x : (r : Refusal) × (next_verdict f d.header d.frames rest ≡ Refused r)). let z : ◌≡◌ {A = ℕ} 0 1 = cc (due_refused rest x.0 x.1) in absurd (omega arith))
+      ⊎_elim (λ (g : next_verdict f d.header d.frames rest ≡ Ok tt). g)
+      (λ (x : (r : Refusal) × (next_verdict f d.header d.frames rest ≡ Err r)). let z : ◌≡◌ {A = ℕ} 0 1 = cc (due_refused rest x.0 x.1) in absurd (omega arith))
       (accepts_or (next_verdict f d.header d.frames rest))
 
   -- its header's card
@@ -140,7 +140,7 @@ session_apart F a told other c d session next ne e = ne (a.sessions told other c
 
 module _
     (F : Formats) (s : AllValid F) (a : Apart F) (n d : ℕ) (front line behind : List ℕ) (y : FrameDue F n d front) (long : length line ≡ frame_digits (format_for F y.header) n + 5)
-    (e : (read_sheets F true 0 (front ++ (line ++ behind))).verdict ≡ Done)
+    (e : (read_sheets F true 0 (front ++ (line ++ behind))).verdict ≡ Ok tt)
   where
     abbrev g : Format
     g = format_for F y.header
@@ -164,7 +164,7 @@ module _
         cards_of (format_for F h) h ≡ n →
         frame_digits (format_for F h) n ≡ frame_digits (format_for F y.header) n →
         (start_of (format_for F h) h ≡ start_of (format_for F y.header) y.header → ⊥) →
-        next_verdict (format_for F h) h frs (line ++ rest) ≡ Refused BadCheck
+        next_verdict (format_for F h) h frs (line ++ rest) ≡ Err BadCheck
     carried_there h frs rest w k ne =
         let f = format_for F h in
         let p : Passing (start_of g y.header) (frame_digits f (cards_of f h)) line = rw (w, k) carried_passing in
@@ -183,11 +183,11 @@ module _
         (c : ℕ) (place rest : List ℕ) (x : FrameDue F n c place) →
         frame_digits (format_for F x.header) n ≡ frame_digits (format_for F y.header) n →
         (start_of (format_for F x.header) x.header ≡ start_of (format_for F y.header) y.header → ⊥) →
-        (read_sheets F true 0 (place ++ (line ++ rest))).verdict ≡ Refused BadCheck
+        (read_sheets F true 0 (place ++ (line ++ rest))).verdict ≡ Err BadCheck
     carried_refused c place rest x k ne = due_refused F s n c place x (line ++ rest) BadCheck (carried_there x.header x.frames rest x.cards k ne)
 
     -- Where a header of another card is due, it is never accepted.
-    pub never_header : (c : ℕ) (place rest : List ℕ) → HeaderDue F n c place → (c ≡ d → ⊥) → (read_sheets F true 0 (place ++ (line ++ rest))).verdict ≡ Done → ⊥
+    pub never_header : (c : ℕ) (place rest : List ℕ) → HeaderDue F n c place → (c ≡ d → ⊥) → (read_sheets F true 0 (place ++ (line ++ rest))).verdict ≡ Ok tt → ⊥
     never_header c place rest x ne v =
         let w = header_reached F s n c place x in
         let input = line ++ rest in

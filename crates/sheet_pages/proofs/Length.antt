@@ -1,4 +1,5 @@
 -- How many bytes frames, sheets and read-outs are. Assumes nothing.
+use Rattle.std.specs.Prelude.{Ok}
 use Prim.Native.Nat.{ℕ, ◌+◌, ◌*◌, ◌≤◌, zero-le}
 use mathlib.Core.Path.{◌≡◌, sym, ◌∙◌, ap}
 use mathlib.Core.Bool.{true}
@@ -6,7 +7,6 @@ use mathlib.Core.List.{List, [], ◌∷◌}
 use native.Mathlib.Nat.{suc-mul, zero-mul, mul-le-mul}
 use native.Mathlib.Omega.{arith}
 use lib.ListN.{length, length-append}
-use Rattle.base_refusal.specs.declared.Reply.TheVariants.{Done}
 use Rattle.sheet_digits.specs.declared.Sums.{Sums}
 use Rattle.sheet_lines.specs.declared.Frame.{Frame}
 use Rattle.sheet_lines.specs.Format.{Format, format, formats}
@@ -47,7 +47,7 @@ pages_few due first (p ∷ ps) a =
     omega (arith, length-append (page_bytes formats p) (pages_bytes formats ps), page_few p a.0.formed l.cards (omega (arith, l.count, a.0.count)), pages_few (due + 1) first ps a.1)
 
 -- the lines of an accepted read-out: 16 sheets
-pub readout_few : (input : List ℕ) → (read_sheets formats true 0 input).verdict ≡ Done → length input ≤ 62608
+pub readout_few : (input : List ℕ) → (read_sheets formats true 0 input).verdict ≡ Ok tt → length input ≤ 62608
 readout_few input e =
     let r = lines_read formats input e in
     let p = r.head in

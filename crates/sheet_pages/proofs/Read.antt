@@ -1,4 +1,5 @@
 -- What was read of an accepted sheet, and of an accepted read-out, is within the limits, for any format. Assumes nothing.
+use Rattle.std.specs.Prelude.{Ok}
 use Prim.Native.Nat.{ℕ, zero, suc, ◌+◌, ◌-◌}
 use mathlib.Core.Path.{◌≡◌, refl, sym, ◌∙◌, ap, subst}
 use mathlib.Core.Bool.{true, false}
@@ -6,7 +7,6 @@ use mathlib.Core.List.{List, [], ◌∷◌}
 use lib.ListN.{length, drop}
 use Rattle.base_laws.proofs.Logic.{and_intro}
 use Rattle.sheet_digits.specs.declared.Sums.{Sums}
-use Rattle.base_refusal.specs.declared.Reply.TheVariants.{Done}
 use Rattle.sheet_lines.specs.declared.Frame.{Frame}
 use Rattle.sheet_lines.specs.Format.{Format, Formats}
 use Rattle.sheet_lines.specs.Lines.{cards_of, format_in, format_for, start_of, header_digits, header_in, header_verdict, frame_digits, frame_in, frame_verdict, no_frame}
@@ -23,7 +23,7 @@ record Frames-read (f : Format) (card n k state : ℕ) (last : Frame) (frs : Lis
   pub count : length frs ≡ k
 
 frames_read :
-    (f : Format) (start : Sums) (card n k state : ℕ) (last : Frame) (input : List ℕ) → (read_frames f start card n k state last input).verdict ≡ Done → Frames-read f card n k state last (read_frames f start card n k state last input).frames
+    (f : Format) (start : Sums) (card n k state : ℕ) (last : Frame) (input : List ℕ) → (read_frames f start card n k state last input).verdict ≡ Ok tt → Frames-read f card n k state last (read_frames f start card n k state last input).frames
 frames_read f start card n zero state last input e = record { allowed = refl; formed = tt; count = refl }
 frames_read f start card n (suc k) state last input e =
     let fr = frame_in f n input in
@@ -35,8 +35,8 @@ frames_read f start card n (suc k) state last input e =
 -- a page whose header and frames were accepted
 pub page_read :
     (f : Format) (due first : ℕ) (input : List ℕ) →
-    header_verdict f due first input ≡ Done →
-    (frames_of f (header_in f input) input).verdict ≡ Done →
+    header_verdict f due first input ≡ Ok tt →
+    (frames_of f (header_in f input) input).verdict ≡ Ok tt →
     Allowed f due first (record { header = header_in f input; frames = (frames_of f (header_in f input) input).frames })
 page_read f due first input e v =
     let h = header_in f input in
@@ -56,7 +56,7 @@ pub record Sheet-read (F : Formats) (card : ℕ) (input : List ℕ) : Type 0 whe
   pub allowed : Allowed (format_in F input) card 0 page
   pub pages : (read_sheets F false card input).pages ≡ page ∷ []
 
-pub sheet_read : (F : Formats) (card : ℕ) (input : List ℕ) → (read_sheets F false card input).verdict ≡ Done → Sheet-read F card input
+pub sheet_read : (F : Formats) (card : ℕ) (input : List ℕ) → (read_sheets F false card input).verdict ≡ Ok tt → Sheet-read F card input
 unfolding read_sheets
 sheet_read F card input e =
     let f = format_in F input in
@@ -70,7 +70,7 @@ record More-read (F : Formats) (k due first : ℕ) (ps : List Page) : Type 0 whe
   pub allowed : AllAllowed F due first ps
   pub long : length ps ≡ k
 
-more_read : (F : Formats) (k due first : ℕ) (input : List ℕ) → (more_sheets F k due first input).verdict ≡ Done → More-read F k due first (more_sheets F k due first input).pages
+more_read : (F : Formats) (k due first : ℕ) (input : List ℕ) → (more_sheets F k due first input).verdict ≡ Ok tt → More-read F k due first (more_sheets F k due first input).pages
 more_read F zero due first input e = record { allowed = tt; long = refl }
 more_read F (suc k) due first input e =
     let f = format_in F input in
@@ -91,7 +91,7 @@ pub record Lines-read (F : Formats) (ps : List Page) : Type 0 where
   pub more : AllAllowed F 1 (cards_of (format_for F head.header) head.header) tail
   pub long : length tail ≡ cards_of (format_for F head.header) head.header - 1
 
-pub lines_read : (F : Formats) (input : List ℕ) → (read_sheets F true 0 input).verdict ≡ Done → Lines-read F (read_sheets F true 0 input).pages
+pub lines_read : (F : Formats) (input : List ℕ) → (read_sheets F true 0 input).verdict ≡ Ok tt → Lines-read F (read_sheets F true 0 input).pages
 unfolding read_sheets
 lines_read F input e =
     let f = format_in F input in

@@ -1,5 +1,6 @@
 -- Sheets and read-outs: written and read back, read and written again, one byte altered, frames too few; for any format, any number of entries and any width.
 -- Assumes nothing.
+use Rattle.std.specs.Prelude.{Ok, Err}
 use Prim.Native.Nat.{ℕ, zero, suc, ◌+◌, ◌-◌, ◌≤◌, ◌<◌}
 use mathlib.Core.Path.{◌≡◌, refl, sym, ◌∙◌, ap}
 use mathlib.Core.Bool.{Bool, true, false, cond}
@@ -15,10 +16,8 @@ use Rattle.base_refusal.specs.declared.Refusal.{Refusal}
 use Rattle.base_refusal.specs.declared.Refusal.TheVariants.{BadLine, BadCheck, BadFrame, EndOrMore}
 use Rattle.base_laws.proofs.Logic.{and_left, and_right}
 use Rattle.sheet_digits.specs.declared.Sums.{Sums}
-use Rattle.sheet_digits.specs.declared.Line.TheVariants.{Whole, Fault}
 use Rattle.sheet_digits.specs.Line.{shaped, checked, shape_of}
-use Rattle.base_refusal.specs.declared.Reply.{Reply}
-use Rattle.base_refusal.specs.declared.Reply.TheVariants.{Done, Refused}
+use Rattle.base_refusal.specs.Reply.{Reply}
 use Rattle.sheet_lines.specs.declared.Header.{Header}
 use Rattle.sheet_lines.specs.declared.Frame.{Frame}
 use Rattle.sheet_lines.specs.Format.{Format, Formats, formats}
@@ -57,7 +56,7 @@ module _ (f : Format) (s : Valid f) (start : Sums) (p : start.first < 256) (q : 
       rw (suc-add (length frs) k, i, v, g, d, c, frames_back frs k (state + 1) fr rest a₁ m.2 (omega arith))
 
 -- the frames of a sheet within the limits
-page_frames : (f : Format) → Valid f → (due first : ℕ) (p : Page) (rest : List ℕ) → Allowed f due first p → frames_of f p.header (bytes_in f p ++ rest) ≡ record { frames = p.frames; verdict = Done; rest = rest }
+page_frames : (f : Format) → Valid f → (due first : ℕ) (p : Page) (rest : List ℕ) → Allowed f due first p → frames_of f p.header (bytes_in f p ++ rest) ≡ record { frames = p.frames; verdict = Ok tt; rest = rest }
 page_frames f s due first p rest a =
     let h = p.header in
     let l = header_limits f due first h a.header in
@@ -67,10 +66,10 @@ page_frames f s due first p rest a =
     let b = a.count in
     rw (i, header_rest f s due first h (body ++ rest) a.header a.session, c)
     (frames_back f s (start_of f h) (s.first h.card h.session) (s.second h.card h.session) h.card (cards_of f h) p.frames 0 (h.base + 1) no_frame rest a.frames a.formed (omega (arith, l.states))
-    ∙ (λ i. record { frames = append-nil p.frames i; verdict = Done; rest = rest }))
+    ∙ (λ i. record { frames = append-nil p.frames i; verdict = Ok tt; rest = rest }))
 
 -- the header of a sheet within the limits, written and read
-page_header : (f : Format) → Valid f → (due first : ℕ) (p : Page) (rest : List ℕ) → Allowed f due first p → (header_verdict f due first (bytes_in f p ++ rest) ≡ Done) × (header_in f (bytes_in f p ++ rest) ≡ p.header)
+page_header : (f : Format) → Valid f → (due first : ℕ) (p : Page) (rest : List ℕ) → Allowed f due first p → (header_verdict f due first (bytes_in f p ++ rest) ≡ Ok tt) × (header_in f (bytes_in f p ++ rest) ≡ p.header)
 page_header f s due first p rest a =
     let h = p.header in
     let body = frames_bytes f (start_of f h) (cards_of f h) (h.base + 1) p.frames in
@@ -78,7 +77,7 @@ page_header f s due first p rest a =
     (rw i (header_accepted f s due first h (body ++ rest) a.header a.session), rw i (header_back f s due first h (body ++ rest) a.header a.session))
 
 sheet_in_back :
-    (f : Format) → Valid f → (due first : ℕ) (p : Page) (rest : List ℕ) (next : ℕ → List ℕ → Sheets) → Allowed f due first p → sheet_in f due first next (bytes_in f p ++ rest) ≡ with_sheet Done Done p.header (record { frames = p.frames; verdict = Done; rest = rest }) (bytes_in f p ++ rest) (next (cards_of f p.header) rest)
+    (f : Format) → Valid f → (due first : ℕ) (p : Page) (rest : List ℕ) (next : ℕ → List ℕ → Sheets) → Allowed f due first p → sheet_in f due first next (bytes_in f p ++ rest) ≡ with_sheet (Ok tt) (Ok tt) p.header (record { frames = p.frames; verdict = Ok tt; rest = rest }) (bytes_in f p ++ rest) (next (cards_of f p.header) rest)
 sheet_in_back f s due first p rest next a =
     let e = page_header f s due first p rest a in
     rw (e.0, e.1, page_frames f s due first p rest a)
@@ -92,16 +91,16 @@ formats_valid told = format_valid
 
 -- a sheet within the limits reads back, and the reading goes on behind it
 pub sheet_back :
-    (F : Formats) → AllValid F → (due first : ℕ) (p : Page) (rest : List ℕ) (next : ℕ → List ℕ → Sheets) → Allowed (format_for F p.header) due first p → read_sheet F due first next (page_bytes F p ++ rest) ≡ with_sheet Done Done p.header (record { frames = p.frames; verdict = Done; rest = rest }) (page_bytes F p ++ rest) (next (cards_of (format_for F p.header) p.header) rest)
+    (F : Formats) → AllValid F → (due first : ℕ) (p : Page) (rest : List ℕ) (next : ℕ → List ℕ → Sheets) → Allowed (format_for F p.header) due first p → read_sheet F due first next (page_bytes F p ++ rest) ≡ with_sheet (Ok tt) (Ok tt) p.header (record { frames = p.frames; verdict = Ok tt; rest = rest }) (page_bytes F p ++ rest) (next (cards_of (format_for F p.header) p.header) rest)
 sheet_back F s due first p rest next a =
     let f = format_for F p.header in
     let k = s p.header.cards in
     ap (λ (g : Format). sheet_in g due first next (page_bytes F p ++ rest)) (told_again F f (bytes_in f p ++ rest) (page_header f k due first p rest a).1) ∙ sheet_in_back f k due first p rest next a
 
-more_back : (F : Formats) → AllValid F → (due first : ℕ) (ps : List Page) → AllAllowed F due first ps → more_sheets F (length ps) due first (pages_bytes F ps) ≡ record { pages = ps; verdict = Done; rest = [] }
+more_back : (F : Formats) → AllValid F → (due first : ℕ) (ps : List Page) → AllAllowed F due first ps → more_sheets F (length ps) due first (pages_bytes F ps) ≡ record { pages = ps; verdict = Ok tt; rest = [] }
 more_back F s due first [] a = refl
 more_back F s due first (p ∷ ps) a =
-    sheet_back F s due first p (pages_bytes F ps) (λ cards rest. more_sheets F (length ps) (due + 1) first rest) a.0 ∙ ap (with_sheet Done Done p.header (record { frames = p.frames; verdict = Done; rest = pages_bytes F ps }) (page_bytes F p ++ pages_bytes F ps)) (more_back F s (due + 1) first ps a.1)
+    sheet_back F s due first p (pages_bytes F ps) (λ cards rest. more_sheets F (length ps) (due + 1) first rest) a.0 ∙ ap (with_sheet (Ok tt) (Ok tt) p.header (record { frames = p.frames; verdict = Ok tt; rest = pages_bytes F ps }) (page_bytes F p ++ pages_bytes F ps)) (more_back F s (due + 1) first ps a.1)
 
 -- What is written reads back the same: a sheet (`all` false), and a read-out of as many sheets as its number of cards (`all` true).
 pub written_reads_back :
@@ -109,26 +108,26 @@ pub written_reads_back :
     Allowed (format_for F p.header) due 0 p →
     AllAllowed F (due + 1) (cards_of (format_for F p.header) p.header) ps →
     cond all (cards_of (format_for F p.header) p.header - 1) 0 ≡ length ps →
-    read_sheets F all due (pages_bytes F (p ∷ ps)) ≡ record { pages = p ∷ ps; verdict = Done; rest = [] }
+    read_sheets F all due (pages_bytes F (p ∷ ps)) ≡ record { pages = p ∷ ps; verdict = Ok tt; rest = [] }
 unfolding read_sheets
 written_reads_back F s all due p ps a more e =
     sheet_back F s due 0 p (pages_bytes F ps) (λ cards rest. more_sheets F (cond all (cards - 1) 0) (due + 1) cards rest) a
-    ∙ rw e (ap (with_sheet Done Done p.header (record { frames = p.frames; verdict = Done; rest = pages_bytes F ps }) (page_bytes F p ++ pages_bytes F ps)) (more_back F s (due + 1) (cards_of (format_for F p.header) p.header) ps more))
+    ∙ rw e (ap (with_sheet (Ok tt) (Ok tt) p.header (record { frames = p.frames; verdict = Ok tt; rest = pages_bytes F ps }) (page_bytes F p ++ pages_bytes F ps)) (more_back F s (due + 1) (cards_of (format_for F p.header) p.header) ps more))
 
 -- ---- read, then written
 
-pub with_accepted : (v : Reply) (fr : Frame) (input : List ℕ) (next : Frames) → (with_frame v fr input next).verdict ≡ Done → (v ≡ Done) × (next.verdict ≡ Done)
-with_accepted Done fr input next e = (refl, e)
-with_accepted (Refused r) fr input next e = let z : ◌≡◌ {A = ℕ} 0 1 = cc in absurd (omega arith)
+pub with_accepted : (v : Reply) (fr : Frame) (input : List ℕ) (next : Frames) → (with_frame v fr input next).verdict ≡ Ok tt → (v ≡ Ok tt) × (next.verdict ≡ Ok tt)
+with_accepted (Ok _) fr input next e = (refl, e)
+with_accepted (Err r) fr input next e = let z : ◌≡◌ {A = ℕ} 0 1 = cc in absurd (omega arith)
 
-pub with_both : (v w : Reply) (h : Header) (fs : Frames) (input : List ℕ) (next : Sheets) → (with_sheet v w h fs input next).verdict ≡ Done → (v ≡ Done) × (w ≡ Done) × (next.verdict ≡ Done)
-with_both (Refused r) w h fs input next e = let z : ◌≡◌ {A = ℕ} 0 1 = cc in absurd (omega arith)
-with_both Done (Refused r) h fs input next e = let z : ◌≡◌ {A = ℕ} 0 1 = cc in absurd (omega arith)
-with_both Done Done h fs input next e = (refl, refl, e)
+pub with_both : (v w : Reply) (h : Header) (fs : Frames) (input : List ℕ) (next : Sheets) → (with_sheet v w h fs input next).verdict ≡ Ok tt → (v ≡ Ok tt) × (w ≡ Ok tt) × (next.verdict ≡ Ok tt)
+with_both (Err r) w h fs input next e = let z : ◌≡◌ {A = ℕ} 0 1 = cc in absurd (omega arith)
+with_both (Ok _) (Err r) h fs input next e = let z : ◌≡◌ {A = ℕ} 0 1 = cc in absurd (omega arith)
+with_both (Ok _) (Ok _) h fs input next e = (refl, refl, e)
 
 pub frames_again :
     (f : Format) (start : Sums) (card n k state : ℕ) (last : Frame) (input : List ℕ) →
-    (read_frames f start card n k state last input).verdict ≡ Done →
+    (read_frames f start card n k state last input).verdict ≡ Ok tt →
     frames_bytes f start n state (read_frames f start card n k state last input).frames ++ (read_frames f start card n k state last input).rest ≡ input
 frames_again f start card n zero state last input e = refl
 frames_again f start card n (suc k) state last input e =
@@ -144,8 +143,8 @@ frames_again f start card n (suc k) state last input e =
 
 sheet_again :
     (F : Formats) (due first : ℕ) (next : ℕ → List ℕ → Sheets) (input : List ℕ) →
-    ((cards : ℕ) (rest : List ℕ) → (next cards rest).verdict ≡ Done → pages_bytes F (next cards rest).pages ≡ rest) →
-    (read_sheet F due first next input).verdict ≡ Done →
+    ((cards : ℕ) (rest : List ℕ) → (next cards rest).verdict ≡ Ok tt → pages_bytes F (next cards rest).pages ≡ rest) →
+    (read_sheet F due first next input).verdict ≡ Ok tt →
     pages_bytes F (read_sheet F due first next input).pages ≡ input
 sheet_again F due first next input g e =
     let f = format_in F input in
@@ -162,16 +161,16 @@ sheet_again F due first next input g e =
     ∙ ap (λ (x : List ℕ). header_line f h ++ x) (frames_again f (start_of f h) h.card (cards_of f h) h.count (h.base + 1) no_frame (drop (header_digits f + 5) input) a.1)
     ∙ header_again f due first input a.0)
 
-empty_end : (input : List ℕ) → (ended input).verdict ≡ Done → [] ≡ input
+empty_end : (input : List ℕ) → (ended input).verdict ≡ Ok tt → [] ≡ input
 empty_end [] e = refl
 empty_end (b ∷ bs) e = let q : eqb (suc (length bs)) 0 ≡ false = eqb-suc-zero (length bs) in let z : ◌≡◌ {A = ℕ} 0 1 = cc (rw q at e) in absurd (omega arith)
 
-more_again : (F : Formats) (k due first : ℕ) (input : List ℕ) → (more_sheets F k due first input).verdict ≡ Done → pages_bytes F (more_sheets F k due first input).pages ≡ input
+more_again : (F : Formats) (k due first : ℕ) (input : List ℕ) → (more_sheets F k due first input).verdict ≡ Ok tt → pages_bytes F (more_sheets F k due first input).pages ≡ input
 more_again F zero due first input e = empty_end input e
 more_again F (suc k) due first input e = sheet_again F due first (λ cards rest. more_sheets F k (due + 1) first rest) input (λ cards rest. more_again F k (due + 1) first rest) e
 
 -- Bytes that a reader accepts are the very bytes that are written of what was read: a sheet (`all` false), and a read-out (`all` true).
-pub read_writes_again : (F : Formats) (all : Bool) (due : ℕ) (input : List ℕ) → (read_sheets F all due input).verdict ≡ Done → pages_bytes F (read_sheets F all due input).pages ≡ input
+pub read_writes_again : (F : Formats) (all : Bool) (due : ℕ) (input : List ℕ) → (read_sheets F all due input).verdict ≡ Ok tt → pages_bytes F (read_sheets F all due input).pages ≡ input
 unfolding read_sheets
 read_writes_again F all due input e =
     sheet_again F due 0 (λ cards rest. more_sheets F (cond all (cards - 1) 0) (due + 1) cards rest) input (λ cards rest. more_again F (cond all (cards - 1) 0) (due + 1) cards rest) e
@@ -204,8 +203,8 @@ Passed-on rest rest' b = (p : ℕ) × Alters rest p b × (rest' ≡ set rest p b
 frames_altered :
     (f : Format) (start : Sums) (card n k state : ℕ) (last : Frame) (input : List ℕ) (p b : ℕ) →
     Alters input p b →
-    (read_frames f start card n k state last input).verdict ≡ Done →
-    (read_frames f start card n k state last (set input p b)).verdict ≡ Done →
+    (read_frames f start card n k state last input).verdict ≡ Ok tt →
+    (read_frames f start card n k state last (set input p b)).verdict ≡ Ok tt →
     Passed-on (read_frames f start card n k state last input).rest (read_frames f start card n k state last (set input p b)).rest b
 frames_altered f start card n zero state last input p b a e g = (p, a, refl)
 frames_altered f start card n (suc k) state last input p b a e g =
@@ -223,10 +222,10 @@ frames_altered f start card n (suc k) state last input p b a e g =
 
 sheet_altered :
     (F : Formats) → Alike F → (due first : ℕ) (next : ℕ → List ℕ → Sheets) (input : List ℕ) (p b : ℕ) →
-    ((cards : ℕ) (rest : List ℕ) (q : ℕ) → Alters rest q b → (next cards rest).verdict ≡ Done → (next cards (set rest q b)).verdict ≡ Done → ⊥) →
+    ((cards : ℕ) (rest : List ℕ) (q : ℕ) → Alters rest q b → (next cards rest).verdict ≡ Ok tt → (next cards (set rest q b)).verdict ≡ Ok tt → ⊥) →
     Alters input p b →
-    (read_sheet F due first next input).verdict ≡ Done →
-    (read_sheet F due first next (set input p b)).verdict ≡ Done →
+    (read_sheet F due first next input).verdict ≡ Ok tt →
+    (read_sheet F due first next (set input p b)).verdict ≡ Ok tt →
     ⊥
 sheet_altered F t due first next input p b n a e g =
     let f = format_in F input in
@@ -250,8 +249,8 @@ sheet_altered F t due first next input p b n a e g =
 more_altered :
     (F : Formats) → Alike F → (k due first : ℕ) (input : List ℕ) (p b : ℕ) →
     Alters input p b →
-    (more_sheets F k due first input).verdict ≡ Done →
-    (more_sheets F k due first (set input p b)).verdict ≡ Done →
+    (more_sheets F k due first input).verdict ≡ Ok tt →
+    (more_sheets F k due first (set input p b)).verdict ≡ Ok tt →
     ⊥
 more_altered F t zero due first input p b a e g = let q : length input ≡ 0 = ap length (sym (empty_end input e)) in omega (arith, a.inside)
 more_altered F t (suc k) due first input p b a e g =
@@ -262,14 +261,14 @@ pub altered_refused :
     (F : Formats) → Alike F → (all : Bool) (due : ℕ) (input : List ℕ) (p b : ℕ) →
     p < length input →
     (b ≡ get_or input p 0 → ⊥) →
-    (read_sheets F all due input).verdict ≡ Done →
-    (r : Refusal) × ((read_sheets F all due (set input p b)).verdict ≡ Refused r)
+    (read_sheets F all due input).verdict ≡ Ok tt →
+    (r : Refusal) × ((read_sheets F all due (set input p b)).verdict ≡ Err r)
 unfolding read_sheets
 altered_refused F t all due input p b h o e =
     ⊎_elim
-    (λ (g : (read_sheets F all due (set input p b)).verdict ≡ Done).
+    (λ (g : (read_sheets F all due (set input p b)).verdict ≡ Ok tt).
     absurd (sheet_altered F t due 0 (λ cards rest. more_sheets F (cond all (cards - 1) 0) (due + 1) cards rest) input p b (λ cards rest q. more_altered F t (cond all (cards - 1) 0) (due + 1) cards rest q b) (record { inside = h; other = o }) e g))
-    (λ (x : (r : Refusal) × ((read_sheets F all due (set input p b)).verdict ≡ Refused r)). x) (accepts_or (read_sheets F all due (set input p b)).verdict)
+    (λ (x : (r : Refusal) × ((read_sheets F all due (set input p b)).verdict ≡ Err r)). x) (accepts_or (read_sheets F all due (set input p b)).verdict)
 
 -- ---- frames too few
 
@@ -280,27 +279,27 @@ pub frames_short :
     frames_allowed f card n state last frs ≡ true →
     Formed n frs →
     state + length frs ≤ suc f.states →
-    frame_verdict f start card n (state + length frs) (last_of last frs) rest ≡ Refused r →
-    read_frames f start card n count state last (frames_bytes f start n state frs ++ rest) ≡ record { frames = frs; verdict = Refused r; rest = rest }
+    frame_verdict f start card n (state + length frs) (last_of last frs) rest ≡ Err r →
+    read_frames f start card n count state last (frames_bytes f start n state frs ++ rest) ≡ record { frames = frs; verdict = Err r; rest = rest }
 frames_short f s start p q card n frs count state last rest {r} l a m b e =
     let k : count ≡ length frs + suc (count - length frs - 1) = omega arith in
-    rw k (frames_back f s start p q card n frs (suc (count - length frs - 1)) state last rest a m b ∙ rw e (λ i. record { frames = append-nil frs i; verdict = Refused r; rest = rest }))
+    rw k (frames_back f s start p q card n frs (suc (count - length frs - 1)) state last rest a m b ∙ rw e (λ i. record { frames = append-nil frs i; verdict = Err r; rest = rest }))
 
 -- where the input ends there, it is 8
-pub ends_there : (f : Format) (start : Sums) (card n state : ℕ) (last : Frame) → frame_verdict f start card n state last [] ≡ Refused EndOrMore
+pub ends_there : (f : Format) (start : Sums) (card n state : ℕ) (last : Frame) → frame_verdict f start card n state last [] ≡ Err EndOrMore
 unfolding frame_verdict shape_of
 ends_there f start card n state last = refl
 
 -- else, where a line is refused, it is 5, 6 or 9
 pub line_refused :
     (f : Format) (start : Sums) (card n state : ℕ) (last : Frame) (b : ℕ) (bs : List ℕ) (r : Refusal) →
-    frame_verdict f start card n state last (b ∷ bs) ≡ Refused r →
+    frame_verdict f start card n state last (b ∷ bs) ≡ Err r →
     (r ≡ BadLine) ⊎ ((r ≡ BadCheck) ⊎ (r ≡ BadFrame))
 unfolding frame_verdict shape_of
 line_refused f start card n state last b bs r e =
     judge (shaped (frame_digits f n) (b ∷ bs)) (checked start (frame_digits f n) (b ∷ bs)) (frame_allowed f card n state last (state_in f (b ∷ bs)) (frame_in f n (b ∷ bs))) e
   where
-    judge : (x y z : Bool) → judged (cond x Whole (Fault BadLine)) y z BadFrame ≡ Refused r → (r ≡ BadLine) ⊎ ((r ≡ BadCheck) ⊎ (r ≡ BadFrame))
+    judge : (x y z : Bool) → judged (cond x (Ok tt) (Err BadLine)) y z BadFrame ≡ Err r → (r ≡ BadLine) ⊎ ((r ≡ BadCheck) ⊎ (r ≡ BadFrame))
     judge false y z q = inl (cc)
     judge true false z q = inr (inl (cc))
     judge true true false q = inr (inr (cc))

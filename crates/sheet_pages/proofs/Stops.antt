@@ -1,4 +1,5 @@
 -- Wherever the reading of a read-out stops, a header or a frame is due there, or the last sheet is behind it; for any format. Assumes nothing.
+use Rattle.std.specs.Prelude.{Ok, Err}
 use Prim.Native.Nat.{ℕ, zero, suc, ◌+◌, ◌-◌, ◌<◌}
 use mathlib.Core.Path.{◌≡◌, refl, sym, ◌∙◌, ap, subst}
 use mathlib.Core.Bool.{true, cond}
@@ -9,8 +10,7 @@ use lib.Dec.{eqb-suc-zero}
 use lib.ListN.{length, drop}
 use Rattle.base_laws.proofs.Logic.{and_intro}
 use Rattle.base_refusal.specs.declared.Refusal.{Refusal}
-use Rattle.base_refusal.specs.declared.Reply.{Reply}
-use Rattle.base_refusal.specs.declared.Reply.TheVariants.{Done, Refused}
+use Rattle.base_refusal.specs.Reply.{Reply}
 use Rattle.sheet_digits.specs.declared.Sums.{Sums}
 use Rattle.sheet_lines.specs.declared.Header.{Header}
 use Rattle.sheet_lines.specs.declared.Frame.{Frame}
@@ -34,11 +34,11 @@ record Frames-stopped (f : Format) (start : Sums) (card n k state : ℕ) (last :
   formed : Formed n fs.frames
   count : length fs.frames < k
   bytes : frames_bytes f start n state fs.frames ++ fs.rest ≡ input
-  next : frame_verdict f start card n (state + length fs.frames) (last_of last fs.frames) fs.rest ≡ Refused r
+  next : frame_verdict f start card n (state + length fs.frames) (last_of last fs.frames) fs.rest ≡ Err r
 
 frames_stopped :
     (f : Format) (start : Sums) (card n k state : ℕ) (last : Frame) (input : List ℕ) (r : Refusal) →
-    (read_frames f start card n k state last input).verdict ≡ Refused r →
+    (read_frames f start card n k state last input).verdict ≡ Err r →
     Frames-stopped f start card n k state last input r (read_frames f start card n k state last input)
 frames_stopped f start card n zero state last input r e = let z : ◌≡◌ {A = ℕ} 0 1 = cc in absurd (omega arith)
 frames_stopped f start card n (suc k) state last input r e =
@@ -50,9 +50,9 @@ frames_stopped f start card n (suc k) state last input r e =
     more : Frames
     more = read_frames f start card n k (state + 1) (frame_in f n input) (drop (frame_digits f n + 5) input)
 
-    by : (v : Reply) → frame_verdict f start card n state last input ≡ v → (with_frame v fr input more).verdict ≡ Refused r → (more.verdict ≡ Refused r → Frames-stopped f start card n k (state + 1) fr (drop (frame_digits f n + 5) input) r more) → Frames-stopped f start card n (suc k) state last input r (with_frame v fr input more)
-    by (Refused x) q w later = record { allowed = refl; formed = tt; count = omega arith; bytes = refl; next = rw (add-zero state) (q ∙ w) }
-    by Done q w later =
+    by : (v : Reply) → frame_verdict f start card n state last input ≡ v → (with_frame v fr input more).verdict ≡ Err r → (more.verdict ≡ Err r → Frames-stopped f start card n k (state + 1) fr (drop (frame_digits f n + 5) input) r more) → Frames-stopped f start card n (suc k) state last input r (with_frame v fr input more)
+    by (Err x) q w later = record { allowed = refl; formed = tt; count = omega arith; bytes = refl; next = rw (add-zero state) (q ∙ w) }
+    by (Ok _) q w later =
         let g = later w in
         let c : state + suc (length more.frames) ≡ state + 1 + length more.frames = omega arith in
         record {
@@ -65,11 +65,11 @@ frames_stopped f start card n (suc k) state last input r e =
 
 -- a sheet read up to a fault, or read whole with the fault behind it
 data Sheet-stopped (F : Formats) (due first : ℕ) (next : ℕ → List ℕ → Sheets) (input : List ℕ) (r : Refusal) : Type 0 where
-  in_header : header_verdict (format_in F input) due first input ≡ Refused r → Sheet-stopped F due first next input r
-  in_frames : (h : Header) (frs : List Frame) (rest : List ℕ) → Fewer (format_for F h) due first h frs → short_bytes (format_for F h) h frs rest ≡ input → next_verdict (format_for F h) h frs rest ≡ Refused r → Sheet-stopped F due first next input r
-  behind : (p : Page) (rest : List ℕ) → Allowed (format_for F p.header) due first p → page_bytes F p ++ rest ≡ input → (next (cards_of (format_for F p.header) p.header) rest).verdict ≡ Refused r → Sheet-stopped F due first next input r
+  in_header : header_verdict (format_in F input) due first input ≡ Err r → Sheet-stopped F due first next input r
+  in_frames : (h : Header) (frs : List Frame) (rest : List ℕ) → Fewer (format_for F h) due first h frs → short_bytes (format_for F h) h frs rest ≡ input → next_verdict (format_for F h) h frs rest ≡ Err r → Sheet-stopped F due first next input r
+  behind : (p : Page) (rest : List ℕ) → Allowed (format_for F p.header) due first p → page_bytes F p ++ rest ≡ input → (next (cards_of (format_for F p.header) p.header) rest).verdict ≡ Err r → Sheet-stopped F due first next input r
 
-sheet_stopped : (F : Formats) (due first : ℕ) (next : ℕ → List ℕ → Sheets) (input : List ℕ) (r : Refusal) → (read_sheet F due first next input).verdict ≡ Refused r → Sheet-stopped F due first next input r
+sheet_stopped : (F : Formats) (due first : ℕ) (next : ℕ → List ℕ → Sheets) (input : List ℕ) (r : Refusal) → (read_sheet F due first next input).verdict ≡ Err r → Sheet-stopped F due first next input r
 sheet_stopped F due first next input r e = by (header_verdict f due first input) fs.verdict refl refl e
   where
     f : Format
@@ -87,30 +87,30 @@ sheet_stopped F due first next input r e = by (header_verdict f due first input)
     p : Page
     p = record { header = h; frames = fs.frames }
 
-    by : (v w : Reply) → header_verdict f due first input ≡ v → fs.verdict ≡ w → (with_sheet v w h fs input (next (cards_of f h) fs.rest)).verdict ≡ Refused r → Sheet-stopped F due first next input r
-    by (Refused x) w q u z = in_header (q ∙ z)
-    by Done (Refused x) q u z =
+    by : (v w : Reply) → header_verdict f due first input ≡ v → fs.verdict ≡ w → (with_sheet v w h fs input (next (cards_of f h) fs.rest)).verdict ≡ Err r → Sheet-stopped F due first next input r
+    by (Err x) w q u z = in_header (q ∙ z)
+    by (Ok _) (Err x) q u z =
         let g = frames_stopped f (start_of f h) h.card (cards_of f h) h.count (h.base + 1) no_frame (drop (header_digits f + 5) input) r (u ∙ z) in
         let few : Fewer f due first h fs.frames = record { header = (header_passed f due first input q).allowed_is; session = session_fits f due first input q; count = g.count; formed = g.formed; frames = g.allowed } in
         let bytes : short_bytes f h fs.frames fs.rest ≡ input = ap (λ (x : List ℕ). header_line f h ++ x) g.bytes ∙ header_again f due first input q in
-        in_frames h fs.frames fs.rest (subst (λ (x : Format). Fewer x due first h fs.frames) told few) (subst (λ (x : Format). short_bytes x h fs.frames fs.rest ≡ input) told bytes) (subst (λ (x : Format). next_verdict x h fs.frames fs.rest ≡ Refused r) told g.next)
-    by Done Done q u z =
+        in_frames h fs.frames fs.rest (subst (λ (x : Format). Fewer x due first h fs.frames) told few) (subst (λ (x : Format). short_bytes x h fs.frames fs.rest ≡ input) told bytes) (subst (λ (x : Format). next_verdict x h fs.frames fs.rest ≡ Err r) told g.next)
+    by (Ok _) (Ok _) q u z =
         let body = frames_bytes f (start_of f h) (cards_of f h) (h.base + 1) fs.frames in
         let bytes : bytes_in f p ++ fs.rest ≡ input =
         append_assoc (header_line f h) body fs.rest
         ∙ ap (λ (x : List ℕ). header_line f h ++ x) (frames_again f (start_of f h) h.card (cards_of f h) h.count (h.base + 1) no_frame (drop (header_digits f + 5) input) u)
         ∙ header_again f due first input q
         in
-        behind p fs.rest (subst (λ (x : Format). Allowed x due first p) told (page_read f due first input q u)) (subst (λ (x : Format). bytes_in x p ++ fs.rest ≡ input) told bytes) (subst (λ (x : Format). (next (cards_of x h) fs.rest).verdict ≡ Refused r) told z)
+        behind p fs.rest (subst (λ (x : Format). Allowed x due first p) told (page_read f due first input q u)) (subst (λ (x : Format). bytes_in x p ++ fs.rest ≡ input) told bytes) (subst (λ (x : Format). (next (cards_of x h) fs.rest).verdict ≡ Err r) told z)
 
 -- ---- behind the first sheet
 
 data More-stopped (F : Formats) (k due first : ℕ) (input : List ℕ) (r : Refusal) : Type 0 where
-  more_header : (ps : List Page) (rest : List ℕ) → AllAllowed F due first ps → length ps < k → pages_bytes F ps ++ rest ≡ input → header_verdict (format_in F rest) (due + length ps) first rest ≡ Refused r → More-stopped F k due first input r
-  more_frame : (ps : List Page) (h : Header) (frs : List Frame) (rest : List ℕ) → AllAllowed F due first ps → length ps < k → Fewer (format_for F h) (due + length ps) first h frs → pages_bytes F ps ++ short_bytes (format_for F h) h frs rest ≡ input → next_verdict (format_for F h) h frs rest ≡ Refused r → More-stopped F k due first input r
-  more_end : (ps : List Page) (rest : List ℕ) → AllAllowed F due first ps → length ps ≡ k → pages_bytes F ps ++ rest ≡ input → (ended rest).verdict ≡ Refused r → More-stopped F k due first input r
+  more_header : (ps : List Page) (rest : List ℕ) → AllAllowed F due first ps → length ps < k → pages_bytes F ps ++ rest ≡ input → header_verdict (format_in F rest) (due + length ps) first rest ≡ Err r → More-stopped F k due first input r
+  more_frame : (ps : List Page) (h : Header) (frs : List Frame) (rest : List ℕ) → AllAllowed F due first ps → length ps < k → Fewer (format_for F h) (due + length ps) first h frs → pages_bytes F ps ++ short_bytes (format_for F h) h frs rest ≡ input → next_verdict (format_for F h) h frs rest ≡ Err r → More-stopped F k due first input r
+  more_end : (ps : List Page) (rest : List ℕ) → AllAllowed F due first ps → length ps ≡ k → pages_bytes F ps ++ rest ≡ input → (ended rest).verdict ≡ Err r → More-stopped F k due first input r
 
-more_stopped : (F : Formats) (k due first : ℕ) (input : List ℕ) (r : Refusal) → (more_sheets F k due first input).verdict ≡ Refused r → More-stopped F k due first input r
+more_stopped : (F : Formats) (k due first : ℕ) (input : List ℕ) (r : Refusal) → (more_sheets F k due first input).verdict ≡ Err r → More-stopped F k due first input r
 more_stopped F zero due first input r e = more_end [] input tt refl refl e
 more_stopped F (suc k) due first input r e = on (sheet_stopped F due first (λ cards rest. more_sheets F k (due + 1) first rest) input r e) (λ rest. more_stopped F k (due + 1) first rest r)
   where
@@ -125,13 +125,13 @@ more_stopped F (suc k) due first input r e = on (sheet_stopped F due first (λ c
 
     push : (p : Page) (rest : List ℕ) → Allowed (format_for F p.header) due first p → page_bytes F p ++ rest ≡ input → More-stopped F k (due + 1) first rest r → More-stopped F (suc k) due first input r
     push p rest a b (more_header ps bs c l d v) =
-        more_header (p ∷ ps) bs (a, c) (omega arith) (joined p ps bs rest b d) (subst (λ (x : ℕ). header_verdict (format_in F bs) x first bs ≡ Refused r) (one_more_lem ps) v)
+        more_header (p ∷ ps) bs (a, c) (omega arith) (joined p ps bs rest b d) (subst (λ (x : ℕ). header_verdict (format_in F bs) x first bs ≡ Err r) (one_more_lem ps) v)
     push p rest a b (more_frame ps h frs bs c l x d v) =
         more_frame (p ∷ ps) h frs bs (a, c) (omega arith) (subst (λ (y : ℕ). Fewer (format_for F h) y first h frs) (one_more_lem ps) x) (joined p ps (short_bytes (format_for F h) h frs bs) rest b d) v
     push p rest a b (more_end ps bs c l d v) = more_end (p ∷ ps) bs (a, c) (ap suc l) (joined p ps bs rest b d) v
 
-    on : Sheet-stopped F due first (λ cards rest. more_sheets F k (due + 1) first rest) input r → ((rest : List ℕ) → (more_sheets F k (due + 1) first rest).verdict ≡ Refused r → More-stopped F k (due + 1) first rest r) → More-stopped F (suc k) due first input r
-    on (in_header v) later = more_header [] input tt (omega arith) refl (subst (λ (x : ℕ). header_verdict (format_in F input) x first input ≡ Refused r) none v)
+    on : Sheet-stopped F due first (λ cards rest. more_sheets F k (due + 1) first rest) input r → ((rest : List ℕ) → (more_sheets F k (due + 1) first rest).verdict ≡ Err r → More-stopped F k (due + 1) first rest r) → More-stopped F (suc k) due first input r
+    on (in_header v) later = more_header [] input tt (omega arith) refl (subst (λ (x : ℕ). header_verdict (format_in F input) x first input ≡ Err r) none v)
     on (in_frames h frs rest x b v) later = more_frame [] h frs rest tt (omega arith) (subst (λ (y : ℕ). Fewer (format_for F h) y first h frs) none x) b v
     on (behind p rest a b v) later = push p rest a b (later rest v)
 
@@ -149,7 +149,7 @@ module _ (F : Formats) (n : ℕ) (ps : List Page) (h : Header) (frs : List Frame
   frame_bytes : (pages_bytes F ps ++ short_bytes (format_for F h) h frs []) ++ rest ≡ pages_bytes F ps ++ short_bytes (format_for F h) h frs rest
   frame_bytes = simp append_assoc
 
-pub stops : (F : Formats) (input : List ℕ) (r : Refusal) → (read_sheets F true 0 input).verdict ≡ Refused r → Stops F input r
+pub stops : (F : Formats) (input : List ℕ) (r : Refusal) → (read_sheets F true 0 input).verdict ≡ Err r → Stops F input r
 unfolding read_sheets
 stops F input r e = on (sheet_stopped F 0 0 (λ cards rest. more_sheets F (cond true (cards - 1) 0) 1 cards rest) input r e)
   where
@@ -158,7 +158,7 @@ stops F input r e = on (sheet_stopped F 0 0 (λ cards rest. more_sheets F (cond 
         at_header n (suc (length ps)) (pages_bytes F (p ∷ ps)) bs (record { sheets = p ∷ ps; bytes = refl; as_many = refl; more = omega arith; allowed = (a, c) })
         (append_assoc (page_bytes F p) (pages_bytes F ps) bs ∙ ap (λ (x : List ℕ). page_bytes F p ++ x) d ∙ b) (known (length ps) v)
       where
-        known : (k : ℕ) → header_verdict (format_in F bs) (1 + k) n bs ≡ Refused r → header_verdict (format_in F bs) (suc k) (first_cards n (suc k)) bs ≡ Refused r
+        known : (k : ℕ) → header_verdict (format_in F bs) (1 + k) n bs ≡ Err r → header_verdict (format_in F bs) (suc k) (first_cards n (suc k)) bs ≡ Err r
         known k v =
             let one : 1 + k ≡ suc k = omega arith in
             rw (eqb-suc-zero k, ← one) v

@@ -1,4 +1,5 @@
 -- The walk over sheets and frames: what is left of it at each place gives the whole. Assumes nothing.
+use Rattle.std.specs.Prelude.{Ok, Err}
 use Prim.Native.Nat.{ℕ, zero, suc, ◌+◌, ◌*◌, ◌-◌, ◌≤◌, ◌<◌, zero-le}
 use mathlib.Core.Path.{◌≡◌, refl, sym, ◌∙◌, ap}
 use mathlib.Core.Bool.{Bool, true, false, ◌||◌, cond}
@@ -13,12 +14,9 @@ use Rattle.base_limits.specs.Ring.{ring_place}
 use Rattle.base_refusal.specs.declared.Refusal.{Refusal}
 use Rattle.base_laws.proofs.Logic.{or_elim, cond_case}
 use Rattle.sheet_digits.specs.declared.Sums.{Sums}
-use Rattle.base_refusal.specs.declared.Reply.{Reply}
-use Rattle.base_refusal.specs.declared.Reply.TheVariants.{Done, Refused}
+use Rattle.base_refusal.specs.Reply.{Reply}
 use Rattle.sheet_lines.specs.declared.Header.{Header}
-use Rattle.sheet_lines.specs.declared.HeaderLine.TheVariants.{Read as header_read, Fault as header-fault}
 use Rattle.sheet_lines.specs.declared.Frame.{Frame}
-use Rattle.sheet_lines.specs.declared.FrameLine.TheVariants.{Read as frame-read, Fault as frame-fault}
 use Rattle.sheet_lines.specs.Format.{Format, Formats}
 use Rattle.sheet_lines.specs.Lines.{cards_of, format_in, header_digits, header_in, header_verdict, header_or, frame_digits, frame_in, frame_allowed, frame_verdict, frame_read_of, padded, no_frame}
 use Rattle.sheet_lines.proofs.Passed.{header_within, Header-in-limits}
@@ -31,25 +29,25 @@ use Rattle.sheet_pages.specs.Walk.{no_readout, lay_header, lay_frame, lay_frames
 -- ---- answers told apart
 
 -- a verdict accepts, or refuses with some refusal
-pub accepts_or : (v : Reply) → (v ≡ Done) ⊎ ((r : Refusal) × (v ≡ Refused r))
-accepts_or Done = inl refl
-accepts_or (Refused r) = inr (r, refl)
+pub accepts_or : (v : Reply) → (v ≡ Ok tt) ⊎ ((r : Refusal) × (v ≡ Err r))
+accepts_or (Ok _) = inl refl
+accepts_or (Err r) = inr (r, refl)
 
-pub header_read_is : (v : Reply) (h g : Header) → header_or v h ≡ header_read g → (v ≡ Done) × (h ≡ g)
-header_read_is Done h g e = (refl, cc)
-header_read_is (Refused r) h g e = let z : ◌≡◌ {A = ℕ} 0 1 = cc in absurd (omega arith)
+pub header_read_is : (v : Reply) (h g : Header) → header_or v h ≡ Ok g → (v ≡ Ok tt) × (h ≡ g)
+header_read_is (Ok _) h g e = (refl, cc)
+header_read_is (Err r) h g e = let z : ◌≡◌ {A = ℕ} 0 1 = cc in absurd (omega arith)
 
-pub header_fault_is : (v : Reply) (h : Header) (r : Refusal) → header_or v h ≡ header-fault r → v ≡ Refused r
-header_fault_is Done h r e = let z : ◌≡◌ {A = ℕ} 0 1 = cc in absurd (omega arith)
-header_fault_is (Refused q) h r e = let i : q ≡ r = cc in ap Refused i
+pub header_fault_is : (v : Reply) (h : Header) (r : Refusal) → header_or v h ≡ Err r → v ≡ Err r
+header_fault_is (Ok _) h r e = let z : ◌≡◌ {A = ℕ} 0 1 = cc in absurd (omega arith)
+header_fault_is (Err q) h r e = let i : q ≡ r = cc in ap Err i
 
-pub frame_read_is : (v : Reply) (fr : Frame) (change : ℕ) → (frame_read_of v fr).line ≡ frame-read change → (v ≡ Done) × (fr.change ≡ change)
-frame_read_is Done fr change e = (refl, cc)
-frame_read_is (Refused r) fr change e = let z : ◌≡◌ {A = ℕ} 0 1 = cc in absurd (omega arith)
+pub frame_read_is : (v : Reply) (fr next : Frame) → frame_read_of v fr ≡ Ok next → (v ≡ Ok tt) × (fr.change ≡ next.change) × (next.entries ≡ padded fr.entries)
+frame_read_is (Ok _) fr next e = (refl, cc, cc)
+frame_read_is (Err r) fr next e = let z : ◌≡◌ {A = ℕ} 0 1 = cc in absurd (omega arith)
 
-pub frame_fault_is : (v : Reply) (fr : Frame) (r : Refusal) → (frame_read_of v fr).line ≡ frame-fault r → v ≡ Refused r
-frame_fault_is Done fr r e = let z : ◌≡◌ {A = ℕ} 0 1 = cc in absurd (omega arith)
-frame_fault_is (Refused q) fr r e = let i : q ≡ r = cc in ap Refused i
+pub frame_fault_is : (v : Reply) (fr : Frame) (r : Refusal) → frame_read_of v fr ≡ Err r → v ≡ Err r
+frame_fault_is (Ok _) fr r e = let z : ◌≡◌ {A = ℕ} 0 1 = cc in absurd (omega arith)
+frame_fault_is (Err q) fr r e = let i : q ≡ r = cc in ap Err i
 
 -- ---- what is left of the walk
 
@@ -59,8 +57,8 @@ going F all first left due input = cond (eqb first 0) (read_sheets F all due inp
 
 -- frames laid from a state on, and what follows where they are accepted
 abbrev pub laid_on : Reply → Readout → List ℕ → (List ℕ → Sheets) → Reading
-laid_on Done r rest next = laid r (next rest)
-laid_on (Refused x) r rest next = record { readout = r; verdict = Refused x }
+laid_on (Ok _) r rest next = laid r (next rest)
+laid_on (Err x) r rest next = record { readout = r; verdict = Err x }
 
 abbrev pub laid_frames : ℕ → ℕ → ℕ → Readout → Frames → (List ℕ → Sheets) → Reading
 laid_frames card state k r fs next = laid_on fs.verdict (lay_frames card state k fs.frames r) fs.rest next
@@ -68,18 +66,18 @@ laid_frames card state k r fs next = laid_on fs.verdict (lay_frames card state k
 -- a sheet whose header is accepted goes on with its frames
 pub sheet_on :
     (v : Reply) (h : Header) (fs : Frames) (input : List ℕ) (r : Readout) (next : List ℕ → Sheets) →
-    v ≡ Done →
+    v ≡ Ok tt →
     laid r (with_sheet v fs.verdict h fs input (next fs.rest)) ≡ laid_frames h.card (h.base + 1) 0 (lay_header h r) fs next
 sheet_on v h fs input r next e = rw e (by fs.verdict)
   where
-    by : (w : Reply) → laid r (with_sheet Done w h fs input (next fs.rest)) ≡ laid_on w (lay_frames h.card (h.base + 1) 0 fs.frames (lay_header h r)) fs.rest next
-    by Done = refl
-    by (Refused x) = refl
+    by : (w : Reply) → laid r (with_sheet (Ok tt) w h fs input (next fs.rest)) ≡ laid_on w (lay_frames h.card (h.base + 1) 0 fs.frames (lay_header h r)) fs.rest next
+    by (Ok _) = refl
+    by (Err x) = refl
 
 -- a frame that is accepted goes on with the frames behind it
 pub frame_on_lem :
     (card state k : ℕ) (r : Readout) (fr : Frame) (input : List ℕ) (fs : Frames) (next : List ℕ → Sheets) →
-    laid_frames card state k r (with_frame Done fr input fs) next ≡ laid_frames card (state + 1) (k + 1) (lay_frame card state k fr r) fs next
+    laid_frames card state k r (with_frame (Ok tt) fr input fs) next ≡ laid_frames card (state + 1) (k + 1) (lay_frame card state k fr r) fs next
 frame_on_lem card state k r fr input fs next = refl
 
 -- the frame before, with its entries in an array
@@ -151,16 +149,16 @@ module _ {F : Formats} {s : List ℕ} {card : ℕ} {all : Bool} {r : Readout} {a
   abbrev picked : Format
   picked = format_in F (drop at s)
 
-  fault_on : {x : Refusal} → 0 < left → header_verdict picked due first (drop at s) ≡ Refused x → (first ≡ 0) ⊎ (first ≡ 0 → ⊥) → ◌≡◌ {A = Reading} (record { readout = r; verdict = Refused x }) (read_up_to F all card s)
+  fault_on : {x : Refusal} → 0 < left → header_verdict picked due first (drop at s) ≡ Err x → (first ≡ 0) ⊎ (first ≡ 0 → ⊥) → ◌≡◌ {A = Reading} (record { readout = r; verdict = Err x }) (read_up_to F all card s)
   unfolding read_sheets
   fault_on {x} l e (inl z) =
-      let e' : header_verdict picked due 0 (drop at s) ≡ Refused x = rw z at e in
+      let e' : header_verdict picked due 0 (drop at s) ≡ Err x = rw z at e in
       rw e' at (first_on z)
   fault_on {x} l e (inr z) =
       let q : left ≡ suc (left - 1) = omega arith in
       rw e at (rw q at (more_on z))
 
-  pub outer_fault : {f : Format} {x : Refusal} → 0 < left → f ≡ picked → header_verdict f due first (drop at s) ≡ Refused x → ◌≡◌ {A = Reading} (record { readout = r; verdict = Refused x }) (read_up_to F all card s)
+  pub outer_fault : {f : Format} {x : Refusal} → 0 < left → f ≡ picked → header_verdict f due first (drop at s) ≡ Err x → ◌≡◌ {A = Reading} (record { readout = r; verdict = Err x }) (read_up_to F all card s)
   outer_fault l p e = fault_on l (rw p at e) (zero_or first)
 
   -- the sheets left with this one, as the code counts them
@@ -181,13 +179,13 @@ module _ {F : Formats} {s : List ℕ} {card : ℕ} {all : Bool} {r : Readout} {a
   inner_on :
       (h : Header) →
       h ≡ header_in picked (drop at s) →
-      header_verdict picked due first (drop at s) ≡ Done →
+      header_verdict picked due first (drop at s) ≡ Ok tt →
       0 < left →
       (first ≡ 0) ⊎ (first ≡ 0 → ⊥) →
       laid_frames h.card (h.base + 1) 0 (lay_header h r) (frames_of picked h (drop at s)) (more_sheets F (now_left (cards_of picked h) - 1) (due + 1) (cards_of picked h)) ≡ read_up_to F all card s
   unfolding read_sheets
   inner_on h q e l (inl z) =
-      let e' : header_verdict picked due 0 (drop at s) ≡ Done = rw z at e in
+      let e' : header_verdict picked due 0 (drop at s) ≡ Ok tt = rw z at e in
       let g = header_in picked (drop at s) in
       rw (q, ← sheet_first z (o.begun z) (cards_of picked g))
       (sym (sheet_on (header_verdict picked due 0 (drop at s)) g (frames_of picked g (drop at s)) (drop at s) r (more_sheets F (cond all (cards_of picked g - 1) 0) (due + 1) (cards_of picked g)) e')
@@ -209,7 +207,7 @@ module _ {F : Formats} {s : List ℕ} {card : ℕ} {all : Bool} {r : Readout} {a
       f.cards ≤ 16 →
       f ≡ picked →
       h ≡ header_in f (drop at s) →
-      header_verdict f due first (drop at s) ≡ Done →
+      header_verdict f due first (drop at s) ≡ Ok tt →
       n ≡ cards_of f h →
       left' ≡ now_left n →
       i ≡ due →
@@ -238,7 +236,7 @@ module _ {F : Formats} {s : List ℕ} {card : ℕ} {all : Bool} {r : Readout} {a
           f ≡ picked →
           (h : Header) →
           h ≡ header_in f (drop at s) →
-          header_verdict f due first (drop at s) ≡ Done →
+          header_verdict f due first (drop at s) ≡ Ok tt →
           laid_frames h.card (h.base + 1) 0 (lay_header h r) (frames_of f h (drop at s)) (more_sheets F (now_left (cards_of f h) - 1) (due + 1) (cards_of f h)) ≡ read_up_to F all card s
       on_picked f p h q e = rw p (inner_on h (rw p at q) (rw p at e) l (zero_or first))
 
@@ -253,7 +251,7 @@ module _ {F : Formats} {f : Format} {s : List ℕ} {card : ℕ} {all : Bool} {du
   frame_due : k < count → laid_frames due (base + 1 + k) k r (frames_left (suc (count - (k + 1))) (base + 1 + k) last (drop at s)) then_sheets ≡ read_up_to F all card s
   frame_due h = let m : count - k ≡ suc (count - (k + 1)) = omega arith in rw m at o.goes_on
 
-  pub inner_fault : {x : Refusal} → k < count → frame_verdict f (f.start due session) due n (base + 1 + k) last (drop at s) ≡ Refused x → ◌≡◌ {A = Reading} (record { readout = r; verdict = Refused x }) (read_up_to F all card s)
+  pub inner_fault : {x : Refusal} → k < count → frame_verdict f (f.start due session) due n (base + 1 + k) last (drop at s) ≡ Err x → ◌≡◌ {A = Reading} (record { readout = r; verdict = Err x }) (read_up_to F all card s)
   inner_fault h e = rw e at (frame_due h)
 
   -- behind the last frame the next sheet is due
@@ -272,7 +270,7 @@ module _ {F : Formats} {f : Format} {s : List ℕ} {card : ℕ} {all : Bool} {du
       (fr : Frame) →
       k < count →
       fr ≡ frame_in f n (drop at s) →
-      frame_verdict f (f.start due session) due n (base + 1 + k) last (drop at s) ≡ Done →
+      frame_verdict f (f.start due session) due n (base + 1 + k) last (drop at s) ≡ Ok tt →
       Inner F f s card all due left n base count session i (lay_frame due (base + 1 + k) k fr r) (at + (frame_digits f n + 5)) (padded_frame fr) (k + 1)
   inner_step fr h q e =
       let b : base + 1 + (k + 1) ≡ base + 1 + k + 1 = omega arith in
@@ -295,7 +293,7 @@ module _ {F : Formats} {f : Format} {s : List ℕ} {card : ℕ} {all : Bool} {du
   pub inner_again :
       {change place : ℕ} {es stored : List ℕ} →
       k < count →
-      frame_verdict f (f.start due session) due n (base + 1 + k) last (drop at s) ≡ Done →
+      frame_verdict f (f.start due session) due n (base + 1 + k) last (drop at s) ≡ Ok tt →
       (frame_in f n (drop at s)).change ≡ change →
       es ≡ padded (frame_in f n (drop at s)).entries →
       place ≡ ring_place due (base + 1 + k) →
@@ -332,17 +330,17 @@ module _ (F : Formats) (all : Bool) (card : ℕ) (s : List ℕ) {r : Readout} {v
   unfolding read_up_to
   verdict_is = sym (ap (λ (x : Reading). x.verdict) e)
 
-  pub kept : v ≡ Done → ◌≡◌ {A = Reading} (record { readout = r; verdict = v }) (reading_in F all card s)
+  pub kept : v ≡ Ok tt → ◌≡◌ {A = Reading} (record { readout = r; verdict = v }) (reading_in F all card s)
   unfolding read_up_to reading_in
   kept q = e ∙ rw (verdict_is, q)
 
-  pub wiped : {x : Refusal} {g : Reading} → v ≡ Refused x → g ≡ answered (Refused x) [] → g ≡ reading_in F all card s
+  pub wiped : {x : Refusal} {g : Reading} → v ≡ Err x → g ≡ answered (Err x) [] → g ≡ reading_in F all card s
   unfolding read_up_to reading_in
   wiped q p = p ∙ rw (verdict_is, q)
 
 -- an accepted answer is all that was read
-pub accepted_is : (F : Formats) (all : Bool) (card : ℕ) (s : List ℕ) {g : Reading} → g ≡ reading_in F all card s → g.verdict ≡ Done → g ≡ laid no_readout (read_sheets F all card s)
+pub accepted_is : (F : Formats) (all : Bool) (card : ℕ) (s : List ℕ) {g : Reading} → g ≡ reading_in F all card s → g.verdict ≡ Ok tt → g ≡ laid no_readout (read_sheets F all card s)
 unfolding reading_in
 accepted_is F all card s e v =
-    let q : (read_sheets F all card s).verdict ≡ Done = sym (ap (λ (x : Reading). x.verdict) e) ∙ v in
+    let q : (read_sheets F all card s).verdict ≡ Ok tt = sym (ap (λ (x : Reading). x.verdict) e) ∙ v in
     e ∙ rw q

@@ -1,4 +1,5 @@
 -- The sheets of an accepted read-out by card, its frames one by one, and the read-out by value as a representation of its sheets. Assumes nothing.
+use Rattle.std.specs.Prelude.{Ok}
 use Prim.Native.Nat.{ℕ, zero, suc, ◌+◌, ◌*◌, ◌-◌, ◌≤◌, ◌<◌}
 use mathlib.Core.Path.{◌≡◌, refl, sym, ◌∙◌, ap, subst}
 use mathlib.Core.Bool.{true, ◌||◌, ◌&&◌}
@@ -13,7 +14,6 @@ use Rattle.base_limits.specs.Ring.{ring_place}
 use Rattle.base_laws.specs.Below.{tabulate}
 use Rattle.base_laws.proofs.Logic.{and_left, and_right, or_right, or_elim}
 use Rattle.base_laws.proofs.Fill.{length_tabulate, get_d_tabulate, tabulate_ext}
-use Rattle.base_refusal.specs.declared.Reply.TheVariants.{Done}
 use Rattle.sheet_lines.specs.declared.Frame.{Frame}
 use Rattle.sheet_lines.specs.Format.{Format, Formats, format, formats}
 use Rattle.sheet_lines.specs.Lines.{cards_of, format_for, frame_allowed, entries_allowed, no_frame}
@@ -91,7 +91,7 @@ whole_of F ps r = subst (Whole F) (sym r.all) whole
     whole = record { some = let s = some in rw long s; few = rw long (header_limits f 0 0 p.header r.first.header).cards; sheet = each }
 
 -- the sheets of a read-out whose lines are accepted
-pub whole_read : (F : Formats) (input : List ℕ) → (read_sheets F true 0 input).verdict ≡ Done → Whole F (read_sheets F true 0 input).pages
+pub whole_read : (F : Formats) (input : List ℕ) → (read_sheets F true 0 input).verdict ≡ Ok tt → Whole F (read_sheets F true 0 input).pages
 whole_read F input e = whole_of F (read_sheets F true 0 input).pages (lines_read F input e)
 
 -- ---- written, then read
@@ -132,7 +132,7 @@ whole_allowed ps w = all_allowed 0 (length ps) ps each
         subst (λ (x : ℕ). Allowed format x (length ps) (page_at ps i)) e (allowed_of (length ps) i (length ps) (page_at ps i) (w.sheet i h) h w.few (or_right (eqb (length ps) 0) (eq-eqb (length ps) (length ps) refl)))
 
 -- the sheets of a whole read-out, written, read back
-pub whole_back : (ps : List Page) → Whole formats ps → read_sheets formats true 0 (pages_bytes formats ps) ≡ record { pages = ps; verdict = Done; rest = [] }
+pub whole_back : (ps : List Page) → Whole formats ps → read_sheets formats true 0 (pages_bytes formats ps) ≡ record { pages = ps; verdict = Ok tt; rest = [] }
 whole_back [] w = absurd (not-suc-le-zero w.some)
 whole_back (p ∷ ps) w =
     written_reads_back formats formats_valid true 0 p ps (allowed_of (suc (length ps)) 0 0 p (w.sheet 0 w.some) w.some w.few refl)

@@ -1,7 +1,6 @@
 -- Places of a read-out with no line before them at fault: those where a frame is due, and those where a header is.
-use Rattle.std.specs.Prelude.{ℕ, ◌+◌, ◌<◌, ◌≡◌, cond, List, [], ◌++◌, eqb, length, get_or}
+use Rattle.std.specs.Prelude.{ℕ, ◌+◌, ◌<◌, ◌≡◌, cond, List, [], ◌++◌, eqb, length, get_or, Err}
 use Rattle.base_refusal.specs.declared.Refusal.{Refusal}
-use Rattle.base_refusal.specs.declared.Reply.TheVariants.{Refused}
 use Rattle.sheet_lines.specs.declared.Header.{Header}
 use Rattle.sheet_lines.specs.declared.Frame.{Frame}
 use Rattle.sheet_lines.specs.Format.{Format, Formats}
@@ -45,6 +44,6 @@ first_cards n c = cond (eqb c 0) 0 n
 
 -- Where the reading of a read-out stops: what is due there, and that what stands there is at fault. Behind the last sheet it is anything.
 pub data Stops (F : Formats) (input : List ℕ) (r : Refusal) : Type 0 where
-  at_header : (n c : ℕ) (front rest : List ℕ) → HeaderDue F n c front → front ++ rest ≡ input → header_verdict (format_in F rest) c (first_cards n c) rest ≡ Refused r → Stops F input r
-  at_frame : (n c : ℕ) (front rest : List ℕ) (d : FrameDue F n c front) → front ++ rest ≡ input → next_verdict (format_for F d.header) d.header d.frames rest ≡ Refused r → Stops F input r
-  at_end : (n : ℕ) (sheets : List Page) (rest : List ℕ) → length sheets ≡ n → AllAllowed F 0 n sheets → pages_bytes F sheets ++ rest ≡ input → (ended rest).verdict ≡ Refused r → Stops F input r
+  at_header : (n c : ℕ) (front rest : List ℕ) → HeaderDue F n c front → front ++ rest ≡ input → header_verdict (format_in F rest) c (first_cards n c) rest ≡ Err r → Stops F input r
+  at_frame : (n c : ℕ) (front rest : List ℕ) (d : FrameDue F n c front) → front ++ rest ≡ input → next_verdict (format_for F d.header) d.header d.frames rest ≡ Err r → Stops F input r
+  at_end : (n : ℕ) (sheets : List Page) (rest : List ℕ) → length sheets ≡ n → AllAllowed F 0 n sheets → pages_bytes F sheets ++ rest ≡ input → (ended rest).verdict ≡ Err r → Stops F input r

@@ -1,9 +1,8 @@
 -- Document 01's sheets and read-outs as lists of frames: their bytes, and what a reader answers to any bytes.
-use Rattle.std.specs.Prelude.{ℕ, zero, suc, ◌+◌, ◌-◌, Bool, cond, List, [], ◌∷◌, ◌++◌, eqb, length, drop}
+use Rattle.std.specs.Prelude.{ℕ, zero, suc, ◌+◌, ◌-◌, Bool, cond, List, [], ◌∷◌, ◌++◌, eqb, length, drop, Ok, Err}
 use Rattle.base_refusal.specs.declared.Refusal.TheVariants.{EndOrMore}
 use Rattle.sheet_digits.specs.declared.Sums.{Sums}
-use Rattle.base_refusal.specs.declared.Reply.{Reply}
-use Rattle.base_refusal.specs.declared.Reply.TheVariants.{Done, Refused}
+use Rattle.base_refusal.specs.Reply.{Reply}
 use Rattle.sheet_lines.specs.declared.Header.{Header}
 use Rattle.sheet_lines.specs.declared.Frame.{Frame}
 use Rattle.sheet_lines.specs.Format.{Format, Formats}
@@ -43,12 +42,12 @@ pub record Frames : Type 0 where
 
 -- a frame line with its verdict, before the frames that follow where it is accepted
 abbrev pub with_frame : Reply → Frame → List ℕ → Frames → Frames
-with_frame Done fr input next = record { frames = fr ∷ next.frames; verdict = next.verdict; rest = next.rest }
-with_frame (Refused r) fr input next = record { frames = []; verdict = Refused r; rest = input }
+with_frame (Ok _) fr input next = record { frames = fr ∷ next.frames; verdict = next.verdict; rest = next.rest }
+with_frame (Err r) fr input next = record { frames = []; verdict = Err r; rest = input }
 
 -- k frames of n entries of a card, from a state on; `last` is the frame before
 abbrev pub read_frames : Format → Sums → ℕ → ℕ → ℕ → ℕ → Frame → List ℕ → Frames
-read_frames f start card n zero state last input = record { frames = []; verdict = Done; rest = input }
+read_frames f start card n zero state last input = record { frames = []; verdict = Ok tt; rest = input }
 read_frames f start card n (suc k) state last input =
     with_frame (frame_verdict f start card n state last input) (frame_in f n input) input
     (read_frames f start card n k (state + 1) (frame_in f n input) (drop (frame_digits f n + 5) input))
@@ -65,9 +64,9 @@ pub record Sheets : Type 0 where
 
 -- a sheet with the verdicts of its header and of its frames, before the sheets that follow where both accept it
 abbrev pub with_sheet : Reply → Reply → Header → Frames → List ℕ → Sheets → Sheets
-with_sheet (Refused r) v h fs input next = record { pages = []; verdict = Refused r; rest = input }
-with_sheet Done (Refused r) h fs input next = record { pages = record { header = h; frames = fs.frames } ∷ []; verdict = Refused r; rest = fs.rest }
-with_sheet Done Done h fs input next =
+with_sheet (Err r) v h fs input next = record { pages = []; verdict = Err r; rest = input }
+with_sheet (Ok _) (Err r) h fs input next = record { pages = record { header = h; frames = fs.frames } ∷ []; verdict = Err r; rest = fs.rest }
+with_sheet (Ok _) (Ok _) h fs input next =
     record { pages = record { header = h; frames = fs.frames } ∷ next.pages; verdict = next.verdict; rest = next.rest }
 
 -- one sheet, where a card is due, and what follows it by its number of cards
@@ -82,7 +81,7 @@ read_sheet F due first next input = sheet_in (format_in F input) due first next 
 
 -- after the last sheet: 8 where the input goes on
 abbrev pub ended : List ℕ → Sheets
-ended input = record { pages = []; verdict = cond (eqb (length input) 0) Done (Refused EndOrMore); rest = input }
+ended input = record { pages = []; verdict = cond (eqb (length input) 0) (Ok tt) (Err EndOrMore); rest = input }
 
 -- k further sheets of a read-out, in card order, each with the first sheet's number of cards
 abbrev pub more_sheets : Formats → ℕ → ℕ → ℕ → List ℕ → Sheets

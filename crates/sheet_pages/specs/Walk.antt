@@ -1,10 +1,9 @@
 -- What was read, as a read-out by value: for each card its session, base and count of frames; frames in a ring of 48 for each card, as a cabinet has them.
-use Rattle.std.specs.Prelude.{ℕ, ◌+◌, ◌*◌, Bool, List, [], ◌∷◌, set, replicate}
+use Rattle.std.specs.Prelude.{ℕ, ◌+◌, ◌*◌, Bool, List, [], ◌∷◌, set, replicate, Ok, Err}
 use Rattle.std.proofs.lemmas.List.Edits.{sets}
 use Rattle.base_limits.specs.Ring.{ring_place}
 use Rattle.base_limits.specs.Document.{most_cards, most_frames, most_entries}
-use Rattle.base_refusal.specs.declared.Reply.{Reply}
-use Rattle.base_refusal.specs.declared.Reply.TheVariants.{Done, Refused}
+use Rattle.base_refusal.specs.Reply.{Reply}
 use Rattle.sheet_lines.specs.declared.Header.{Header}
 use Rattle.sheet_lines.specs.declared.Frame.{Frame}
 use Rattle.sheet_lines.specs.Format.{Formats, formats}
@@ -70,8 +69,8 @@ read_up_to F all card input = laid no_readout (read_sheets F all card input)
 
 -- the sheets answered with a verdict: none with a refusal
 abbrev pub pages_for : Reply → List Page → List Page
-pages_for Done ps = ps
-pages_for (Refused x) ps = []
+pages_for (Ok _) ps = ps
+pages_for (Err x) ps = []
 
 abbrev pub answered : Reply → List Page → Reading
 answered v ps = record { readout = lay_pages (pages_for v ps) no_readout; verdict = v }

@@ -1,10 +1,9 @@
 // A read-out by value, and what a refusal hands back.
 #![tactic(auto)]
 
-ghost use Rattle.std.specs.Prelude.{◌≡◌, [], drop};
+ghost use Rattle.std.specs.Prelude.{◌≡◌, [], drop, Err};
 ghost use Rattle.sheet_pages.specs.Pages.{ended};
-ghost use Rattle.base_refusal.specs.declared.Reply.{Reply};
-ghost use Rattle.sheet_pages.specs.Walk.{answered};
+ghost use Rattle.sheet_pages.specs.Walk.{answered, no_readout};
 
 use base_limits::Limits;
 use base_refusal::{Refusal, Reply};
@@ -22,28 +21,35 @@ pub struct Readout {
 }
 
 // What was read, and the verdict.
+// Stays two fields, and no `Result`: a refusal too hands back a read-out, the one of zeros.
 #[derive(Drop)]
 pub struct Reading {
     pub readout: Readout,
     pub verdict: Reply,
 }
 
-// A refusal hands back the read-out of zeros.
-pub fn nothing_read(x: Refusal) -> Reading
-    ensures { result ≡ answered (Reply.Refused x) [] }
+// The read-out of zeros.
+pub fn no_readout() -> Readout
+    ensures { result ≡ no_readout }
 {
     let zeros = [0u32; Limits::CARDS];
-    let readout = Readout {
+    Readout {
         changes: [0u32; Limits::FRAMES],
         entries: [0u32; Limits::ENTRIES],
         sessions: zeros,
         bases: zeros,
         counts: zeros,
         cards: 0,
-    };
+    }
+}
+
+// A refusal hands back the read-out of zeros.
+pub fn nothing_read(x: Refusal) -> Reading
+    ensures { result ≡ answered (Err x) [] }
+{
     Reading {
-        readout,
-        verdict: Reply::Refused(x),
+        readout: no_readout(),
+        verdict: Err(x),
     }
 }
 
@@ -52,8 +58,8 @@ pub fn end_at(s: &[u8], at: usize) -> Reply
     ensures { result ≡ (ended (drop at s.now)).verdict }
 {
     if at < s.len() {
-        Reply::Refused(Refusal::EndOrMore)
+        Err(Refusal::EndOrMore)
     } else {
-        Reply::Done
+        Ok(())
     }
 }

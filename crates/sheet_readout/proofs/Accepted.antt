@@ -1,4 +1,5 @@
 -- What every accepted read-out has, over its sheets; and that its value is a representation of them. Assumes nothing.
+use Rattle.std.specs.Prelude.{Ok, Err}
 use Prim.Native.Nat.{ℕ, ◌+◌, ◌-◌, ◌≤◌, ◌<◌}
 use mathlib.Core.Path.{◌≡◌, refl}
 use mathlib.Core.Logic.{◌⊎◌, inl, inr, ⊎_elim}
@@ -10,8 +11,7 @@ use lib.ListN.{length}
 use borrow.Author.Tests.{eqb-false, ltb-false, le-ltb}
 use Rattle.base_laws.proofs.Logic.{test, cond_case}
 use Rattle.base_refusal.specs.declared.Refusal.TheVariants.{TwoVectors, SessionsApart, LimitReached}
-use Rattle.base_refusal.specs.declared.Reply.{Reply}
-use Rattle.base_refusal.specs.declared.Reply.TheVariants.{Done, Refused}
+use Rattle.base_refusal.specs.Reply.{Reply}
 use Rattle.sheet_lines.specs.Format.{formats}
 use Rattle.sheet_pages.specs.Pages.{Page, pages_bytes, read_sheets}
 use Rattle.sheet_pages.specs.Ring.{page_at, pages_of}
@@ -27,28 +27,28 @@ use Rattle.sheet_readout.specs.Joint.{lowest_session, sessions_apart, joint_verd
 -- its sheets: within the limits by themselves, and beside each other; written, they are the bytes
 pub record AcceptedPages (input : List ℕ) (ps : List Page) : Type 0 where
   pub whole : Whole formats ps
-  pub joint : joint_verdict ps ≡ Done
+  pub joint : joint_verdict ps ≡ Ok tt
   pub bytes : pages_bytes formats ps ≡ input
   pub short : length input ≤ 65536
 
 -- what was judged
 record Judged (v : Reply) (ps : List Page) (x : PagesRead) : Type 0 where
-  pub verdict : v ≡ Done
+  pub verdict : v ≡ Ok tt
   pub pages : x.pages ≡ ps
 
-judged_accepted : (v : Reply) (ps : List Page) → (judged v ps).verdict ≡ Done → Judged v ps (judged v ps)
-judged_accepted Done ps e = record { verdict = refl; pages = refl }
-judged_accepted (Refused x) ps e = let z : ◌≡◌ {A = ℕ} 0 1 = cc in absurd (omega arith)
+judged_accepted : (v : Reply) (ps : List Page) → (judged v ps).verdict ≡ Ok tt → Judged v ps (judged v ps)
+judged_accepted (Ok _) ps e = record { verdict = refl; pages = refl }
+judged_accepted (Err x) ps e = let z : ◌≡◌ {A = ℕ} 0 1 = cc in absurd (omega arith)
 
 record Lined (v : Reply) (ps : List Page) (x : PagesRead) : Type 0 where
-  pub lines : v ≡ Done
+  pub lines : v ≡ Ok tt
   pub joint : Judged (joint_verdict ps) ps x
 
-lined_accepted : (v : Reply) (ps : List Page) → (lined v ps).verdict ≡ Done → Lined v ps (lined v ps)
-lined_accepted Done ps e = record { lines = refl; joint = judged_accepted (joint_verdict ps) ps e }
-lined_accepted (Refused x) ps e = let z : ◌≡◌ {A = ℕ} 0 1 = cc in absurd (omega arith)
+lined_accepted : (v : Reply) (ps : List Page) → (lined v ps).verdict ≡ Ok tt → Lined v ps (lined v ps)
+lined_accepted (Ok _) ps e = record { lines = refl; joint = judged_accepted (joint_verdict ps) ps e }
+lined_accepted (Err x) ps e = let z : ◌≡◌ {A = ℕ} 0 1 = cc in absurd (omega arith)
 
-pub accepted_pages : (input : List ℕ) → (pages_read input).verdict ≡ Done → AcceptedPages input (pages_read input).pages
+pub accepted_pages : (input : List ℕ) → (pages_read input).verdict ≡ Ok tt → AcceptedPages input (pages_read input).pages
 unfolding pages_read
 accepted_pages input e =
     test (ltb 65536 (length input))
@@ -61,24 +61,24 @@ accepted_pages input e =
     (record { whole = whole_read formats input l.lines; joint = l.joint.verdict; bytes = read_writes_again formats true 0 input l.lines; short = ltb-false 65536 (length input) t }))
 
 -- a refused read-out has no sheets
-judged_or : (v : Reply) (ps : List Page) → ((judged v ps).verdict ≡ Done) ⊎ ((judged v ps).pages ≡ [])
-judged_or Done ps = inl refl
-judged_or (Refused x) ps = inr refl
+judged_or : (v : Reply) (ps : List Page) → ((judged v ps).verdict ≡ Ok tt) ⊎ ((judged v ps).pages ≡ [])
+judged_or (Ok _) ps = inl refl
+judged_or (Err x) ps = inr refl
 
-lined_or : (v : Reply) (ps : List Page) → ((lined v ps).verdict ≡ Done) ⊎ ((lined v ps).pages ≡ [])
-lined_or Done ps = judged_or (joint_verdict ps) ps
-lined_or (Refused x) ps = inr refl
+lined_or : (v : Reply) (ps : List Page) → ((lined v ps).verdict ≡ Ok tt) ⊎ ((lined v ps).pages ≡ [])
+lined_or (Ok _) ps = judged_or (joint_verdict ps) ps
+lined_or (Err x) ps = inr refl
 
-pub read_or : (input : List ℕ) → ((pages_read input).verdict ≡ Done) ⊎ ((pages_read input).pages ≡ [])
+pub read_or : (input : List ℕ) → ((pages_read input).verdict ≡ Ok tt) ⊎ ((pages_read input).pages ≡ [])
 unfolding pages_read
 read_or input =
-    cond_case (λ (x : PagesRead). (x.verdict ≡ Done) ⊎ (x.pages ≡ [])) (ltb 65536 (length input)) (λ t. inr refl)
+    cond_case (λ (x : PagesRead). (x.verdict ≡ Ok tt) ⊎ (x.pages ≡ [])) (ltb 65536 (length input)) (λ t. inr refl)
     (λ t. lined_or (read_sheets formats true 0 input).verdict (read_sheets formats true 0 input).pages)
 
 -- The read-out that the reader gives is a representation of the sheets read, whatever the bytes.
 pub readout_pages : (input : List ℕ) → pages_of (readout_of input).readout ≡ (pages_read input).pages
 readout_pages input =
-    ⊎_elim (λ (e : (pages_read input).verdict ≡ Done). pages_back (pages_read input).pages (accepted_pages input e).whole)
+    ⊎_elim (λ (e : (pages_read input).verdict ≡ Ok tt). pages_back (pages_read input).pages (accepted_pages input e).whole)
     (λ (e : (pages_read input).pages ≡ []). rw e) (read_or input)
 
 -- and whole sheets, written, are read back and judged
@@ -92,12 +92,12 @@ pub record Joint (ps : List Page) : Type 0 where
   pub below : lowest_session ps ≡ 4294967295 → ⊥
   pub one_vector : two_vectors ps ≡ false
 
-pub joint_passed : (ps : List Page) → joint_verdict ps ≡ Done → Joint ps
+pub joint_passed : (ps : List Page) → joint_verdict ps ≡ Ok tt → Joint ps
 unfolding joint_verdict
 joint_passed ps e = go (sessions_apart ps) (eqb (lowest_session ps) 4294967295) (two_vectors ps) refl refl refl e
   where
     go : (a b c : Bool) → sessions_apart ps ≡ a → eqb (lowest_session ps) 4294967295 ≡ b → two_vectors ps ≡ c
-        → cond a (Refused SessionsApart) (cond b (Refused LimitReached) (cond c (Refused TwoVectors) Done)) ≡ Done → Joint ps
+        → ◌≡◌ {A = Reply} (cond a (Err SessionsApart) (cond b (Err LimitReached) (cond c (Err TwoVectors) (Ok tt)))) (Ok tt) → Joint ps
     go true b c p q r z = let w : ◌≡◌ {A = ℕ} 0 1 = cc in absurd (omega arith)
     go false true c p q r z = let w : ◌≡◌ {A = ℕ} 0 1 = cc in absurd (omega arith)
     go false false true p q r z = let w : ◌≡◌ {A = ℕ} 0 1 = cc in absurd (omega arith)

@@ -1,4 +1,5 @@
 -- The joint verdict by its tests, and what the reader answers to long and to read bytes. Assumes nothing.
+use Rattle.std.specs.Prelude.{Ok, Err}
 use Prim.Native.Nat.{ℕ, ◌-◌, ◌≤◌, ◌<◌}
 use mathlib.Core.Path.{◌≡◌, sym, ◌∙◌, ap}
 use mathlib.Core.Bool.{Bool, true, cond}
@@ -10,8 +11,7 @@ use borrow.Author.Tests.{lt-ltb, le-ltb}
 use Rattle.base_laws.proofs.Fill.{length_tabulate}
 use Rattle.base_refusal.specs.declared.Refusal.{Refusal}
 use Rattle.base_refusal.specs.declared.Refusal.TheVariants.{TwoVectors, SessionsApart, TooLong, LimitReached}
-use Rattle.base_refusal.specs.declared.Reply.{Reply}
-use Rattle.base_refusal.specs.declared.Reply.TheVariants.{Done, Refused}
+use Rattle.base_refusal.specs.Reply.{Reply}
 use Rattle.sheet_lines.specs.Format.{formats}
 use Rattle.sheet_pages.specs.declared.Readout.{Readout}
 use Rattle.sheet_pages.specs.declared.Reading.{Reading}
@@ -66,7 +66,7 @@ pub joint_tests :
     eqb low 4294967295 ≡ d →
     u ≡ two_vectors (pages_of (lists_read r.changes r.entries [] r.bases r.counts r.cards)) →
     u ≡ c →
-    cond a (Refused SessionsApart) (cond d (Refused LimitReached) (cond c (Refused TwoVectors) Done)) ≡ joint_verdict (pages_of r)
+    cond a (Err SessionsApart) (cond d (Err LimitReached) (cond c (Err TwoVectors) (Ok tt))) ≡ joint_verdict (pages_of r)
 unfolding joint_verdict
 joint_tests r {low} h p q e x y f =
     let l : lowest_session (pages_of r) ≡ low = lowest_on r h ∙ sym p in
@@ -74,29 +74,29 @@ joint_tests r {low} h p q e x y f =
     rw (apart_on r l, l, ← two, ← y, f, ← x, ← q, e)
 
 -- ---- the answer by the joint verdict
-pub joint_accepted : (r : Readout) {v : Reply} → lay_pages (pages_of r) no_readout ≡ r → v ≡ joint_verdict (pages_of r) → v ≡ Done → ◌≡◌ {A = Reading} (record { readout = r; verdict = Done }) (given (judged (joint_verdict (pages_of r)) (pages_of r)))
-joint_accepted r e p q = rw (← p, q) (λ i. record { readout = sym e i; verdict = Done })
+pub joint_accepted : (r : Readout) {v : Reply} → lay_pages (pages_of r) no_readout ≡ r → v ≡ joint_verdict (pages_of r) → v ≡ Ok tt → ◌≡◌ {A = Reading} (record { readout = r; verdict = Ok tt }) (given (judged (joint_verdict (pages_of r)) (pages_of r)))
+joint_accepted r e p q = rw (← p, q) (λ i. record { readout = sym e i; verdict = Ok tt })
 
-pub joint_refused : (r : Readout) {v : Reply} {x : Refusal} {g : Reading} → g ≡ given (judged (Refused x) []) → v ≡ joint_verdict (pages_of r) → v ≡ Refused x → g ≡ given (judged (joint_verdict (pages_of r)) (pages_of r))
+pub joint_refused : (r : Readout) {v : Reply} {x : Refusal} {g : Reading} → g ≡ given (judged (Err x) []) → v ≡ joint_verdict (pages_of r) → v ≡ Err x → g ≡ given (judged (joint_verdict (pages_of r)) (pages_of r))
 joint_refused r e p q = rw (← p, q) e
 
 -- ---- the answer to bytes
-pub long_read : (input : List ℕ) → 65536 < length input → ◌≡◌ {A = Reading} (given (judged (Refused TooLong) [])) (readout_of input)
+pub long_read : (input : List ℕ) → 65536 < length input → ◌≡◌ {A = Reading} (given (judged (Err TooLong) [])) (readout_of input)
 unfolding pages_read
 long_read input h = rw (lt-ltb 65536 (length input) h)
 
-pub lines_accepted : (input : List ℕ) {g : Reading} → length input ≤ 65536 → g ≡ reading_of true 0 input → g.verdict ≡ Done → given (judged (joint_verdict (pages_of g.readout)) (pages_of g.readout)) ≡ readout_of input
+pub lines_accepted : (input : List ℕ) {g : Reading} → length input ≤ 65536 → g ≡ reading_of true 0 input → g.verdict ≡ Ok tt → given (judged (joint_verdict (pages_of g.readout)) (pages_of g.readout)) ≡ readout_of input
 unfolding pages_read
 lines_accepted input h e v =
     let ps : List Page = (read_sheets formats true 0 input).pages in
     let all_read = accepted_is formats true 0 input e v in
-    let l : (read_sheets formats true 0 input).verdict ≡ Done = sym (ap (λ (x : Reading). x.verdict) all_read) ∙ v in
+    let l : (read_sheets formats true 0 input).verdict ≡ Ok tt = sym (ap (λ (x : Reading). x.verdict) all_read) ∙ v in
     ap (λ (x : Reading). given (judged (joint_verdict (pages_of x.readout)) (pages_of x.readout))) all_read
     ∙ ap (λ (qs : List Page). given (judged (joint_verdict qs) qs)) (pages_back ps (whole_read formats input l))
     ∙ rw (le-ltb 65536 (length input) h, l)
 
-pub lines_refused : (input : List ℕ) {g : Reading} {x : Refusal} → length input ≤ 65536 → g ≡ reading_of true 0 input → g.verdict ≡ Refused x → given (judged (Refused x) []) ≡ readout_of input
+pub lines_refused : (input : List ℕ) {g : Reading} {x : Refusal} → length input ≤ 65536 → g ≡ reading_of true 0 input → g.verdict ≡ Err x → given (judged (Err x) []) ≡ readout_of input
 unfolding pages_read reading_in
 lines_refused input {g} {x} h e v =
-    let l : (read_sheets formats true 0 input).verdict ≡ Refused x = sym (ap (λ (y : Reading). y.verdict) e) ∙ v in
+    let l : (read_sheets formats true 0 input).verdict ≡ Err x = sym (ap (λ (y : Reading). y.verdict) e) ∙ v in
     rw (le-ltb 65536 (length input) h, l)

@@ -1,4 +1,5 @@
 -- The read-out of accepted lines: its change numbers rise, and it is what its sheets lay. Assumes nothing.
+use Rattle.std.specs.Prelude.{Ok}
 use Prim.Native.Nat.{ℕ, suc, ◌+◌, ◌-◌, ◌≤◌, ◌<◌}
 use mathlib.Core.Path.{◌≡◌, sym, ◌∙◌, ap, subst}
 use mathlib.Core.Bool.{true, cond}
@@ -11,7 +12,6 @@ use lib.ListN.{length, get_or}
 use borrow.Author.Tests.{ltb-true}
 use Rattle.base_laws.proofs.Logic.{test, cond_true, cond_false}
 use Rattle.base_merge.specs.Merge.{at, change_at, ends_of, CardRises}
-use Rattle.base_refusal.specs.declared.Reply.TheVariants.{Done}
 use Rattle.sheet_lines.specs.Format.{format, formats}
 use Rattle.sheet_lines.specs.Lines.{no_frame}
 use Rattle.sheet_pages.specs.declared.Readout.{Readout}
@@ -85,7 +85,7 @@ module _ (ps : List Page) (w : Whole formats ps) where
         again = ap (λ (qs : List Page). lay_pages qs no_readout) (pages_back ps w);
       }
 
-pub reading_laid : {g : Reading} (input : List ℕ) → g ≡ reading_of true 0 input → g.verdict ≡ Done → Laid g.readout
+pub reading_laid : {g : Reading} (input : List ℕ) → g ≡ reading_of true 0 input → g.verdict ≡ Ok tt → Laid g.readout
 reading_laid {g} input e v =
     let all_read = accepted_is formats true 0 input e v in
     subst (λ (x : Reading). Laid x.readout) (sym all_read)

@@ -1,9 +1,8 @@
 -- What the reader of a joined read-out answers, over its sheets: refusals 11, 24 and 10 behind the last line.
-use Rattle.std.specs.Prelude.{ℕ, ◌-◌, Bool, true, cond, List, [], ltb, eqb, length}
+use Rattle.std.specs.Prelude.{ℕ, ◌-◌, Bool, true, cond, List, [], ltb, eqb, length, Ok, Err}
 use Rattle.base_limits.specs.Document.{last_number, longest_input}
 use Rattle.base_refusal.specs.declared.Refusal.TheVariants.{TwoVectors, SessionsApart, TooLong, LimitReached}
-use Rattle.base_refusal.specs.declared.Reply.{Reply}
-use Rattle.base_refusal.specs.declared.Reply.TheVariants.{Done, Refused}
+use Rattle.base_refusal.specs.Reply.{Reply}
 use Rattle.sheet_lines.specs.Format.{formats}
 use Rattle.sheet_pages.specs.declared.Reading.{Reading}
 use Rattle.sheet_pages.specs.Pages.{Page, read_sheets}
@@ -23,7 +22,7 @@ sessions_apart ps = apart (λ c. (page_at ps c).header.session) (λ c. length (p
 -- "then 11, 24, 10"
 unfoldable pub joint_verdict : List Page → Reply
 joint_verdict ps =
-    cond (sessions_apart ps) (Refused SessionsApart) (cond (eqb (lowest_session ps) last_number) (Refused LimitReached) (cond (two_vectors ps) (Refused TwoVectors) Done))
+    cond (sessions_apart ps) (Err SessionsApart) (cond (eqb (lowest_session ps) last_number) (Err LimitReached) (cond (two_vectors ps) (Err TwoVectors) (Ok tt)))
 
 -- the sheets of a read-out, and the verdict on it
 pub record PagesRead : Type 0 where
@@ -32,18 +31,18 @@ pub record PagesRead : Type 0 where
 
 -- a refused read-out has no sheets: "nothing of the sheet is used"
 abbrev pub judged : Reply → List Page → PagesRead
-judged Done ps = record { pages = ps; verdict = Done }
-judged (Refused x) ps = record { pages = []; verdict = Refused x }
+judged (Ok _) ps = record { pages = ps; verdict = Ok tt }
+judged (Err x) ps = record { pages = []; verdict = Err x }
 
 -- a read-out by the verdict on its lines, and then jointly
 abbrev pub lined : Reply → List Page → PagesRead
-lined Done ps = judged (joint_verdict ps) ps
-lined (Refused x) ps = judged (Refused x) ps
+lined (Ok _) ps = judged (joint_verdict ps) ps
+lined (Err x) ps = judged (Err x) ps
 
 -- what any bytes are as the sheets of all cards: "12 comes before any line"
 unfoldable pub pages_read : List ℕ → PagesRead
 pages_read input =
-    cond (ltb longest_input (length input)) (judged (Refused TooLong) []) (lined (read_sheets formats true 0 input).verdict (read_sheets formats true 0 input).pages)
+    cond (ltb longest_input (length input)) (judged (Err TooLong) []) (lined (read_sheets formats true 0 input).verdict (read_sheets formats true 0 input).pages)
 
 -- sheets with their verdict as the reader gives them, by value; of no sheets that is the read-out of zeros
 abbrev pub given : PagesRead → Reading

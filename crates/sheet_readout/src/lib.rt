@@ -25,15 +25,15 @@ fn joint_verdict<'a>(
 {
     let low = sheet_sessions::lowest(sessions, n - 1);
     if sheet_sessions::sessions_apart(sessions, counts, low, n) {
-        return Reply::Refused(Refusal::SessionsApart);
+        return Err(Refusal::SessionsApart);
     }
     if low == Limits::GREATEST_NUMBER {
-        return Reply::Refused(Refusal::LimitReached);
+        return Err(Refusal::LimitReached);
     }
     if sheet_vectors::two_vectors(changes, entries, bases, counts, n) {
-        return Reply::Refused(Refusal::TwoVectors);
+        return Err(Refusal::TwoVectors);
     }
-    Reply::Done
+    Ok(())
 }
 
 // A read-out whose lines are accepted, by the joint verdict.
@@ -41,17 +41,14 @@ fn judged_jointly(r: Readout) -> Reading
     requires { Laid r }
     ensures { result ≡ given (judged (joint_verdict (pages_of r)) (pages_of r)) }
 {
-    let sessions = r.sessions;
-    let bases = r.bases;
-    let counts = r.counts;
-    let n = r.cards;
-    let v = joint_verdict(&r.changes, &r.entries, sessions, bases, counts, n);
-    match v {
-        Reply::Done => Reading {
+    match joint_verdict(
+        &r.changes, &r.entries, r.sessions, r.bases, r.counts, r.cards,
+    ) {
+        Ok(()) => Reading {
             readout: r,
-            verdict: Reply::Done,
+            verdict: Ok(()),
         },
-        Reply::Refused(x) => sheet_pages::nothing_read(x),
+        Err(x) => sheet_pages::nothing_read(x),
     }
 }
 
@@ -63,12 +60,8 @@ pub fn read_readout(s: &[u8]) -> Reading
         return sheet_pages::nothing_read(Refusal::TooLong);
     }
     let read = sheet_walk::read_sheets(s, 0, true);
-    let v = read.verdict;
-    match v {
-        Reply::Done => {
-            let r = read.readout;
-            judged_jointly(r)
-        }
-        Reply::Refused(x) => sheet_pages::nothing_read(x),
+    match read.verdict {
+        Ok(()) => judged_jointly(read.readout),
+        Err(x) => sheet_pages::nothing_read(x),
     }
 }

@@ -1,4 +1,5 @@
 -- What the readers of one sheet and of a read-out refuse: a byte altered, frames too few, a line of another sheet, older sheets. Assumes nothing.
+use Rattle.std.specs.Prelude.{Ok, Err}
 use Prim.Native.Nat.{ℕ, ◌+◌, ◌*◌, ◌-◌, ◌%◌, ◌≤◌, ◌<◌}
 use mathlib.Core.Path.{◌≡◌, refl, sym, ◌∙◌, ap, subst}
 use mathlib.Core.Bool.{Bool, true, false, cond}
@@ -9,8 +10,7 @@ use lib.ListN.{length, set, length-set, length-append}
 use borrow.Author.Tests.{le-ltb}
 use Rattle.base_refusal.specs.declared.Refusal.{Refusal}
 use Rattle.base_refusal.specs.declared.Refusal.TheVariants.{BadCheck, TooLong}
-use Rattle.base_refusal.specs.declared.Reply.{Reply}
-use Rattle.base_refusal.specs.declared.Reply.TheVariants.{Done, Refused}
+use Rattle.base_refusal.specs.Reply.{Reply}
 use Rattle.sheet_lines.specs.declared.Header.{Header}
 use Rattle.sheet_lines.specs.declared.Frame.{Frame}
 use Rattle.sheet_lines.specs.Format.{format, formats}
@@ -39,11 +39,11 @@ use Rattle.sheet_round.proofs.Sheets.{verdict_accepted}
 
 -- ---- lines that are refused
 
-lines_refused : (card : ℕ) (input : List ℕ) (r : Refusal) → ltb 65536 (length input) ≡ false → (read_sheets formats false card input).verdict ≡ Refused r → sheet_read_of card input ≡ record { readout = no_readout; verdict = Refused r }
+lines_refused : (card : ℕ) (input : List ℕ) (r : Refusal) → ltb 65536 (length input) ≡ false → (read_sheets formats false card input).verdict ≡ Err r → sheet_read_of card input ≡ record { readout = no_readout; verdict = Err r }
 unfolding sheet_read_of
 lines_refused card input r l e = rw (l, e)
 
-all_refused : (input : List ℕ) (r : Refusal) → ltb 65536 (length input) ≡ false → (read_sheets formats true 0 input).verdict ≡ Refused r → readout_of input ≡ record { readout = no_readout; verdict = Refused r }
+all_refused : (input : List ℕ) (r : Refusal) → ltb 65536 (length input) ≡ false → (read_sheets formats true 0 input).verdict ≡ Err r → readout_of input ≡ record { readout = no_readout; verdict = Err r }
 unfolding pages_read
 all_refused input r l e = rw (l, e)
 
@@ -57,10 +57,10 @@ altered_sheet_refused card input p b h o e =
     (w.0, lines_refused card (set input p b) w.0 (ap (ltb 65536) (length-set input p b) ∙ a.0) w.1)
 
 -- an accepted read-out is not too long, and its lines are accepted
-lined_accepted : (long : Bool) (v : Reply) (ps : List Page) → (cond long (judged (Refused TooLong) []) (lined v ps)).verdict ≡ Done → (long ≡ false) × (v ≡ Done)
+lined_accepted : (long : Bool) (v : Reply) (ps : List Page) → (cond long (judged (Err TooLong) []) (lined v ps)).verdict ≡ Ok tt → (long ≡ false) × (v ≡ Ok tt)
 lined_accepted true v ps e = let z : ◌≡◌ {A = ℕ} 0 1 = cc in absurd (omega arith)
-lined_accepted false (Refused x) ps e = let z : ◌≡◌ {A = ℕ} 0 1 = cc in absurd (omega arith)
-lined_accepted false Done ps e = (refl, refl)
+lined_accepted false (Err x) ps e = let z : ◌≡◌ {A = ℕ} 0 1 = cc in absurd (omega arith)
+lined_accepted false (Ok _) ps e = (refl, refl)
 
 pub altered_readout_refused : AlteredReadoutRefused
 unfolding pages_read
@@ -81,7 +81,7 @@ pub stops_where_due : StopsWhereDue
 stops_where_due = stops formats
 
 -- whatever number of frames there is
-next_refused : (h : Header) (frs : List Frame) (rest : List ℕ) (r : Refusal) → h.card < 16 → Next h.card h.cards rest r → next_verdict format h frs rest ≡ Refused r
+next_refused : (h : Header) (frs : List Frame) (rest : List ℕ) (r : Refusal) → h.card < 16 → Next h.card h.cards rest r → next_verdict format h frs rest ≡ Err r
 next_refused h frs rest r c ends = ends_there format (start_of format h) h.card h.cards (h.base + 1 + length frs) (last_of no_frame frs)
 next_refused h frs rest r c (sheet not-two next more) =
     length_other format (start_of format h) (start_of format next) 20 h.card h.cards (h.base + 1 + length frs) (last_of no_frame frs) (header_line format next) more (header_passing format format_valid next) (λ (e : 4 + 8 + h.cards * 4 ≡ 20). not-two (omega arith))
@@ -104,12 +104,12 @@ fewer_readout_refused n c front rest r d x l =
 -- ---- a frame of another sheet
 
 -- the lines of an accepted read-out are accepted
-lines_accepted : (input : List ℕ) → (readout_of input).verdict ≡ Done → (read_sheets formats true 0 input).verdict ≡ Done
+lines_accepted : (input : List ℕ) → (readout_of input).verdict ≡ Ok tt → (read_sheets formats true 0 input).verdict ≡ Ok tt
 unfolding pages_read
 lines_accepted input e = (lined_accepted (ltb 65536 (length input)) (read_sheets formats true 0 input).verdict (read_sheets formats true 0 input).pages e).1
 
-module _ (n d : ℕ) (input line : List ℕ) (e : (readout_of input).verdict ≡ Done) (y : FrameOf formats n d input line) where
-  accepted : (read_sheets formats true 0 (y.front ++ (line ++ y.behind))).verdict ≡ Done
+module _ (n d : ℕ) (input line : List ℕ) (e : (readout_of input).verdict ≡ Ok tt) (y : FrameOf formats n d input line) where
+  accepted : (read_sheets formats true 0 (y.front ++ (line ++ y.behind))).verdict ≡ Ok tt
   accepted = rw y.bytes at (lines_accepted input e)
 
   line_few : length line ≤ 81
@@ -121,7 +121,7 @@ module _ (n d : ℕ) (input line : List ℕ) (e : (readout_of input).verdict ≡
       (c : ℕ) (front rest : List ℕ) (x : FrameDue formats n c front) →
       (start_of format x.header ≡ start_of format y.due.header → ⊥) →
       length (front ++ (line ++ rest)) ≤ 65536 →
-      readout_of (front ++ (line ++ rest)) ≡ record { readout = no_readout; verdict = Refused BadCheck }
+      readout_of (front ++ (line ++ rest)) ≡ record { readout = no_readout; verdict = Err BadCheck }
   carried c front rest x ne l =
       all_refused (front ++ (line ++ rest)) BadCheck (le-ltb 65536 (length (front ++ (line ++ rest))) l)
       (carried_refused formats formats_valid formats_apart n d y.front line y.behind y.due y.long accepted c front rest x refl ne)
@@ -130,10 +130,10 @@ module _ (n d : ℕ) (input line : List ℕ) (e : (readout_of input).verdict ≡
   other_card : (h : Header) (c : ℕ) → h.card ≡ c → c < n → (c ≡ d → ⊥) → start_of format h ≡ start_of format y.due.header → ⊥
   other_card h c q l ne = carried_card formats formats_valid formats_apart n d y.front line y.behind y.due y.long accepted h (omega arith) (λ (z : h.card ≡ d). ne (sym q ∙ z))
 
-  from_other : (c : ℕ) (front rest : List ℕ) → FrameDue formats n c front → (c ≡ d → ⊥) → length (front ++ (line ++ rest)) ≤ 65536 → readout_of (front ++ (line ++ rest)) ≡ record { readout = no_readout; verdict = Refused BadCheck }
+  from_other : (c : ℕ) (front rest : List ℕ) → FrameDue formats n c front → (c ≡ d → ⊥) → length (front ++ (line ++ rest)) ≤ 65536 → readout_of (front ++ (line ++ rest)) ≡ record { readout = no_readout; verdict = Err BadCheck }
   from_other c front rest x ne l = carried c front rest x (other_card x.header c (due_card formats formats_valid n c front x) x.behind.more ne) l
 
-  into_sheet : (card : ℕ) (h : Header) (frs : List Frame) (rest : List ℕ) → n ≡ h.cards → Fewer format card 0 h frs → (card ≡ d → ⊥) → next_verdict format h frs (line ++ rest) ≡ Refused BadCheck
+  into_sheet : (card : ℕ) (h : Header) (frs : List Frame) (rest : List ℕ) → n ≡ h.cards → Fewer format card 0 h frs → (card ≡ d → ⊥) → next_verdict format h frs (line ++ rest) ≡ Err BadCheck
   into_sheet card h frs rest q x ne =
       let w = header_limits format card 0 h x.header in
       carried_there formats formats_valid formats_apart n d y.front line y.behind y.due y.long accepted h frs rest (sym q) refl (other_card h card w.card (omega (arith, w.below, w.card)) ne)
@@ -165,14 +165,14 @@ pub carried_into_sheet_refused : CarriedIntoSheetRefused
 carried_into_sheet_refused d input line card h frs rest e y x ne l = short_sheet_refused card h frs (line ++ rest) BadCheck x (into_sheet h.cards d input line e y card h frs rest refl x ne) l
 
 -- what is not accepted is refused
-not_accepted : (input : List ℕ) → ((read_sheets formats true 0 input).verdict ≡ Done → ⊥) → (r : Refusal) × (readout_of input ≡ record { readout = no_readout; verdict = Refused r })
+not_accepted : (input : List ℕ) → ((read_sheets formats true 0 input).verdict ≡ Ok tt → ⊥) → (r : Refusal) × (readout_of input ≡ record { readout = no_readout; verdict = Err r })
 unfolding pages_read
 not_accepted input n = by (ltb 65536 (length input)) (read_sheets formats true 0 input).verdict (read_sheets formats true 0 input).pages n
   where
-    by : (long : Bool) (v : Reply) (ps : List Page) → (v ≡ Done → ⊥) → (r : Refusal) × (given (cond long (judged (Refused TooLong) []) (lined v ps)) ≡ record { readout = no_readout; verdict = Refused r })
+    by : (long : Bool) (v : Reply) (ps : List Page) → (v ≡ Ok tt → ⊥) → (r : Refusal) × (given (cond long (judged (Err TooLong) []) (lined v ps)) ≡ record { readout = no_readout; verdict = Err r })
     by true v ps m = (TooLong, refl)
-    by false (Refused x) ps m = (x, refl)
-    by false Done ps m = absurd (m refl)
+    by false (Err x) ps m = (x, refl)
+    by false (Ok _) ps m = absurd (m refl)
 
 pub frame_for_header_refused : FrameForHeaderRefused
 frame_for_header_refused n c d input line front rest e y x ne =
@@ -181,7 +181,7 @@ frame_for_header_refused n c d input line front rest e y x ne =
 -- ---- older sheets
 
 -- the first header's check fails
-older_header : (all : Bool) (card : ℕ) (input : List ℕ) → (read_sheets older all card input).verdict ≡ Done → (read_sheets formats all card input).verdict ≡ Refused BadCheck
+older_header : (all : Bool) (card : ℕ) (input : List ℕ) → (read_sheets older all card input).verdict ≡ Ok tt → (read_sheets formats all card input).verdict ≡ Err BadCheck
 unfolding read_sheets header_in header_allowed
 older_header all card input e =
     let f = format_in older input in
@@ -190,7 +190,7 @@ older_header all card input e =
     let a = with_both (header_verdict f card 0 input) fs.verdict h fs input (more_sheets older (cond all (cards_of f h - 1) 0) (card + 1) (cards_of f h) fs.rest) e in
     let p = header_passed f card 0 input a.0 in
     let w = header_limits f card 0 h p.allowed_is in
-    let g : header_verdict format card 0 input ≡ Refused BadCheck = header_carried format (record { first = 0; second = 0 }) card 0 input p.whole p.right_is (λ (z : (start_of format h).first % 256 ≡ 0). absurd (omega (arith, formats_apart.from_one h.cards h.card h.session (omega (arith, w.below, w.cards)), w.below, w.cards))) in
+    let g : header_verdict format card 0 input ≡ Err BadCheck = header_carried format (record { first = 0; second = 0 }) card 0 input p.whole p.right_is (λ (z : (start_of format h).first % 256 ≡ 0). absurd (omega (arith, formats_apart.from_one h.cards h.card h.session (omega (arith, w.below, w.cards)), w.below, w.cards))) in
     rw g
 
 pub older_sheet_refused : OlderSheetRefused

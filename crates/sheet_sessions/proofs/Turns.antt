@@ -16,21 +16,8 @@ use Rattle.base_laws.proofs.Below.{any_intro, Found, any_elim}
 use Rattle.sheet_sessions.specs.Sessions.{lowest_to, apart}
 use Rattle.sheet_sessions.proofs.Laws.{lowest_le}
 
-pub lowest_step : (f : ℕ → ℕ) (i : ℕ) {a b v : ℕ} → a ≡ lowest_to f i → b ≡ f (i + 1) → v ≡ min a b → v ≡ lowest_to f (i + 1)
-lowest_step f i p q r = let k : i + 1 ≡ suc i = omega arith in rw (r, q, p, k)
-
 pub not_ahead : (session count low : ℕ) → session ≤ low → false ≡ (ltb (low + 1) session || (ltb low session && ltb 0 count))
 not_ahead session count low h = rw (le-ltb (low + 1) session (omega arith), le-ltb low session h)
-
-pub far_ahead : (session count low : ℕ) → low < session → (session - low ≡ 1 → ⊥) → true ≡ (ltb (low + 1) session || (ltb low session && ltb 0 count))
-far_ahead session count low h k = rw (lt-ltb (low + 1) session (omega arith))
-
-pub one_ahead : (session count low : ℕ) → low < session → session - low ≡ 1 → ltb 0 count ≡ (ltb (low + 1) session || (ltb low session && ltb 0 count))
-one_ahead session count low h k = rw (le-ltb (low + 1) session (omega arith), lt-ltb low session h)
-
--- a number beyond the list is 0, and so is the lowest
-pub lowest_beyond : (sessions : List ℕ) (n : ℕ) → length sessions ≤ n → 0 ≡ lowest_to (λ i. get_or sessions i 0) n
-lowest_beyond sessions n h = omega (arith, lowest_le (λ i. get_or sessions i 0) n n (le_refl n), get_or-eq_default sessions 0 {n = n} h)
 
 module _ (sessions counts : List ℕ) (low : ℕ) where
   abbrev is_ahead : ℕ → Bool

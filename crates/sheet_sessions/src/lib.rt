@@ -1,17 +1,10 @@
 // The sessions of a read-out's sheets: the lowest, and refusal 11.
 #![tactic(auto)]
 
-ghost use Rattle.std.specs.Prelude.{◌≡◌, ◌+◌, min, ◌&&◌, ◌||◌, get_or, ltb};
+ghost use Rattle.std.specs.Prelude.{◌≡◌, ◌+◌, ◌&&◌, ◌||◌, get_or, ltb};
 ghost use Rattle.sheet_sessions.specs.Sessions.{lowest_to, apart};
 
 use base_limits::Limits;
-
-// The lesser of two numbers.
-fn least(a: u32, b: u32) -> u32
-    ensures { result ≡ min a b }
-{
-    if a <= b { a } else { b }
-}
 
 // The lowest of the sessions from the first to number `last`; those beyond the sixteenth are 0.
 pub fn lowest(sessions: [u32; Limits::CARDS], last: u32) -> u32
@@ -21,11 +14,8 @@ pub fn lowest(sessions: [u32; Limits::CARDS], last: u32) -> u32
         return 0;
     }
     let mut low = sessions[0];
-    let mut i: u32 = 0;
-    while i < last {
-        i += 1;
-        let s = sessions[i as usize];
-        low = least(low, s);
+    for i in 0..last as usize {
+        low = low.min(sessions[i + 1]);
     }
     low
 }
@@ -33,13 +23,7 @@ pub fn lowest(sessions: [u32; Limits::CARDS], last: u32) -> u32
 fn ahead(session: u32, count: u32, low: u32) -> bool
     ensures { result ≡ (ltb (low + 1) session || (ltb low session && ltb 0 count)) }
 {
-    if session <= low {
-        return false;
-    }
-    if session - low != 1 {
-        return true;
-    }
-    0 < count
+    low < session && (session - low != 1 || 0 < count)
 }
 
 // 11: "sessions more than one apart, or a sheet one ahead has frames"; a session beyond the sixteenth is 0, and never ahead.
@@ -51,14 +35,10 @@ pub fn sessions_apart(
 ) -> bool
     ensures { result ≡ apart (λ c. get_or sessions c 0) (λ c. get_or counts c 0) low n }
 {
-    let end = least(n, Limits::CARDS_U32);
-    let mut j: u32 = 0;
-    while j < end {
-        let i = j as usize;
+    for i in 0..n.min(Limits::CARDS_U32) as usize {
         if ahead(sessions[i], counts[i], low) {
             return true;
         }
-        j += 1;
     }
     false
 }

@@ -1,7 +1,7 @@
 // Refusal 10: whether one change has two vectors on two sheets of a read-out.
 #![tactic(auto)]
 
-ghost use Rattle.std.specs.Prelude.{◌≡◌, ℕ, ◌+◌, ◌≤◌, ◌<◌, not, ◌&&◌, [], eqb};
+ghost use Rattle.std.specs.Prelude.{◌≡◌, ℕ, ◌+◌, ◌≤◌, ◌<◌, not, ◌&&◌, cond, [], eqb, ltb, Some, None};
 ghost use Rattle.base_laws.specs.Below.{any_below};
 ghost use Rattle.base_merge.specs.Merge.{at, head_place};
 ghost use Rattle.sheet_pages.specs.Ring.{pages_of};
@@ -19,10 +19,8 @@ pub fn stored_numbers(
     ensures { result ≡ stored_numbers bases counts }
 {
     let mut out = [0u32; Limits::CARDS];
-    let mut c: usize = 0;
-    while c < Limits::CARDS {
+    for c in 0..Limits::CARDS {
         out[c] = bases[c] + counts[c];
-        c += 1;
     }
     out
 }
@@ -31,28 +29,24 @@ fn same_entries(entries: &[u32; Limits::ENTRIES], p: usize, q: usize, n: usize) 
     requires { (p < 768) × (q < 768) × (n ≤ 16) }
     ensures { result ≡ same_entries entries.now n p q }
 {
-    let mut k = 0;
-    while k < n {
+    for k in 0..n {
         if entries[p * Limits::CARDS + k] != entries[q * Limits::CARDS + k] {
             return false;
         }
-        k += 1;
     }
     true
 }
 
-// The first card at whose head the change k stands, and 16 where there is none.
-fn first_with(heads: [u32; Limits::CARDS], k: u32) -> usize
-    ensures { result ≡ first_with heads k }
+// The first card at whose head the change k stands.
+fn first_with(heads: [u32; Limits::CARDS], k: u32) -> Option<usize>
+    ensures { result ≡ cond (ltb (first_with heads k) 16) (Some (first_with heads k)) None }
 {
-    let mut c: usize = 0;
-    while c < Limits::CARDS {
+    for c in 0..Limits::CARDS {
         if heads[c] == k {
-            return c;
+            return Some(c);
         }
-        c += 1;
     }
-    Limits::CARDS
+    None
 }
 
 // Whether card c has the change k at its head, with another vector than that at place p.
@@ -68,12 +62,7 @@ fn head_differs(
     requires { (c < 16) × (p < 768) × (n ≤ 16) }
     ensures { result ≡ (eqb head k && not (same_entries entries.now n (head_place c passed) p)) }
 {
-    if head == k {
-        let q = base_merge::head_place(c as u32, passed);
-        !same_entries(entries, q, p, n)
-    } else {
-        false
-    }
+    head == k && !same_entries(entries, base_merge::head_place(c as u32, passed), p, n)
 }
 
 // Whether some card has.
@@ -88,12 +77,10 @@ fn some_differs(
     requires { (p < 768) × (n ≤ 16) }
     ensures { result ≡ any_below 16 (head_differs entries.now heads passed n k p) }
 {
-    let mut other: usize = 0;
-    while other < Limits::CARDS {
+    for other in 0..Limits::CARDS {
         if head_differs(entries, heads[other], other, passed[other], k, p, n) {
             return true;
         }
-        other += 1;
     }
     false
 }
@@ -109,13 +96,11 @@ fn heads_differ(
     requires { n ≤ 16 }
     ensures { result ≡ heads_differ entries.now heads passed n k }
 {
-    let first = first_with(heads, k);
-    if first < Limits::CARDS {
-        let p = base_merge::head_place(first as u32, passed[first]);
-        some_differs(entries, heads, passed, k, p, n)
-    } else {
-        false
-    }
+    let Some(first) = first_with(heads, k) else {
+        return false;
+    };
+    let p = base_merge::head_place(first as u32, passed[first]);
+    some_differs(entries, heads, passed, k, p, n)
 }
 
 // Whether one change has two vectors on two sheets, by one merge over the sheets' frames.
@@ -141,12 +126,12 @@ pub fn two_vectors<'a>(
             return true;
         }
         k = x;
+        // The two arrays stay behind a `let` each: a call's answer laid in an array that stands gets no proof.
         let p = base_merge::past(passed, ends, heads, k);
         passed = p;
         let h = base_merge::heads(changes, passed, ends);
         heads = h;
-        let y = base_merge::least(heads);
-        x = y;
+        x = base_merge::least(heads);
     }
     false
 }

@@ -1,4 +1,6 @@
 -- Frames out of a ring, judged one after another, and the writer's three ends. Assumes nothing.
+use Rattle.std.specs.Prelude.{Result, Ok, Err}
+use Rattle.base_refusal.specs.declared.Refusal.{Refusal}
 use Prim.Native.Nat.{ℕ, zero, suc, ◌+◌, ◌-◌, ◌≤◌, ◌<◌}
 use mathlib.Core.Path.{◌≡◌, refl, sym, ◌∙◌, ap, ap₂}
 use mathlib.Core.Bool.{Bool, true, false, ◌&&◌}
@@ -9,7 +11,6 @@ use lib.ListN.{get_or}
 use Rattle.base_laws.specs.Below.{tabulate, all_below}
 use Rattle.base_laws.proofs.Below.{all_same}
 use Rattle.base_refusal.specs.declared.Refusal.TheVariants.{BadHeader, BadFrame}
-use Rattle.base_refusal.specs.declared.Reply.TheVariants.{Done}
 use Rattle.sheet_lines.specs.declared.Header.{Header}
 use Rattle.sheet_lines.specs.declared.Frame.{Frame}
 use Rattle.sheet_lines.specs.Format.{Format, formats}
@@ -18,8 +19,6 @@ use Rattle.sheet_lines.proofs.Passed.{header_limits}
 use Rattle.sheet_pages.specs.Pages.{page_bytes}
 use Rattle.sheet_pages.specs.Allowed.{frames_allowed}
 use Rattle.sheet_pages.specs.Ring.{ring_frame, ring_page}
-use Rattle.sheet_page_writer.specs.declared.Written.{Written}
-use Rattle.sheet_page_writer.specs.declared.Written.TheVariants.{Refused as written-refused}
 use Rattle.sheet_page_writer.specs.Write.{ring_rows, wrote_bytes}
 use Rattle.sheet_page_writer.proofs.Rows.{run, run_all, rows_of, Alike, ring_alike, Told, told_by}
 use Rattle.sheet_writer.specs.Single.{page_verdict, wrote}
@@ -101,7 +100,7 @@ module _ (changes entries : List ℕ) (h : Header) (b : List ℕ) {f : Format} {
   header_is : header_allowed (format_for formats h) h.card 0 h ≡ pass
   header_is = sym (test ∙ ap (λ (g : Format). header_allowed g h.card 0 h) picked)
 
-  pub told_7 : pass ≡ false → Told (wrote (ring_page changes entries h) b) (written-refused BadHeader) b
+  pub told_7 : pass ≡ false → Told (wrote (ring_page changes entries h) b) (Err BadHeader) b
   unfolding wrote page_verdict
   told_7 t = rw (header_is, t) (refl, refl)
 
@@ -112,13 +111,13 @@ module _ (changes entries : List ℕ) (h : Header) (b : List ℕ) {f : Format} {
         sym (rows_allowed changes entries h l.cards)
         ∙ sym (judged ∙ ap (λ (g : Format). frames_allowed g h.card (cards_of g h) (h.base + 1) no_frame (ring_rows changes entries h).frames) picked)
 
-    pub told_9 : frames ≡ false → Told (wrote (ring_page changes entries h) b) (written-refused BadFrame) b
+    pub told_9 : frames ≡ false → Told (wrote (ring_page changes entries h) b) (Err BadFrame) b
     unfolding wrote page_verdict
     told_9 q = rw (header_is, t, frames_is, q) (refl, refl)
 
-    passes : frames ≡ true → wrote (ring_page changes entries h) b ≡ wrote_bytes Done (page_bytes formats (ring_page changes entries h)) b
+    passes : frames ≡ true → wrote (ring_page changes entries h) b ≡ wrote_bytes (Ok tt) (page_bytes formats (ring_page changes entries h)) b
     unfolding wrote page_verdict
     passes q = rw (header_is, t, frames_is, q)
 
-    pub told_passed : {answer : Written} {after : List ℕ} → frames ≡ true → Told (wrote_bytes Done (page_bytes formats (ring_page changes entries h)) b) answer after → Told (wrote (ring_page changes entries h) b) answer after
-    told_passed q = told_by (wrote_bytes Done (page_bytes formats (ring_page changes entries h)) b) (wrote (ring_page changes entries h) b) (passes q)
+    pub told_passed : {answer : (Result ℕ Refusal)} {after : List ℕ} → frames ≡ true → Told (wrote_bytes (Ok tt) (page_bytes formats (ring_page changes entries h)) b) answer after → Told (wrote (ring_page changes entries h) b) answer after
+    told_passed q = told_by (wrote_bytes (Ok tt) (page_bytes formats (ring_page changes entries h)) b) (wrote (ring_page changes entries h) b) (passes q)

@@ -12,7 +12,6 @@ ghost use Rattle.sheet_writer.specs.Single.{wrote};
 use base_limits::Limits;
 use base_refusal::Refusal;
 use sheet_lines::{Frame, Header, Layout};
-use sheet_page_writer::Written;
 
 // Whether refusal 9 lets all frames pass.
 fn frames_pass<'a>(
@@ -24,23 +23,15 @@ fn frames_pass<'a>(
     requires { Fits f × (header_allowed (format_of f) h.card 0 h ≡ true) }
     ensures { result ≡ frames_allowed (format_of f) h.card (cards_of (format_of f) h) (h.base + 1) no_frame (ring_rows changes.now entries.now h).frames }
 {
-    let card = h.card;
     let n = sheet_header_reader::unraised(h.cards, f.raise);
-    let base = h.base;
-    let count = h.count;
-    let mut last = Frame {
-        change: 0,
-        entries: [0u32; Limits::CARDS],
-    };
-    let mut k: u32 = 0;
-    while k < count {
-        let state = base + 1 + k;
-        let next = sheet_page_writer::frame_of(changes, entries, card, state);
-        if !sheet_frame_rules::frame_allowed(f, card, n, state, last, state, next) {
+    let mut last = Frame::NONE;
+    for k in 0..h.count {
+        let state = h.base + 1 + k;
+        let next = sheet_page_writer::frame_of(changes, entries, h.card, state);
+        if !sheet_frame_rules::frame_allowed(f, h.card, n, state, last, state, next) {
             return false;
         }
         last = next;
-        k += 1;
     }
     true
 }
@@ -51,15 +42,15 @@ pub fn write_sheet<'a, 'b>(
     changes: &'b [u32; Limits::FRAMES],
     entries: &'b [u32; Limits::ENTRIES],
     h: Header,
-) -> Written
+) -> Result<usize, Refusal>
     ensures { (result ≡ (wrote (ring_page changes.now entries.now h) b.old).answer) × (b.new ≡ (wrote (ring_page changes.now entries.now h) b.old).buffer) }
 {
     let f = sheet_lines::layout_of(h.cards);
     if !sheet_header_reader::header_allowed(f, h, h.card, 0) {
-        return Written::Refused(Refusal::BadHeader);
+        return Err(Refusal::BadHeader);
     }
     if !frames_pass(f, changes, entries, h) {
-        return Written::Refused(Refusal::BadFrame);
+        return Err(Refusal::BadFrame);
     }
     sheet_page_writer::write_page(b, changes, entries, h)
 }

@@ -1,4 +1,5 @@
 -- The sheets of a cabinet, running or rolling back, joined, are read back, and refused with nothing while another session can follow. Assumes nothing.
+use Rattle.std.specs.Prelude.{Ok, Err}
 use Prim.Native.Nat.{ℕ, suc, ◌+◌, ◌-◌, ◌^◌, ◌≤◌, ◌<◌}
 use mathlib.Core.Path.{◌≡◌, refl, sym, ◌∙◌, ap, ap₂, subst}
 use mathlib.Core.Bool.{Bool, true, false, not, ◌&&◌, ◌||◌}
@@ -15,8 +16,7 @@ use Rattle.base_laws.proofs.Logic.{test, clash, fails, and_left, and_right, and_
 use Rattle.base_laws.proofs.Below.{Found, all_intro, search_below}
 use Rattle.base_laws.proofs.Fill.{length_tabulate, get_d_tabulate}
 use Rattle.base_refusal.specs.declared.Refusal.TheVariants.{LimitReached}
-use Rattle.base_refusal.specs.declared.Reply.{Reply}
-use Rattle.base_refusal.specs.declared.Reply.TheVariants.{Done, Refused}
+use Rattle.base_refusal.specs.Reply.{Reply}
 use Rattle.sheet_lines.specs.declared.Frame.{Frame}
 use Rattle.sheet_lines.specs.Format.{format, formats}
 use Rattle.sheet_lines.specs.Lines.{no_frame}
@@ -244,19 +244,19 @@ module _ (L : Limits) (limits : SheetLimits L) (n : ℕ) (m : Model) (j : Journa
       (λ k lk. not_differ c d i k hc (omega (arith, hc, hd)) (omega (arith, li, count_at c hc)) (omega (arith, lk, count_at d (omega (arith, hc, hd)))))))))
 
   -- ---- the whole read-out
-  joint : m.session < L.greatest_number → joint_verdict ps ≡ Done
+  joint : m.session < L.greatest_number → joint_verdict ps ≡ Ok tt
   unfolding joint_verdict
   joint left = rw (not_apart, lowest_is, ne_eqb m.session 4294967295 (λ (z : m.session ≡ 4294967295). absurd (omega (arith, left, limits.greatest_number, z))), one_vector)
 
-  last_joint : L.greatest_number ≤ m.session → joint_verdict ps ≡ Refused LimitReached
+  last_joint : L.greatest_number ≤ m.session → joint_verdict ps ≡ Err LimitReached
   unfolding joint_verdict
   last_joint z = rw (not_apart, lowest_is, eq-eqb m.session 4294967295 (omega (arith, z, limits.greatest_number, r.session_fits)))
 
   read_judged : pages_read bytes ≡ judged (joint_verdict ps) ps
   read_judged = pages_judged ps whole bytes_few
 
-  pub read_back : m.session < L.greatest_number → pages_read bytes ≡ record { pages = ps; verdict = Done }
+  pub read_back : m.session < L.greatest_number → pages_read bytes ≡ record { pages = ps; verdict = (Ok tt) }
   read_back left = read_judged ∙ ap (λ (v : Reply). judged v ps) (joint left)
 
-  pub read_last : L.greatest_number ≤ m.session → (pages_read bytes).verdict ≡ Refused LimitReached
+  pub read_last : L.greatest_number ≤ m.session → (pages_read bytes).verdict ≡ Err LimitReached
   read_last z = ap (λ (x : PagesRead). x.verdict) (read_judged ∙ ap (λ (v : Reply). judged v ps) (last_joint z))

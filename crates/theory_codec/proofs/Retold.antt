@@ -1,4 +1,5 @@
 -- The law that lists of calls ask of sheets, met by document 01's: what restarts from the sheets of a cabinet has of it all that it must. Assumes nothing.
+use Rattle.std.specs.Prelude.{Ok, Err}
 use Prim.Native.Nat.{ℕ, suc, ◌+◌, ◌-◌, ◌≤◌, ◌<◌, zero-le}
 use mathlib.Core.Path.{◌≡◌, refl, sym, ◌∙◌, ap, ap₂, subst}
 use mathlib.Core.Bool.{Bool, true, false, cond}
@@ -11,7 +12,6 @@ use borrow.Author.Tests.{le-leb, lt-ltb, le-ltb, ltb-true, ltb-false}
 use Rattle.base_laws.specs.Below.{tabulate}
 use Rattle.base_laws.proofs.Logic.{test, and_intro}
 use Rattle.base_refusal.specs.declared.Refusal.TheVariants.{LimitReached}
-use Rattle.base_refusal.specs.declared.Reply.TheVariants.{Done, Refused}
 use Rattle.sheet_lines.specs.declared.Frame.{Frame}
 use Rattle.sheet_lines.specs.Format.{formats}
 use Rattle.sheet_pages.specs.Pages.{Page, pages_bytes}
@@ -103,7 +103,7 @@ module _ (L : Limits) (lim : SheetLimits L) (n : ℕ) (low : 1 ≤ n) (high : n 
   own_pages : joined_sheets formats L m ≡ pages_bytes formats ps
   own_pages = ap (pages_bytes formats) (sheets_are L n m high present_is)
 
-  joined_back : m.session < L.greatest_number → pages_read (joined_sheets formats L m) ≡ record { pages = ps; verdict = Done }
+  joined_back : m.session < L.greatest_number → pages_read (joined_sheets formats L m) ≡ record { pages = ps; verdict = (Ok tt) }
   joined_back left = ap pages_read own_pages ∙ reading.read_back L lim n m j high low present_is r left
 
   remade : m.session < L.greatest_number → Remade codec L m
@@ -113,7 +113,7 @@ module _ (L : Limits) (lim : SheetLimits L) (n : ℕ) (low : 1 ≤ n) (high : n 
         recalled = subst (λ (x : PagesRead). Recalled L m (restarted L x.pages)) (sym (joined_back left)) recalled;
       }
 
-  last_session : L.greatest_number ≤ m.session → codec.verdict (codec.joined L m) ≡ Refused LimitReached
+  last_session : L.greatest_number ≤ m.session → codec.verdict (codec.joined L m) ≡ Err LimitReached
   last_session z =
       ap (λ (b : List ℕ). (pages_read b).verdict) own_pages ∙ reading.read_last L lim n m j high low present_is r z
 

@@ -1,10 +1,10 @@
 -- The samples and the worked read-out, as lists of calls, come out as document 01 says: computed. Assumes nothing.
+use Rattle.std.specs.Prelude.{Ok}
 use Prim.Native.Nat.{suc}
 use lib.Dec.{ltb}
 use mathlib.Core.Path.{◌≡◌, refl}
 use mathlib.Core.List.{[], ◌∷◌, map}
 use Rattle.base_limits.specs.Document.{limits16}
-use Rattle.base_refusal.specs.declared.Reply.TheVariants.{Done}
 use Rattle.sheet_lines.specs.Format.{formats}
 use Rattle.base_laws.specs.Below.{tabulate}
 use Rattle.sheet_digits.specs.Digits.{is_numeral, is_letter, is_digit, digit, digit_value}
@@ -35,7 +35,7 @@ unfolding limits16 is_numeral is_letter is_digit digit digit_value check_of shee
 worked_written = refl
 
 -- it restarts: "0 2 1", "1 0 0", and the session after recovery is 2
-pub worked_accepted : restart_reply worked_bytes ≡ Done
+pub worked_accepted : restart_reply worked_bytes ≡ Ok tt
 unfolding is_numeral is_letter is_digit digit digit_value check_of sheet_line shaped checked shape_of dependency entry_of header_line header_in header_allowed header_verdict frame_line state_in entries_in frame_in entries_allowed frame_allowed frame_verdict read_sheets apart sessions_apart two_vectors joint_verdict pages_read
 worked_accepted = refl
 

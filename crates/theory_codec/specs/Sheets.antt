@@ -1,7 +1,7 @@
 -- A card's sheet, the joined read-out of a cabinet, and the cabinet that restarts from one: document 01, "Card sheets and restart".
 use Rattle.std.specs.Prelude.{ℕ, suc, ◌+◌, ◌-◌, Bool, ◌&&◌, cond, List, leb, ltb, length, get_or}
 use Rattle.base_laws.specs.Below.{count_below, tabulate, selected}
-use Rattle.base_refusal.specs.declared.Reply.{Reply}
+use Rattle.base_refusal.specs.Reply.{Reply}
 use Rattle.sheet_lines.specs.declared.Frame.{Frame}
 use Rattle.sheet_lines.specs.Format.{Formats, formats}
 use Rattle.sheet_lines.specs.Lines.{no_frame}

@@ -1,4 +1,5 @@
 -- What accepted calls of a list answer and do: takes, fixes, rolls, losses and safe questions; and with it demands 2 and 3. Assumes nothing.
+use Rattle.std.specs.Prelude.{Ok, Err}
 use Prim.Native.Nat.{ℕ, zero, suc, max, ◌<◌}
 use mathlib.Core.Path.{◌≡◌, refl, sym, ◌∙◌, ap, ap₂, subst}
 use mathlib.Core.Bool.{Bool, true, false, not, ◌&&◌, cond}
@@ -21,7 +22,6 @@ use Rattle.theory_history.proofs.Lines.{line_cut, cut_below}
 use Rattle.theory_history.proofs.Theorems.{line_whole, lost_numbers_lem, lost_numbers_rise, builds_on}
 use Rattle.theory_history.proofs.Reports.{cut_same}
 use Rattle.base_refusal.specs.declared.Refusal.TheVariants.{LimitReached}
-use Rattle.base_refusal.specs.declared.Reply.TheVariants.{Done, Refused}
 use Rattle.theory_protocol.specs.Valid.{valid}
 use Rattle.theory_protocol.specs.Codec.{Codec}
 use Rattle.theory_protocol.specs.Model.{Limits, Phase, no_cards, up, down, rolling, is_up, is_down, is_rolling, OpenChange, Model, is_card, is_open, decided, slot_of, is_known, with_card}
@@ -349,8 +349,8 @@ call_right C L n carded law r (sheet_call c places) a e = tt
 call_right C L n carded law {cs} {m} r restart_call a e =
     by_cases (dec_lt m.session L.greatest_number)
     (λ z. let q : Remade C L m = law.remade m (journal L n cs) v.present_is (recallable L n m (journal L n cs) v) z in
-    rw (restart_reply_lem C L m Done fine q.accepts) (restart_right L n m (journal L n cs) v (C.restarted L (C.joined L m)) q.recalled))
-    (λ z. not_both a LimitReached (sym e ∙ restart_reply_lem C L m (Refused LimitReached) fine (law.last_session m (journal L n cs) v.present_is (recallable L n m (journal L n cs) v) (omega (arith, z)))))
+    rw (restart_reply_lem C L m (Ok tt) fine q.accepts) (restart_right L n m (journal L n cs) v (C.restarted L (C.joined L m)) q.recalled))
+    (λ z. not_both a LimitReached (sym e ∙ restart_reply_lem C L m (Err LimitReached) fine (law.last_session m (journal L n cs) v.present_is (recallable L n m (journal L n cs) v) (omega (arith, z)))))
   where
     v : Invariant L n m (journal L n cs)
     v = run_invariant carded law r

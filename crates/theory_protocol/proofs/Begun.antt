@@ -1,4 +1,5 @@
 -- The writes that run are, by arguments and answers, those begun and not ended; and what follows of their ends. Assumes nothing.
+use Rattle.std.specs.Prelude.{Err}
 use Prim.Native.Nat.{ℕ, suc, ◌≤◌, ◌<◌}
 use mathlib.Core.Path.{◌≡◌, refl, sym, ◌∙◌, ap}
 use mathlib.Core.Bool.{true, false, cond}
@@ -10,7 +11,6 @@ use lib.Dec.{eqb}
 use borrow.Author.Tests.{lt-ltb}
 use Rattle.base_laws.proofs.Logic.{and_intro, cond_case}
 use Rattle.base_refusal.specs.declared.Refusal.TheVariants.{LimitReached}
-use Rattle.base_refusal.specs.declared.Reply.TheVariants.{Refused}
 use Rattle.theory_history.specs.Change.{CardSet, Numbers}
 use Rattle.theory_protocol.specs.Model.{Limits, OpenChange, is_up, is_rolling, Model, is_card, with_card, slot_of}
 use Rattle.theory_protocol.specs.Valid.{valid}
@@ -71,7 +71,7 @@ module _ (C : Codec) (L : Limits) (n : CardSet) (m : Model) (x : Numbers) (c : �
 restarted_none : (C : Codec) (L : Limits) (n : CardSet) → CodecLaw C L n → (m : Model) (j : Journal) → Invariant L n m j → (c : ℕ) → (restart_plan C L m).reply ≡ accepted done → (C.restarted L (C.joined L m)).writing c ≡ 0
 restarted_none C L n law m j v c e =
     by_cases (dec_lt m.session L.greatest_number) (λ z. (law.remade m j v.present_is (recallable L n m j v) z).recalled.none_writing c)
-    (λ z. not_both done LimitReached (sym e ∙ restart_reply_lem C L m (Refused LimitReached) (invariant_valid L n m j v) (law.last_session m j v.present_is (recallable L n m j v) (omega (arith, z)))))
+    (λ z. not_both done LimitReached (sym e ∙ restart_reply_lem C L m (Err LimitReached) (invariant_valid L n m j v) (law.last_session m j v.present_is (recallable L n m j v) (omega (arith, z)))))
 
 begun_last : {C : Codec} {L : Limits} {n : CardSet} → Carded L n → CodecLaw C L n → {cs : Calls} {m : Model} → Run C L n cs m → (c : ℕ) → m.writing c ≡ last_begun cs c
 begun_last carded law start c = refl

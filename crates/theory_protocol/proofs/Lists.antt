@@ -1,4 +1,5 @@
 -- Every list of calls keeps the invariant, and what follows of the cabinet after each call. Assumes nothing.
+use Rattle.std.specs.Prelude.{Ok, Err}
 use Prim.Native.Nat.{ℕ, suc, ◌+◌, ◌≤◌, ◌<◌}
 use mathlib.Core.Path.{◌≡◌, refl, sym, ◌∙◌, ap, subst}
 use mathlib.Core.Bool.{true, false, cond}
@@ -10,8 +11,7 @@ use native.Mathlib.Omega.{arith}
 use lib.ListN.{length}
 use Rattle.base_laws.proofs.Logic.{test, clash}
 use Rattle.base_refusal.specs.declared.Refusal.TheVariants.{LimitReached}
-use Rattle.base_refusal.specs.declared.Reply.{Reply}
-use Rattle.base_refusal.specs.declared.Reply.TheVariants.{Done, Refused}
+use Rattle.base_refusal.specs.Reply.{Reply}
 use Rattle.theory_history.specs.Change.{CardSet, History, Numbers, writers, UpTo, history_of}
 use Rattle.theory_history.specs.Vector.{vector, entry_of, LastPreceding}
 use Rattle.theory_history.proofs.Writers.{Maker, maker, makers_order}
@@ -47,8 +47,8 @@ pub restart_reply_lem : (C : Codec) (L : Limits) (m : Model) (v : Reply) → val
 restart_reply_lem C L m v fine e = rw (fine, e) (same v)
   where
     same : (w : Reply) → (checked (verdict_checks w) done []).reply ≡ reply_of w
-    same Done = refl
-    same (Refused r) = refl
+    same (Ok tt) = refl
+    same (Err r) = refl
 
 -- a restart: accepted where another session can follow, and refused in the last one
 restart_step : (C : Codec) (L : Limits) (n : CardSet) → CodecLaw C L n → (m : Model) (j : Journal) → Invariant L n m j
@@ -56,8 +56,8 @@ restart_step : (C : Codec) (L : Limits) (n : CardSet) → CodecLaw C L n → (m 
 restart_step C L n law m j v =
     by_cases (dec_lt m.session L.greatest_number)
     (λ z. let e : Remade C L m = law.remade m j v.present_is (recallable L n m j v) z in
-    rw (restart_reply_lem C L m Done fine e.accepts) (restart_again L n m (C.restarted L (C.joined L m)) j v z e.recalled))
-    (λ z. rw (restart_reply_lem C L m (Refused LimitReached) fine (law.last_session m j v.present_is (recallable L n m j v) (omega (arith, z)))) v)
+    rw (restart_reply_lem C L m (Ok tt) fine e.accepts) (restart_again L n m (C.restarted L (C.joined L m)) j v z e.recalled))
+    (λ z. rw (restart_reply_lem C L m (Err LimitReached) fine (law.last_session m j v.present_is (recallable L n m j v) (omega (arith, z)))) v)
   where
     fine : valid L m ≡ true
     fine = invariant_valid L n m j v

@@ -1,4 +1,5 @@
 -- What a restarted cabinet has of the old one, running or rolling back, and that the invariant follows from that alone: the line that the journal notes is fixed, and the same cards have rolled. Assumes nothing.
+use Rattle.std.specs.Prelude.{Ok, Err}
 use Prim.Native.Nat.{ℕ, ◌+◌, ◌≤◌, ◌<◌}
 use mathlib.Core.Path.{◌≡◌, refl, sym, ◌∙◌, ap, ap₂, subst}
 use mathlib.Core.Bool.{Bool, true, false, not, ◌&&◌, ◌||◌, cond}
@@ -12,7 +13,6 @@ use borrow.Author.Tests.{lt-ltb, le-ltb}
 use Rattle.base_laws.proofs.Logic.{test, clash, fails, and_right, and_intro, or_elim, not_true}
 use Rattle.base_laws.proofs.Below.{all_same, all_at, all_intro}
 use Rattle.base_refusal.specs.declared.Refusal.TheVariants.{LimitReached}
-use Rattle.base_refusal.specs.declared.Reply.TheVariants.{Done, Refused}
 use Rattle.theory_history.specs.Change.{CardSet, History, Numbers, writers, made, history_of}
 use Rattle.theory_history.specs.Vector.{Vector, vector}
 use Rattle.theory_history.specs.Line.{line_from}
@@ -369,7 +369,7 @@ recallable L n m j v = ⊎_elim (λ (r : Running L m j). running_recallable L m 
 -- ---- what a list of calls asks of sheets
 -- a cabinet's sheets, joined, are accepted, and what restarts from them has of it what it must
 pub record Remade (C : Codec) (L : Limits) (m : Model) : Type 0 where
-  pub accepts : C.verdict (C.joined L m) ≡ Done
+  pub accepts : C.verdict (C.joined L m) ≡ Ok tt
   pub recalled : Recalled L m (C.restarted L (C.joined L m))
 
 pub record CodecLaw (C : Codec) (L : Limits) (n : CardSet) : Type 0 where
@@ -378,4 +378,4 @@ pub record CodecLaw (C : Codec) (L : Limits) (n : CardSet) : Type 0 where
   -- the sheets of all cards say enough, where another session can follow
   pub remade : (m : Model) (j : Journal) → ((c : ℕ) → m.present c ≡ n c) → Recallable L m j → m.session < L.greatest_number → Remade C L m
   -- and are refused with 24 in the last session
-  pub last_session : (m : Model) (j : Journal) → ((c : ℕ) → m.present c ≡ n c) → Recallable L m j → L.greatest_number ≤ m.session → C.verdict (C.joined L m) ≡ Refused LimitReached
+  pub last_session : (m : Model) (j : Journal) → ((c : ℕ) → m.present c ≡ n c) → Recallable L m j → L.greatest_number ≤ m.session → C.verdict (C.joined L m) ≡ Err LimitReached

@@ -1,8 +1,7 @@
 -- How sheets are written and read: what a list of calls needs to know of it. Document 01's sheets are one such, and any other that meets its law may stand in a list.
-use Rattle.std.specs.Prelude.{ℕ, true, not, List, [], ◌∷◌, ltb, length}
+use Rattle.std.specs.Prelude.{ℕ, true, not, List, [], ◌∷◌, ltb, length, Ok, Err}
 use Rattle.base_refusal.specs.declared.Refusal.TheVariants.{NoSuchCard, TooShort, BadCabinet}
-use Rattle.base_refusal.specs.declared.Reply.{Reply}
-use Rattle.base_refusal.specs.declared.Reply.TheVariants.{Done, Refused}
+use Rattle.base_refusal.specs.Reply.{Reply}
 use Rattle.theory_protocol.specs.Model.{Limits, Model, is_card}
 use Rattle.theory_protocol.specs.Valid.{valid}
 use Rattle.theory_protocol.specs.Plan.{done, written, Check, ◌⇒◌, Plan, checked}
@@ -27,8 +26,8 @@ sheet_plan C L m c places = checked (sheet_checks C L m c places) (written (C.sh
 
 -- restart from the sheets of all cards as this cabinet writes them, joined: no sheet of a cabinet that 28 refuses is written, and then it goes by the verdict on the bytes
 abbrev pub verdict_checks : Reply → List Check
-verdict_checks Done = []
-verdict_checks (Refused r) = true ⇒ r ∷ []
+verdict_checks (Ok tt) = []
+verdict_checks (Err r) = true ⇒ r ∷ []
 
 abbrev pub restart_checks : Codec → Limits → Model → List Check
 restart_checks C L m = not (valid L m) ⇒ BadCabinet ∷ verdict_checks (C.verdict (C.joined L m))

@@ -1,11 +1,10 @@
 -- Demands 1 to 3 over whole lists of calls, and what belongs to them, whatever cards there are and however their sheets are written. Statements alone: the proofs are in proofs/Claims.antt (demand 1 and the card that 21 names), proofs/Listed.antt (the list of lost changes) and proofs/Answers.antt.
-use Rattle.std.specs.Prelude.{ℕ, suc, max, ◌≤◌, ◌<◌, ◌≡◌, true, false, ◌||◌, ◌↔◌, List, length}
+use Rattle.std.specs.Prelude.{ℕ, suc, max, ◌≤◌, ◌<◌, ◌≡◌, true, false, ◌||◌, ◌↔◌, List, length, Ok, Err}
 use Rattle.base_laws.specs.Below.{one_if, selected, occurs}
 use Rattle.base_laws.specs.Order.{InRisingOrder, StandsBefore}
 use Rattle.base_refusal.specs.declared.Refusal.{Refusal}
 use Rattle.base_refusal.specs.Number.{Listed, number_of}
 use Rattle.base_refusal.specs.declared.Refusal.TheVariants.{LimitReached, Barred}
-use Rattle.base_refusal.specs.declared.Reply.TheVariants.{Done, Refused}
 use Rattle.theory_history.specs.Change.{CardSet, History, Numbers, made, Precedes, Cut, On, history_of}
 use Rattle.theory_history.specs.Vector.{entry_of, LastPreceding}
 use Rattle.theory_history.specs.Line.{lost, is_lost_number, lost_numbers}
@@ -172,7 +171,7 @@ CallRight L n cs restart_call a m m' = RestartRight L n (journal L n cs) m'
 
 -- the sheets of the cabinet m, joined, restart to the line
 pub record RestartsTo (C : Codec) (L : Limits) (n : CardSet) (m : Model) (line : Numbers) : Type 0 where
-  pub accepted_so : C.verdict (C.joined L m) ≡ Done
+  pub accepted_so : C.verdict (C.joined L m) ≡ Ok tt
   pub same_line : (c : ℕ) → c < L.width → n c ≡ true → (C.restarted L (C.joined L m)).line c ≡ line c
 
 -- Document 02, wish 5: the writes that run after the calls cs
@@ -197,8 +196,8 @@ pub record CabinetRight (C : Codec) (L : Limits) (n : CardSet) (cs : Calls) (m :
   -- "After an accepted fix, and after each later call short of the last roll, the sheets of all cards, joined, restart to the line answered": the engine's memory is gone; so after a restart too
   pub sheets_give_line : (line : Numbers) (marked : CardSet) → (journal L n cs).fix ≡ fixing line marked → RestartsTo C L n m line
   -- a restart is accepted in every phase while another session can follow, and in the last session it is refused with 24
-  pub restart_accepted : m.session < L.greatest_number → C.verdict (C.joined L m) ≡ Done
-  pub restart_last : L.greatest_number ≤ m.session → C.verdict (C.joined L m) ≡ Refused LimitReached
+  pub restart_accepted : m.session < L.greatest_number → C.verdict (C.joined L m) ≡ Ok tt
+  pub restart_last : L.greatest_number ≤ m.session → C.verdict (C.joined L m) ≡ Err LimitReached
 
 -- throughout a list: of each call, and of the cabinet after it
 abbrev pub Throughout : {C : Codec} {L : Limits} {n : CardSet} {cs : Calls} {m : Model} → Run C L n cs m → Type 0

@@ -1,8 +1,7 @@
 -- A call is a plan over the model: a table of checks, each with its refusal, in document 01's order; then the answer and the edits.
-use Rattle.std.specs.Prelude.{ℕ, ◌≡◌, Bool, true, false, cond, ◌⊎◌, List, [], ◌∷◌}
+use Rattle.std.specs.Prelude.{ℕ, ◌≡◌, Bool, true, false, cond, ◌⊎◌, List, [], ◌∷◌, Ok, Err}
 use Rattle.base_refusal.specs.declared.Refusal.{Refusal}
-use Rattle.base_refusal.specs.declared.Reply as refusal
-use Rattle.base_refusal.specs.declared.Reply.TheVariants.{Done, Refused}
+use Rattle.base_refusal.specs.Reply as refusal
 use Rattle.theory_protocol.specs.Model.{Limits, Model}
 use Rattle.theory_protocol.specs.Edit.{Edit, edited_all}
 
@@ -31,8 +30,8 @@ pub data Reply : Type 0 where
 
 -- what is answered by acceptance or a refusal alone: a verdict on bytes, and the calls that answer nothing else
 abbrev pub reply_of : refusal.Reply → Reply
-reply_of Done = accepted done
-reply_of (Refused r) = refused r
+reply_of (Ok tt) = accepted done
+reply_of (Err r) = refused r
 
 -- a check that fails, and the refusal that it gives
 infix 90 ◌⇒◌

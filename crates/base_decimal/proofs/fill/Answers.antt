@@ -1,6 +1,6 @@
 -- `base_decimal::fill` stores the lowest digits of a number. Assumes nothing.
 use borrow.Author.Rules.{rules}
-use Rattle.base_decimal.proofs.Digits.{Stored, stored_none, stored_more, stored_all}
+use Rattle.base_decimal.proofs.Digits.{stored_none, stored_more, stored_all}
 use Rattle.base_decimal.proofs.fill.Goals as goal
 
 pub loop-i-init : goal.loop-i-init

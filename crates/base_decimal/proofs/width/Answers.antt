@@ -1,10 +1,7 @@
 -- `base_decimal::width` counts the digits of a number: those counted, and those of what is left, are one more than all. Assumes nothing.
 use borrow.Author.Rules.{rules}
-use Prim.Native.Nat.{◌+◌}
-use mathlib.Core.Path.{◌≡◌, refl}
+use mathlib.Core.Path.{refl}
 use native.Mathlib.Omega.{arith}
-use lib.ListN.{length}
-use Rattle.base_decimal.specs.Digits.{decimal}
 use Rattle.base_decimal.proofs.Digits.{length_one, length_more, decimal_few}
 use Rattle.base_decimal.proofs.width.Goals as goal
 

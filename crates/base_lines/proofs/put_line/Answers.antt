@@ -1,7 +1,6 @@
 -- `base_lines::put_line` writes a word and numbers as a line. Assumes nothing.
 use Rattle.base_text.proofs.Puts.{put_then, put_as}
 use Rattle.base_lines.proofs.Spaced.{line_as}
-use borrow.Author.Rules.{rules}
 use Rattle.base_lines.proofs.put_line.Goals as goal
 
 pub returns : goal.returns

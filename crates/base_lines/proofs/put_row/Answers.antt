@@ -2,7 +2,6 @@
 use Rattle.base_decimal.specs.Digits.{decimal}
 use Rattle.base_text.proofs.Puts.{put_then, put_as}
 use Rattle.base_lines.proofs.Spaced.{line_as}
-use borrow.Author.Rules.{rules}
 use Rattle.base_lines.proofs.put_row.Goals as goal
 
 pub returns : goal.returns

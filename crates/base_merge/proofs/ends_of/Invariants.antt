@@ -10,6 +10,3 @@ use Rattle.base_merge.proofs.ends_of.Given as goal
 
 abbrev pub invariant-loop-c : goal.invariant-loop-c
 invariant-loop-c l = FilledSoFar 0 16 (λ i. cond (ltb i l.n) (at l.last i) 0) l.out l.c
-
-abbrev pub decreases-loop-c : goal.decreases-loop-c
-decreases-loop-c l = 16 - l.c

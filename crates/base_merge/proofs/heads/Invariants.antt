@@ -8,6 +8,3 @@ use Rattle.base_merge.proofs.heads.Given as goal
 
 abbrev pub invariant-loop-c : goal.invariant-loop-c
 invariant-loop-c l = FilledSoFar 0 16 (λ i. head_number (change_at l.changes i) (at l.passed i) (at l.ends i)) l.out l.c
-
-abbrev pub decreases-loop-c : goal.decreases-loop-c
-decreases-loop-c l = 16 - l.c

@@ -8,6 +8,3 @@ use Rattle.base_merge.proofs.least.Given as goal
 
 abbrev pub invariant-loop-c : goal.invariant-loop-c
 invariant-loop-c l = LeastSoFar 16 (at l.heads) l.best l.c
-
-abbrev pub decreases-loop-c : goal.decreases-loop-c
-decreases-loop-c l = 16 - l.c

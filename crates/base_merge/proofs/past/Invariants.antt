@@ -8,6 +8,3 @@ use Rattle.base_merge.proofs.past.Given as goal
 
 abbrev pub invariant-loop-c : goal.invariant-loop-c
 invariant-loop-c l = FilledSoFar 0 16 (λ i. card_past (at l.passed i) (at l.ends i) (at l.heads i) l.k) l.out l.c
-
-abbrev pub decreases-loop-c : goal.decreases-loop-c
-decreases-loop-c l = 16 - l.c

@@ -12,6 +12,3 @@ use Rattle.base_rows.proofs.put_row.Given as goal
 
 abbrev pub invariant-loop-j : goal.invariant-loop-j
 invariant-loop-j l = (l.j ≤ 16) × (sets l.entries (l.place * 16 + l.j) (drop l.j l.row) ≡ sets l.initial.entries (l.place * 16) l.row)
-
-abbrev pub decreases-loop-j : goal.decreases-loop-j
-decreases-loop-j l = 16 - l.j

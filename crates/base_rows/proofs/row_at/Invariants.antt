@@ -12,6 +12,3 @@ use Rattle.base_rows.proofs.row_at.Given as goal
 
 abbrev pub invariant-loop-j : goal.invariant-loop-j
 invariant-loop-j l = FilledSoFar 0 16 (λ i. get_or l.entries (l.place * 16 + i) 0) l.row l.j
-
-abbrev pub decreases-loop-j : goal.decreases-loop-j
-decreases-loop-j l = 16 - l.j

@@ -1,12 +1,8 @@
 -- `base_search::find` finds where a byte first stands. Assumes nothing.
-use Prim.Native.Nat.{◌-◌}
+use Prim.Native.Nat.{◌≤◌, max}
 use lib.ListN.{length}
-use Rattle.base_search.proofs.Texts.{Missed, missed_none, missed_more, missed_found, missed_all}
-use borrow.Author.Rules.{rules}
+use Rattle.base_search.proofs.Texts.{Missed}
 use Rattle.base_search.proofs.find.Given as goal
 
 abbrev pub invariant-loop-i : goal.invariant-loop-i
-invariant-loop-i l = Missed l.s l.from l.b l.i
-
-abbrev pub decreases-loop-i : goal.decreases-loop-i
-decreases-loop-i l = length l.s - l.i
+invariant-loop-i l = Missed l.s l.from l.b l.i × (l.from ≤ l.i) × (l.i ≤ max l.from (length l.s))

@@ -1,6 +1,5 @@
 -- `base_text::put` writes a text after what is written already. Assumes nothing.
 use Rattle.base_text.proofs.Puts.{put_from, put_counted, put_short}
-use borrow.Author.Rules.{rules}
 use Rattle.base_text.proofs.put.Goals as goal
 
 pub returns-in-Next : goal.returns-in-Next

@@ -1,7 +1,6 @@
 use mathlib.Core.Path.{sym, ◌∙◌, ap₂}
 use mathlib.Core.List.{List}
 use lib.ListN.{replicate}
-use borrow.Author.Rules.{rules}
 use Rattle.cabinet_layout.specs.declared.Slot.{Slot}
 use Rattle.cabinet_layout.specs.declared.Vector.{Vector}
 use Rattle.cabinet_layout.specs.Shape.{blank_core, with_slots, with_vectors}

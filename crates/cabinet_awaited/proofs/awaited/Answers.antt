@@ -6,7 +6,6 @@ use Rattle.base_laws.specs.Below.{count_below}
 use Rattle.base_bits.specs.Member.{member}
 use Rattle.base_bits.specs.Sets.{either, except}
 use Rattle.cabinet_layout.proofs.Limits.{width16}
-use borrow.Author.Rules.{rules}
 use Rattle.cabinet_awaited.proofs.awaited.Goals as goal
 
 pub returns : goal.returns

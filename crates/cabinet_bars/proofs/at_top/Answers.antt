@@ -1,20 +1,19 @@
-use Rattle.theory_protocol.specs.Calls.{some_written}
-use Rattle.base_bits.specs.Member.{member}
-use Rattle.cabinet_layout.specs.Shape.{limits16, at}
-use Rattle.cabinet_layout.proofs.Limits.{width16, greatest60000}
-use Rattle.base_laws.proofs.Fill.{AnySoFar, any_none, any_more, any_done}
-use Prim.Native.Nat.{ℕ, ◌-◌}
-use mathlib.Core.Path.{sym, ◌∙◌, ap}
-use mathlib.Core.Bool.{◌&&◌}
-use lib.Dec.{leb}
 use borrow.Author.Rules.{rules}
+use borrow.Author.Tests.{tests}
+use mathlib.Core.Bool.{not, ◌&&◌, ◌||◌, cond}
+use lib.Dec.{eqb, leb, ltb}
+use Prim.Native.Nat.{ℕ, ◌+◌, ◌*◌}
+use mathlib.Core.Path.{sym, ◌∙◌, ap}
+use Rattle.cabinet_layout.proofs.Limits.{width16, slots8, in_hand48, greatest60000}
+use Rattle.cabinet_layout.proofs.Chains.{all_numbers, any_numbers, all_items, any_items}
+use Rattle.base_bits.specs.Member.{member}
+use Rattle.theory_protocol.specs.Calls.{some_written}
+use Rattle.cabinet_layout.specs.Shape.{limits16, at}
 use Rattle.cabinet_bars.proofs.at_top.Goals as goal
 
-pub loop-c-init : goal.loop-c-init
-loop-c-init c = any_none
-
-pub loop-c-preserved : goal.loop-c-preserved
-loop-c-preserved c = any_more c.loop-c.invariant c.loop-c-test.true (rw c.has-written.ensures)
-
 pub returns : goal.returns
-returns c = any_done c.loop-c.invariant c.loop-c-test.false width16 ∙ ap (λ (n : ℕ). some_written limits16 (member c.args.writes) (λ k. leb n (at c.args.reached k))) (sym greatest60000)
+returns c =
+    let a = c.args in
+    any_numbers (λ k. member a.writes k && leb 60000 (at a.reached k)) (search rules) width16 c.any.ensures.ran
+    (λ x q h. search (rules, tests)) (λ x q h. search (rules, tests))
+    ∙ ap (λ (n : ℕ). some_written limits16 (member a.writes) (λ k. leb n (at a.reached k))) (sym greatest60000)

@@ -14,6 +14,3 @@ use Rattle.cabinet_bars.proofs.barred_set.Given as goal
 
 abbrev pub invariant-loop-p : goal.invariant-loop-p
 invariant-loop-p l = (l.p ≤ 8) × (member l.out ≡ (λ c. any_below l.p (λ q. bars (open_at l.all q) (member l.reads) (member l.writes) c)))
-
-abbrev pub decreases-loop-p : goal.decreases-loop-p
-decreases-loop-p l = 8 - l.p

@@ -1,4 +1,3 @@
-use borrow.Author.Rules.{rules}
 use Rattle.cabinet_changes.proofs.after_vote.Goals as goal
 
 pub returns-then-agrees : goal.returns-then-agrees

@@ -12,11 +12,11 @@ use Rattle.cabinet_awaited.proofs.Votes.{none_awaited}
 use borrow.Author.Rules.{rules}
 use Rattle.cabinet_changes.proofs.with_yes.Goals as goal
 
-pub decision-v-requires : goal.decision-v-requires
-decision-v-requires c = c.requires
+pub decision-vector-requires : goal.decision-vector-requires
+decision-vector-requires c = c.requires
 
-pub returns-then-n-eq0 : goal.returns-then-n-eq0
-returns-then-n-eq0 c = let o : _ = c.args.o in let e : all_below limits16.width (λ k. not ((either (member c.args.o.reads) (member c.args.o.writes)) k) || with_card (member o.yes) c.args.c k) ≡ true = sym (all_put (either (member c.args.o.reads) (member c.args.o.writes)) o.yes c.with-yes.result c.args.c c.with-yes.ensures) ∙ sym (none_awaited limits16.width (either (member c.args.o.reads) (member c.args.o.writes)) (member c.with-yes.result) c.awaited-n.ensures) ∙ eq-eqb c.awaited-n.result 0 c.if-n-eq0.true in slot_by c.decision-v.ensures refl (set_known o.reads (search rules)) (set_known o.writes (search rules)) (set_put o.yes c.with-yes.result c.args.c (search rules) c.with-yes.ensures) (set_known o.taken (search rules)) ∙ sym (ap slot_for (cond_true _ _ e))
+pub returns-then-awaited-eq0 : goal.returns-then-awaited-eq0
+returns-then-awaited-eq0 c = let o : _ = c.args.o in let e : all_below limits16.width (λ k. not ((either (member c.args.o.reads) (member c.args.o.writes)) k) || with_card (member o.yes) c.args.c k) ≡ true = sym (all_put (either (member c.args.o.reads) (member c.args.o.writes)) o.yes c.with-yes.result c.args.c c.with-yes.ensures) ∙ sym (none_awaited limits16.width (either (member c.args.o.reads) (member c.args.o.writes)) (member c.with-yes.result) c.awaited.ensures) ∙ eq-eqb c.awaited.result 0 c.if-awaited-eq0.true in slot_by c.decision-vector.ensures refl (set_known o.reads (search rules)) (set_known o.writes (search rules)) (set_put o.yes c.with-yes.result c.args.c (search rules) c.with-yes.ensures) (set_known o.taken (search rules)) ∙ sym (ap slot_for (cond_true _ _ e))
 
-pub returns-else-n-eq0 : goal.returns-else-n-eq0
-returns-else-n-eq0 c = let o : _ = c.args.o in let e : all_below limits16.width (λ k. not ((either (member c.args.o.reads) (member c.args.o.writes)) k) || with_card (member o.yes) c.args.c k) ≡ false = sym (all_put (either (member c.args.o.reads) (member c.args.o.writes)) o.yes c.with-yes.result c.args.c c.with-yes.ensures) ∙ sym (none_awaited limits16.width (either (member c.args.o.reads) (member c.args.o.writes)) (member c.with-yes.result) c.awaited-n.ensures) ∙ ne_eqb c.awaited-n.result 0 c.if-n-eq0.false in slot_by (list_known o.vector (search rules)) refl (set_known o.reads (search rules)) (set_known o.writes (search rules)) (set_put o.yes c.with-yes.result c.args.c (search rules) c.with-yes.ensures) (set_known o.taken (search rules)) ∙ sym (ap slot_for (cond_false _ _ e))
+pub returns-else-awaited-eq0 : goal.returns-else-awaited-eq0
+returns-else-awaited-eq0 c = let o : _ = c.args.o in let e : all_below limits16.width (λ k. not ((either (member c.args.o.reads) (member c.args.o.writes)) k) || with_card (member o.yes) c.args.c k) ≡ false = sym (all_put (either (member c.args.o.reads) (member c.args.o.writes)) o.yes c.with-yes.result c.args.c c.with-yes.ensures) ∙ sym (none_awaited limits16.width (either (member c.args.o.reads) (member c.args.o.writes)) (member c.with-yes.result) c.awaited.ensures) ∙ ne_eqb c.awaited.result 0 c.if-awaited-eq0.false in slot_by (list_known o.vector (search rules)) refl (set_known o.reads (search rules)) (set_known o.writes (search rules)) (set_put o.yes c.with-yes.result c.args.c (search rules) c.with-yes.ensures) (set_known o.taken (search rules)) ∙ sym (ap slot_for (cond_false _ _ e))

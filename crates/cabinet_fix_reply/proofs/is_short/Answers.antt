@@ -1,6 +1,5 @@
 use Rattle.cabinet_fix_reply.proofs.Rows.{rows_count}
 use mathlib.Core.Path.{◌∙◌}
-use borrow.Author.Rules.{rules}
 use Rattle.cabinet_fix_reply.proofs.is_short.Goals as goal
 
 pub returns : goal.returns

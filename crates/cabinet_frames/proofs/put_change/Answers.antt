@@ -8,25 +8,24 @@ use borrow.Author.Tests.{ltb-true}
 use Rattle.base_limits.specs.Ring.{ring_place}
 use Rattle.base_laws.proofs.Logic.{and_right, cond_true, cond_false}
 use Rattle.cabinet_plans.specs.Plans.{is_made}
-use borrow.Author.Rules.{rules}
 use Rattle.cabinet_frames.proofs.put_change.Goals as goal
 
 pub bounds-changes-place : goal.bounds-changes-place
 bounds-changes-place c =
     let p : ℕ = c.ring_place-place.result in
-    ltb-true p 768 (and_right (not (eqb c.args.state 0)) (ltb p 768) (sym c.is_made-made.ensures ∙ c.if-made.true))
+    ltb-true p 768 (and_right (not (eqb c.args.state 0)) (ltb p 768) (sym c.is_made.ensures ∙ c.if-is_made.true))
 
-pub returns-then-made : goal.returns-then-made
-returns-then-made c =
-    let found : is_made c.args.card c.args.state ≡ c.is_made-made.result = ap (λ (p : ℕ). not (eqb c.args.state 0) && ltb p 768) (sym c.ring_place-place.ensures) ∙ sym c.is_made-made.ensures in
+pub returns-then-is_made : goal.returns-then-is_made
+returns-then-is_made c =
+    let found : is_made c.args.card c.args.state ≡ c.is_made.result = ap (λ (p : ℕ). not (eqb c.args.state 0) && ltb p 768) (sym c.ring_place-place.ensures) ∙ sym c.is_made.ensures in
     let a : _ = c.args in
     let l : _ = a.changes.now in
     ap (λ (p : ℕ). set l p a.change) c.ring_place-place.ensures
-    ∙ sym (cond_true (set l (ring_place a.card a.state) a.change) l (found ∙ c.if-made.true))
+    ∙ sym (cond_true (set l (ring_place a.card a.state) a.change) l (found ∙ c.if-is_made.true))
 
-pub returns-else-made : goal.returns-else-made
-returns-else-made c =
-    let found : is_made c.args.card c.args.state ≡ c.is_made-made.result = ap (λ (p : ℕ). not (eqb c.args.state 0) && ltb p 768) (sym c.ring_place-place.ensures) ∙ sym c.is_made-made.ensures in
+pub returns-else-is_made : goal.returns-else-is_made
+returns-else-is_made c =
+    let found : is_made c.args.card c.args.state ≡ c.is_made.result = ap (λ (p : ℕ). not (eqb c.args.state 0) && ltb p 768) (sym c.ring_place-place.ensures) ∙ sym c.is_made.ensures in
     let a : _ = c.args in
     let l : _ = a.changes.now in
-    sym (cond_false (set l (ring_place a.card a.state) a.change) l (found ∙ c.if-made.false))
+    sym (cond_false (set l (ring_place a.card a.state) a.change) l (found ∙ c.if-is_made.false))

@@ -1,13 +1,14 @@
 -- `cabinet_joined::restart_valid` restarts from the sheets of a cabinet that passes 28. Assumes nothing.
-use Prim.Native.Nat.{ℕ, ◌-◌}
-use mathlib.Core.Path.{◌≡◌, ◌∙◌, ap}
-use native.Mathlib.Omega.{arith}
-use lib.ListN.{take}
-use Rattle.cabinet_joined.proofs.Owns.{own_valid}
-use borrow.Author.Rules.{rules}
+use mathlib.Core.Path.{refl, sym, ◌∙◌}
+use Rattle.cabinet_joined.proofs.Owns.{own_valid, goes_back, goes_on}
 use Rattle.cabinet_joined.proofs.restart_valid.Goals as goal
 
-pub returns : goal.returns
-returns c =
-    let z : c.join-n.result - 0 ≡ c.join-n.result = omega arith in
-    own_valid c.requires c.restart-a.ensures (ap (λ (n : ℕ). take n c.join-n.new.buffer) z ∙ c.join-n.ensures.1) c.going_on.ensures.0 c.going_on.ensures.1
+pub returns-then-is_err : goal.returns-then-is_err
+returns-then-is_err c =
+    own_valid c.requires c.restart-a.ensures c.join-n.ensures.1 refl
+    (goes_back c.restart-a.result.reply c.restart-a.result.cabinet c.args.c (sym c.is_err.ensures.value ∙ c.if-is_err.true))
+
+pub returns-else-is_err : goal.returns-else-is_err
+returns-else-is_err c =
+    own_valid c.requires c.restart-a.ensures c.join-n.ensures.1 refl
+    (goes_on c.restart-a.result.reply c.restart-a.result.cabinet c.args.c (sym c.is_err.ensures.value ∙ c.if-is_err.false))

@@ -1,8 +1,6 @@
 -- `cabinet_listing::list_lost` lists the changes lost. The invariant: those up to k are met and stand at the beginning of the list. Assumes nothing.
-use Prim.Native.Nat.{◌-◌}
 use native.Mathlib.Omega.{arith}
-use Rattle.cabinet_listing.proofs.Next.{lost_to}
-use Rattle.cabinet_listing.proofs.Merged.{Writing, writing_none, writing_more, writing_done}
+use Rattle.cabinet_listing.proofs.Merged.{writing_none, writing_more, writing_done}
 use borrow.Author.Rules.{rules}
 use Rattle.cabinet_listing.proofs.list_lost.Goals as goal
 
@@ -22,7 +20,7 @@ pub loop-k-preserved : goal.loop-k-preserved
 loop-k-preserved c =
     let a : _ = c.args in
     let e : _ = c.ends_of-ends in
-    writing_more a.changes.now a.line e.result a.ended c.loop-k.invariant c.loop-k-test.true c.put.ensures c.past-p.ensures c.heads-h.ensures c.next_lost-y.ensures (search rules)
+    writing_more a.changes.now a.line e.result a.ended c.loop-k.invariant c.loop-k-test.true c.put.ensures c.past-p.ensures c.heads-h.ensures c.next_lost-x-in-loop-k.ensures (search rules)
 
 pub shape_of-list : goal.shape_of-list
 shape_of-list c = c.loop-k.invariant.long

@@ -1,9 +1,7 @@
 -- `cabinet_listing::list_lost` lists the changes lost. The invariant: those up to k are met and stand at the beginning of the list. Assumes nothing.
 use Prim.Native.Nat.{◌-◌}
-use native.Mathlib.Omega.{arith}
 use Rattle.cabinet_listing.proofs.Next.{lost_to}
-use Rattle.cabinet_listing.proofs.Merged.{Writing, writing_none, writing_more, writing_done}
-use borrow.Author.Rules.{rules}
+use Rattle.cabinet_listing.proofs.Merged.{Writing}
 use Rattle.cabinet_listing.proofs.list_lost.Given as goal
 
 abbrev pub invariant-loop-k : goal.invariant-loop-k

@@ -1,7 +1,6 @@
 -- `cabinet_listing::next_lost` is the lesser of what comes next at the heads and among the changes ended. Assumes nothing.
 use mathlib.Core.Path.{◌∙◌, ap₂}
 use Rattle.base_merge.specs.Merge.{lesser}
-use borrow.Author.Rules.{rules}
 use Rattle.cabinet_listing.proofs.next_lost.Goals as goal
 
 pub returns : goal.returns

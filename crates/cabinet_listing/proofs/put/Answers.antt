@@ -1,7 +1,6 @@
 -- `cabinet_listing::put` stores a number where there is such a place. Assumes nothing.
 use mathlib.Core.Path.{sym}
 use lib.Seq.{set_out}
-use borrow.Author.Rules.{rules}
 use Rattle.cabinet_listing.proofs.put.Goals as goal
 
 pub returns-else-n-list : goal.returns-else-n-list

@@ -1,11 +1,6 @@
-use Rattle.base_bits.specs.Member.{member}
-use Rattle.cabinet_layout.specs.Shape.{at}
 use Rattle.cabinet_layout.proofs.Limits.{width16}
-use Rattle.base_laws.proofs.Fill.{FilledSoFar, filled_none, filled_more, filled_done}
-use Prim.Native.Nat.{◌-◌}
+use Rattle.base_laws.proofs.Fill.{filled_none, filled_more, filled_done}
 use mathlib.Core.Path.{refl}
-use mathlib.Core.Bool.{cond}
-use borrow.Author.Rules.{rules}
 use Rattle.cabinet_losing.proofs.fallen.Goals as goal
 
 pub loop-c-init : goal.loop-c-init

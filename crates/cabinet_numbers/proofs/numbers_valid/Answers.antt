@@ -1,6 +1,5 @@
 use mathlib.Core.Path.{refl}
 use Rattle.cabinet_layout.specs.Shape.{limits16}
-use borrow.Author.Rules.{rules}
 use Rattle.cabinet_numbers.proofs.numbers_valid.Goals as goal
 
 pub returns : goal.returns

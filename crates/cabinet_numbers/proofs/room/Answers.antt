@@ -1,6 +1,5 @@
 use Rattle.cabinet_layout.specs.Shape.{limits16}
 use mathlib.Core.Path.{refl}
-use borrow.Author.Rules.{rules}
 use Rattle.cabinet_numbers.proofs.room.Goals as goal
 
 pub returns : goal.returns

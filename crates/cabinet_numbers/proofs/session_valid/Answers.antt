@@ -1,5 +1,4 @@
 use Rattle.cabinet_layout.specs.Shape.{limits16}
-use borrow.Author.Rules.{rules}
 use Rattle.cabinet_numbers.proofs.session_valid.Goals as goal
 
 pub returns : goal.returns

@@ -1,9 +1,7 @@
 -- `cabinet_recalling::rolled_cards` is the set of the cards ahead. Assumes nothing.
-use Rattle.cabinet_recalling.proofs.Rolled.{AheadSoFar, ahead_none, ahead_more, ahead_done}
-use Prim.Native.Nat.{◌-◌, ◌<◌}
+use Rattle.cabinet_recalling.proofs.Rolled.{ahead_none, ahead_more, ahead_done}
+use Prim.Native.Nat.{◌<◌}
 use mathlib.Core.Path.{refl}
-use lib.Dec.{ltb}
-use Rattle.cabinet_layout.specs.Shape.{at}
 use borrow.Author.Rules.{rules}
 use Rattle.cabinet_recalling.proofs.rolled_cards.Goals as goal
 
@@ -12,8 +10,8 @@ loop-c-init c = ahead_none
 
 pub loop-c-preserved : goal.loop-c-preserved
 loop-c-preserved c =
-    let f : c.with_if-more.result < 65536 = search rules in
-    ahead_more c.loop-c.invariant c.loop-c-test.true f refl c.with_if-more.ensures
+    let f : c.with_if-rolled.result < 65536 = search rules in
+    ahead_more c.loop-c.invariant c.loop-c-test.true f refl c.with_if-rolled.ensures
 
 pub returns : goal.returns
 returns c = ahead_done c.loop-c.invariant c.loop-c-test.false

@@ -1,7 +1,6 @@
 -- `cabinet_recalling::with_if` puts a card in, or does not. Assumes nothing.
 use mathlib.Core.Path.{sym, ◌∙◌}
 use Rattle.base_laws.proofs.Logic.{cond_true, cond_false}
-use borrow.Author.Rules.{rules}
 use Rattle.cabinet_recalling.proofs.with_if.Goals as goal
 
 pub returns-then-ahead : goal.returns-then-ahead

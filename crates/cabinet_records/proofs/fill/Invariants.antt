@@ -6,6 +6,3 @@ use Rattle.cabinet_records.proofs.fill.Given as goal
 
 abbrev pub invariant-loop-i : goal.invariant-loop-i
 invariant-loop-i l = StoredSoFar l.n (record_at l.numbers) l.initial.list 0 l.list l.i
-
-abbrev pub decreases-loop-i : goal.decreases-loop-i
-decreases-loop-i l = l.n - l.i

@@ -3,7 +3,6 @@ use Prim.Native.Nat.{ℕ, ◌+◌, ◌*◌}
 use mathlib.Core.Path.{◌∙◌, ap}
 use Rattle.theory_history.specs.Line.{orphan}
 use Rattle.cabinet_layout.specs.Shape.{limits16, at}
-use borrow.Author.Rules.{rules}
 use Rattle.cabinet_recovery.proofs.is_orphan.Goals as goal
 
 pub returns : goal.returns

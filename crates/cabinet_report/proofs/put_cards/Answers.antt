@@ -1,8 +1,7 @@
 -- `cabinet_report::put_cards` writes the lines of the cards. Assumes nothing.
-use Prim.Native.Nat.{◌-◌, zero-le}
+use Prim.Native.Nat.{zero-le}
 use Rattle.base_text.proofs.Puts.{put_nothing, put_length}
-use Rattle.cabinet_layout.specs.Shape.{at}
-use Rattle.cabinet_report.proofs.Pushes.{RowsSoFar, rows_more, rows_done}
+use Rattle.cabinet_report.proofs.Pushes.{rows_more, rows_done}
 use borrow.Author.Rules.{rules}
 use Rattle.cabinet_report.proofs.put_cards.Goals as goal
 

@@ -8,5 +8,5 @@ pub returns : goal.returns
 returns c =
     let sized : Sized c.args.r = record { changes = search rules; entries = search rules; sessions = search rules; bases = search rules; counts = search rules } in
     let r = c.args.r in
-    restarted_is r (sized) c.requires c.stored_numbers-stored.result c.lines-line.result c.last_vectors-last.result c.head_of-head.result c.blank-core.result c.lowest-low.result c.rolled_cards-rolled.result
-    c.stored_numbers-stored.ensures c.lowest-low.ensures c.rolled_cards-rolled.ensures c.last_vectors-last.ensures c.head_of-head.ensures c.lines-line.ensures c.blank-core.ensures
+    restarted_is r (sized) c.requires c.stored_numbers-stored.result c.lines-core.result c.last_vectors-last.result c.head_of-head.result c.blank-core.result c.lowest-low.result c.rolled_cards.result
+    c.stored_numbers-stored.ensures c.lowest-low.ensures c.rolled_cards.ensures c.last_vectors-last.ensures c.head_of-head.ensures c.lines-core.ensures c.blank-core.ensures

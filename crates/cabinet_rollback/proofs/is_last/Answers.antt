@@ -9,7 +9,6 @@ use mathlib.Core.Path.{sym, ◌∙◌, ap}
 use mathlib.Core.Bool.{not}
 use Rattle.base_laws.specs.Below.{any_below}
 use Rattle.cabinet_layout.proofs.Limits.{width16}
-use borrow.Author.Rules.{rules}
 use Rattle.cabinet_rollback.proofs.is_last.Goals as goal
 
 pub returns : goal.returns

@@ -1,5 +1,4 @@
 use Rattle.cabinet_safety.proofs.ByChecks.{by_line}
-use borrow.Author.Rules.{rules}
 use Rattle.cabinet_safety.proofs.would_stay.Goals as goal
 
 pub returns : goal.returns

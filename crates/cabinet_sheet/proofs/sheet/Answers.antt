@@ -1,6 +1,5 @@
 -- `cabinet_sheet::sheet` writes a card's sheet by its plan. Assumes nothing.
 use mathlib.Core.Path.{sym, ◌∙◌}
-use borrow.Author.Rules.{rules}
 use Rattle.cabinet_sheet.proofs.Pages.{within, told_same}
 use Rattle.cabinet_sheet.proofs.sheet.Goals as goal
 

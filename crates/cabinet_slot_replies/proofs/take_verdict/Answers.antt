@@ -1,20 +1,21 @@
-use Rattle.theory_history.specs.Change.{touches}
-use Rattle.theory_protocol.specs.Model.{OpenChange, slot_of, decided}
-use Rattle.theory_protocol.specs.Calls.{take_checks}
-use Rattle.theory_protocol.specs.Plan.{Check}
-use Rattle.cabinet_layout.specs.Shape.{slots_model}
-use Rattle.base_refusal.specs.declared.Reply.TheVariants.{Done}
-use Rattle.cabinet_layout.specs.Answers.{after28}
-use Rattle.cabinet_layout.proofs.Checks.{folded, folded_first}
-use Rattle.cabinet_layout.specs.Shape.{limits16, open_of, open_at}
-use Rattle.cabinet_layout.proofs.Limits.{slots8}
-use Prim.Native.Nat.{ℕ}
-use mathlib.Core.Path.{◌≡◌, sym, ◌∙◌, ap, ap₂}
+use mathlib.Core.Path.{sym, ◌∙◌, ap}
 use mathlib.Core.Bool.{not, ◌&&◌}
-use mathlib.Core.List.{List, []}
-use lib.Dec.{ltb}
 use borrow.Author.Rules.{rules}
+use Rattle.theory_history.specs.Change.{touches}
+use Rattle.theory_protocol.specs.Model.{OpenChange}
+use Rattle.cabinet_slot_replies.proofs.Found.{unknown, found, made}
 use Rattle.cabinet_slot_replies.proofs.take_verdict.Goals as goal
 
+pub returns-in_err-refuse_if-4 : goal.returns-in_err-refuse_if-4
+returns-in_err-refuse_if-4 c = let a = c.args in rw (sym (unknown a.head a.all a.k c.slot_of-place.ensures)) (search rules)
+
+pub returns-in_err-refuse_if-5 : goal.returns-in_err-refuse_if-5
+returns-in_err-refuse_if-5 c =
+    let a = c.args in
+    rw (sym (unknown a.head a.all a.k c.slot_of-place.ensures), sym (made a.head a.all a.k c.slot_of-place.ensures c.slot_at-o.result c.slot_at-o.ensures c.is_decided-made.ensures)) (search rules)
+
 pub returns : goal.returns
-returns c = let a : _ = c.args in let P : ℕ = slot_of limits16 (slots_model a.head a.all [] []) a.k in let cs : List Check = after28 (not a.valid) (take_checks limits16 (slots_model a.head a.all [] []) a.k a.card) in let ep : c.slot_of-p.result ≡ P = c.slot_of-p.ensures in let eo : open_of c.slot_at-o.result ≡ open_at a.all P = c.slot_at-o.ensures ∙ ap (open_at a.all) ep in let em : c.is_decided-made.result ≡ decided limits16 (open_at a.all P) = c.is_decided-made.ensures ∙ ap (decided limits16) eo in let ed : c.is_awaited-due.result ≡ (touches (open_at a.all P).change a.card && not ((open_at a.all P).taken a.card)) = c.is_awaited-due.ensures ∙ ap (λ (x : OpenChange). touches x.change a.card && not (x.taken a.card)) eo in let ek : not (ltb c.slot_of-p.result 8) ≡ not (ltb P limits16.slots) = ap₂ (λ (x y : ℕ). not (ltb x y)) ep (sym slots8) in let e : c.next.result ≡ folded cs Done = rw (c.next.ensures, c.next-reply-5.ensures, c.next-reply-4.ensures, c.next-reply-3.ensures, c.next-reply-2.ensures, c.next-reply.ensures, c.is_card-there.ensures, c.is_up-up.ensures, ek, em, ed) in e ∙ folded_first cs
+returns c =
+    let a = c.args in
+    let due = c.is_awaited-due.ensures ∙ ap (λ (x : OpenChange). touches x.change a.card && not (x.taken a.card)) (found a.head a.all a.k c.slot_of-place.ensures c.slot_at-o.result c.slot_at-o.ensures) in
+    rw (sym (unknown a.head a.all a.k c.slot_of-place.ensures), sym (made a.head a.all a.k c.slot_of-place.ensures c.slot_at-o.result c.slot_at-o.ensures c.is_decided-made.ensures), sym due) (search rules)

@@ -1,20 +1,12 @@
-use Rattle.theory_protocol.specs.Model.{slot_of}
-use Rattle.theory_protocol.specs.Calls.{withdraw_checks}
-use Rattle.theory_protocol.specs.Plan.{Check}
-use Rattle.cabinet_layout.specs.Shape.{slots_model}
-use Rattle.base_refusal.specs.declared.Reply.TheVariants.{Done}
-use Rattle.cabinet_layout.specs.Answers.{after28}
-use Rattle.cabinet_layout.proofs.Checks.{folded, folded_first}
-use Rattle.theory_protocol.specs.Model.{decided}
-use Rattle.cabinet_layout.specs.Shape.{limits16, open_of, open_at}
-use Rattle.cabinet_layout.proofs.Limits.{slots8}
-use Prim.Native.Nat.{ℕ}
-use mathlib.Core.Path.{◌≡◌, sym, ◌∙◌, ap, ap₂}
-use mathlib.Core.Bool.{not}
-use mathlib.Core.List.{List, []}
-use lib.Dec.{ltb}
+use mathlib.Core.Path.{sym}
 use borrow.Author.Rules.{rules}
+use Rattle.cabinet_slot_replies.proofs.Found.{unknown, made}
 use Rattle.cabinet_slot_replies.proofs.withdraw_verdict.Goals as goal
 
+pub returns-in_err-refuse_if-3 : goal.returns-in_err-refuse_if-3
+returns-in_err-refuse_if-3 c = let a = c.args in rw (sym (unknown a.head a.all a.k c.slot_of-p.ensures)) (search rules)
+
 pub returns : goal.returns
-returns c = let a : _ = c.args in let P : ℕ = slot_of limits16 (slots_model a.head a.all [] []) a.k in let cs : List Check = after28 (not a.valid) (withdraw_checks limits16 (slots_model a.head a.all [] []) a.k) in let ep : c.slot_of-p.result ≡ P = c.slot_of-p.ensures in let eo : open_of c.slot_at-o.result ≡ open_at a.all P = c.slot_at-o.ensures ∙ ap (open_at a.all) ep in let em : c.is_decided-made.result ≡ decided limits16 (open_at a.all P) = c.is_decided-made.ensures ∙ ap (decided limits16) eo in let ek : not (ltb c.slot_of-p.result 8) ≡ not (ltb P limits16.slots) = ap₂ (λ (x y : ℕ). not (ltb x y)) ep (sym slots8) in let e : c.next.result ≡ folded cs Done = rw (c.next.ensures, c.next-r-3.ensures, c.next-r-2.ensures, c.next-r.ensures, c.is_up-up.ensures, ek, em) in e ∙ folded_first cs
+returns c =
+    let a = c.args in
+    rw (sym (unknown a.head a.all a.k c.slot_of-p.ensures), sym (made a.head a.all a.k c.slot_of-p.ensures c.slot_at-o.result c.slot_at-o.ensures c.is_decided.ensures)) (search rules)

@@ -6,7 +6,6 @@ use Rattle.base_laws.specs.Below.{any_below}
 use Prim.Native.Nat.{ℕ}
 use mathlib.Core.Path.{sym, ◌∙◌, ap}
 use mathlib.Core.Bool.{Bool, not}
-use borrow.Author.Rules.{rules}
 use Rattle.cabinet_slots.proofs.awaits_write.Goals as goal
 
 pub returns : goal.returns

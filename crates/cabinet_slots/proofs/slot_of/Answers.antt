@@ -1,22 +1,17 @@
-use Rattle.theory_protocol.specs.Model.{is_open}
-use Rattle.cabinet_layout.specs.Shape.{open_at}
-use Rattle.cabinet_layout.proofs.Limits.{slots8}
-use Rattle.base_laws.proofs.Fill.{NoneSoFar, search_none, search_more, search_done, search_found}
-use Prim.Native.Nat.{◌-◌}
-use mathlib.Core.Path.{sym}
-use mathlib.Core.Bool.{◌&&◌}
+use mathlib.Core.Path.{◌≡◌, ◌∙◌}
+use mathlib.Core.Bool.{Bool, true, false, not, ◌&&◌}
 use lib.Dec.{eqb}
 use borrow.Author.Rules.{rules}
+use borrow.Author.Tests.{tests}
+use Rattle.std.proofs.lemmas.Iterator.{IsFirst-from_position, YieldsList-from_slice}
+use Rattle.cabinet_layout.specs.declared.Slot.{Slot}
+use Rattle.cabinet_layout.proofs.Limits.{slots8}
+use Rattle.cabinet_slots.proofs.First.{first_slot}
 use Rattle.cabinet_slots.proofs.slot_of.Goals as goal
 
-pub loop-p-init : goal.loop-p-init
-loop-p-init c = search_none
-
-pub returns-then-o-k : goal.returns-then-o-k
-returns-then-o-k c = sym (search_found c.loop-p.invariant c.loop-p-test.true slots8 c.if-o-k.true)
-
-pub loop-p-preserved : goal.loop-p-preserved
-loop-p-preserved c = search_more c.loop-p.invariant c.loop-p-test.true c.if-o-k.false
-
 pub returns : goal.returns
-returns c = sym (search_done c.loop-p.invariant c.loop-p-test.false slots8)
+returns c =
+    let q : Slot → Bool = λ o. not (eqb o.number 0) && eqb o.number c.args.k in
+    c.unwrap_or.ensures
+    ∙ first_slot q c.args.slots c.position.result (search rules) slots8
+    (IsFirst-from_position _ _ _ (λ o. q o ≡ true) (λ o. q o ≡ false) c.position.ensures.ran (YieldsList-from_slice c.args.slots (search rules)) (λ x r h. search (rules, tests)) (λ x r h. search (rules, tests)))

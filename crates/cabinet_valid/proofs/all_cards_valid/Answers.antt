@@ -1,10 +1,6 @@
-use Prim.Native.Nat.{◌-◌}
-use Rattle.base_laws.proofs.Fill.{AllSoFar, all_none, all_more, all_done}
-use Rattle.theory_protocol.specs.Valid.{card_valid}
-use Rattle.cabinet_layout.specs.Shape.{limits16, bare, with_vectors, with_numbers, with_line, model_of}
+use Rattle.base_laws.proofs.Fill.{all_none, all_more, all_done}
 use Rattle.cabinet_layout.proofs.Limits.{width16}
 use Rattle.cabinet_valid.proofs.Hand.{card_whole}
-use borrow.Author.Rules.{rules}
 use Rattle.cabinet_valid.proofs.all_cards_valid.Goals as goal
 
 pub loop-c-init : goal.loop-c-init

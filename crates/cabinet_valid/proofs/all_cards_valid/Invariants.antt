@@ -1,14 +1,7 @@
-use Prim.Native.Nat.{◌-◌}
-use Rattle.base_laws.proofs.Fill.{AllSoFar, all_none, all_more, all_done}
+use Rattle.base_laws.proofs.Fill.{AllSoFar}
 use Rattle.theory_protocol.specs.Valid.{card_valid}
 use Rattle.cabinet_layout.specs.Shape.{limits16, bare, with_vectors, with_numbers, with_line, model_of}
-use Rattle.cabinet_layout.proofs.Limits.{width16}
-use Rattle.cabinet_valid.proofs.Hand.{card_whole}
-use borrow.Author.Rules.{rules}
 use Rattle.cabinet_valid.proofs.all_cards_valid.Given as goal
 
 abbrev pub invariant-loop-c : goal.invariant-loop-c
 invariant-loop-c l = AllSoFar 16 (card_valid limits16 (model_of l.entries l.changes (with_line (with_vectors (with_numbers (bare l.head) l.base l.stored l.held l.reached) l.last l.pending) l.line 0))) l.ok l.c
-
-abbrev pub decreases-loop-c : goal.decreases-loop-c
-decreases-loop-c l = 16 - l.c

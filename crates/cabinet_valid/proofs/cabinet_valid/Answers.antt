@@ -1,6 +1,5 @@
 use mathlib.Core.Path.{ap₂}
 use mathlib.Core.Bool.{Bool, ◌&&◌}
-use borrow.Author.Rules.{rules}
 use Rattle.cabinet_valid.proofs.cabinet_valid.Goals as goal
 
 pub returns : goal.returns

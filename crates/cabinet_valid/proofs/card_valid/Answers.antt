@@ -1,5 +1,4 @@
 use Rattle.cabinet_valid.proofs.Hand.{card_flags}
-use borrow.Author.Rules.{rules}
 use Rattle.cabinet_valid.proofs.card_valid.Goals as goal
 
 pub returns : goal.returns

@@ -3,7 +3,6 @@ use Rattle.cabinet_numbers.proofs.Tests.{numbers_order}
 use Rattle.cabinet_layout.specs.Shape.{limits16, numbers_of}
 use mathlib.Core.Path.{◌≡◌, sym, ◌∙◌}
 use mathlib.Core.Bool.{true, false}
-use borrow.Author.Rules.{rules}
 use Rattle.cabinet_valid.proofs.there_valid.Goals as goal
 
 pub frames_valid-frames-requires : goal.frames_valid-frames-requires

@@ -1,5 +1,4 @@
 use borrow.Author.Tests.{lt-ltb, le-ltb}
-use borrow.Author.Rules.{rules}
 use Rattle.cabinet_valid_frames.proofs.after.Goals as goal
 
 pub returns-then-slot-lt-LAST_PLACE : goal.returns-then-slot-lt-LAST_PLACE

@@ -1,14 +1,8 @@
-use Prim.Native.Nat.{suc, ◌+◌, ◌-◌, ◌%◌}
-use mathlib.Core.Path.{◌≡◌, refl}
-use mathlib.Core.Bool.{◌&&◌, ◌||◌}
+use Prim.Native.Nat.{◌+◌}
+use mathlib.Core.Path.{refl}
 use native.Mathlib.Omega.{arith}
-use lib.Dec.{eqb}
-use Rattle.base_laws.proofs.Fill.{AllSoFar, all_none, all_more, all_done}
-use Rattle.theory_protocol.specs.Model.{up}
-use Rattle.theory_protocol.specs.Valid.{frame_valid, rises_valid}
-use Rattle.cabinet_layout.specs.Shape.{limits16, ring, numbers_of, part_of}
+use Rattle.base_laws.proofs.Fill.{all_none, all_more, all_done}
 use Rattle.cabinet_valid_frames.proofs.Steps.{next_slot, step_whole}
-use borrow.Author.Rules.{rules}
 use Rattle.cabinet_valid_frames.proofs.frames_valid.Goals as goal
 
 pub loop-k-init : goal.loop-k-init

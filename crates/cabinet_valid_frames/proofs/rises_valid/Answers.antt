@@ -1,4 +1,3 @@
-use borrow.Author.Rules.{rules}
 use Rattle.cabinet_valid_frames.proofs.rises_valid.Goals as goal
 
 pub returns : goal.returns

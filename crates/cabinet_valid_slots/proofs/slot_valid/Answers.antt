@@ -1,5 +1,4 @@
 use Rattle.cabinet_valid_slots.proofs.Slots.{slot_free, slot_whole}
-use borrow.Author.Rules.{rules}
 use Rattle.cabinet_valid_slots.proofs.slot_valid.Goals as goal
 
 pub returns-then-o-eq0 : goal.returns-then-o-eq0

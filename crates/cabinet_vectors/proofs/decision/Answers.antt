@@ -2,9 +2,9 @@ use Rattle.cabinet_layout.specs.Shape.{tracked_of}
 use Rattle.theory_history.specs.Vector.{share}
 use Rattle.base_laws.specs.Below.{greatest}
 use Rattle.cabinet_layout.proofs.Held.{zero_listed, join_step}
-use Rattle.cabinet_layout.specs.Shape.{limits16, at, list_of, open_of}
+use Rattle.cabinet_layout.specs.Shape.{limits16, list_of, open_of}
 use Rattle.cabinet_layout.proofs.Limits.{width16}
-use Prim.Native.Nat.{ℕ, ◌-◌, ◌≤◌}
+use Prim.Native.Nat.{ℕ}
 use mathlib.Core.Path.{◌≡◌, sym, ◌∙◌, ap}
 use native.Mathlib.Omega.{arith}
 use borrow.Author.Rules.{rules}

@@ -1,10 +1,6 @@
-use Rattle.theory_history.specs.Vector.{joined}
-use Rattle.cabinet_layout.specs.Shape.{at}
 use Rattle.cabinet_layout.proofs.Limits.{width16}
-use Rattle.base_laws.proofs.Fill.{FilledSoFar, filled_none, filled_more, filled_done}
-use Prim.Native.Nat.{◌-◌}
+use Rattle.base_laws.proofs.Fill.{filled_none, filled_more, filled_done}
 use mathlib.Core.Path.{refl}
-use borrow.Author.Rules.{rules}
 use Rattle.cabinet_vectors.proofs.join.Goals as goal
 
 pub loop-j-init : goal.loop-j-init

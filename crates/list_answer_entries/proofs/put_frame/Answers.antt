@@ -3,7 +3,6 @@ use Rattle.base_laws.specs.Below.{selected}
 use Rattle.cabinet_layout.specs.Shape.{limits16, at, present_of}
 use Rattle.base_text.proofs.Puts.{put_then, put_as}
 use Rattle.list_answer_entries.proofs.Entries.{frame_as}
-use borrow.Author.Rules.{rules}
 use Rattle.list_answer_entries.proofs.put_frame.Goals as goal
 
 pub returns : goal.returns

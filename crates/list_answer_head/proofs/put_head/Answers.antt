@@ -1,7 +1,6 @@
 -- `list_answer_head::put_head` writes the first line of show. Assumes nothing.
 use Rattle.base_text.proofs.Puts.{put_then, put_as}
 use Rattle.list_answer_head.proofs.Pieces.{head_as}
-use borrow.Author.Rules.{rules}
 use Rattle.list_answer_head.proofs.put_head.Goals as goal
 
 pub returns : goal.returns

@@ -1,6 +1,5 @@
 -- `list_answer_sheet::put_bytes` writes an accepted sheet. Assumes nothing.
 use Rattle.base_text.proofs.Puts.{put_then}
-use borrow.Author.Rules.{rules}
 use Rattle.list_answer_sheet.proofs.put_bytes.Goals as goal
 
 pub returns : goal.returns

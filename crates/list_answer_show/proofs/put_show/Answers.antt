@@ -1,6 +1,5 @@
 -- `list_answer_show::put_show` writes what a cabinet is. Assumes nothing.
 use Rattle.base_text.proofs.Puts.{put_then}
-use borrow.Author.Rules.{rules}
 use Rattle.list_answer_show.proofs.put_show.Goals as goal
 
 pub returns : goal.returns

@@ -1,11 +1,8 @@
 -- `list_parse::line_at` finds the end of a line and reads it. Assumes nothing.
 use native.Mathlib.Omega.{arith}
-use Rattle.list_parse.proofs.Lines.{token_end, token_more, token_last, found_within}
+use Rattle.list_parse.proofs.Lines.{token_more, token_last, found_within}
 use borrow.Author.Rules.{rules}
 use Rattle.list_parse.proofs.line_at.Goals as goal
-
-pub returns-then-s-from : goal.returns-then-s-from
-returns-then-s-from c = token_end c.args.s.now c.args.from (search rules)
 
 pub slice_bounds-parse-end : goal.slice_bounds-parse-end
 slice_bounds-parse-end c = omega (arith, found_within c.args.s.now c.args.from _ (search rules) c.find-end.ensures)

@@ -1,11 +1,8 @@
 -- `list_parse::parse` reads a line. Assumes nothing.
 use native.Mathlib.Omega.{arith}
-use Rattle.list_parse.proofs.Lines.{parse_long, parse_read, found_within}
+use Rattle.list_parse.proofs.Lines.{parse_read, found_within}
 use borrow.Author.Rules.{rules}
 use Rattle.list_parse.proofs.parse.Goals as goal
-
-pub returns-then-line-gt128 : goal.returns-then-line-gt128
-returns-then-line-gt128 c = parse_long c.args.line.now (search rules)
 
 pub slice_bounds-say_with-end : goal.slice_bounds-say_with-end
 slice_bounds-say_with-end c = omega (arith, found_within c.args.line.now 0 _ (search rules) c.find-end.ensures)

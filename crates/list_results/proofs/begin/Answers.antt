@@ -6,4 +6,4 @@ use borrow.Author.Rules.{rules}
 use Rattle.list_results.proofs.begin.Goals as goal
 
 pub returns : goal.returns
-returns c = ap (λ (x : Cabinet). record { cabinet = x; begun = false }) c.fresh-a.ensures.cabinet
+returns c = ap (λ (x : Cabinet). record { cabinet = x; begun = false }) c.fresh.ensures.cabinet

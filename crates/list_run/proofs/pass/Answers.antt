@@ -8,17 +8,17 @@ use Rattle.list_texts.proofs.Laws.{Going, going_none, going_more, going_ends}
 use borrow.Author.Rules.{rules}
 use Rattle.list_run.proofs.pass.Goals as goal
 
-pub loop-w-init : goal.loop-w-init
-loop-w-init c = going_none _ _ c.begin-r.ensures
+pub loop-said-init : goal.loop-said-init
+loop-said-init c = going_none _ _ c.begin-r.ensures
 
-pub shape_of-out-in-End : goal.shape_of-out-in-End
-shape_of-out-in-End c = c.loop-w.invariant.size
+pub shape_of-out : goal.shape_of-out
+shape_of-out c = c.loop-said.invariant.size
 
-pub returns-in-End : goal.returns-in-End
-returns-in-End c = going_ends c.loop-w.invariant c.line_at-token.ensures c.in-End.is
+pub returns : goal.returns
+returns c = going_ends c.loop-said.invariant c.line_at.ensures c.in_default.is
 
-pub loop-w-smaller : goal.loop-w-smaller
-loop-w-smaller c = let h = token_forward c.args.text.now c.loop-w.at (sym c.in-Line.is ∙ c.line_at-token.ensures) in omega (arith, h.0, h.1)
+pub loop-said-smaller : goal.loop-said-smaller
+loop-said-smaller c = let h = token_forward c.args.text.now c.loop-said.at (sym c.in-Some.is ∙ c.line_at.ensures) in omega (arith, h.0, h.1)
 
-pub loop-w-preserved : goal.loop-w-preserved
-loop-w-preserved c = going_more c.loop-w.invariant c.line_at-token.ensures c.in-Line.is c.done-s.ensures
+pub loop-said-preserved : goal.loop-said-preserved
+loop-said-preserved c = going_more c.loop-said.invariant c.line_at.ensures c.in-Some.is c.done-s.ensures

@@ -8,8 +8,8 @@ use Rattle.list_texts.proofs.Laws.{Going, going_none, going_more, going_ends}
 use borrow.Author.Rules.{rules}
 use Rattle.list_run.proofs.pass.Given as goal
 
-abbrev pub invariant-loop-w : goal.invariant-loop-w
-invariant-loop-w l = Going l.text l.initial.out l.initial.w l.at l.r l.w l.out
+abbrev pub invariant-loop-said : goal.invariant-loop-said
+invariant-loop-said l = Going l.text l.initial.out l.initial.w l.at l.r l.w l.out
 
-abbrev pub decreases-loop-w : goal.decreases-loop-w
-decreases-loop-w l = length l.text - l.at
+abbrev pub decreases-loop-said : goal.decreases-loop-said
+decreases-loop-said l = length l.text - l.at

@@ -1,5 +1,4 @@
 -- `sheet_digits::digit_of` gives a digit's byte. Assumes nothing.
-use borrow.Author.Rules.{rules}
 use borrow.Author.Tests.{lt-ltb, le-ltb}
 use Rattle.sheet_digits.specs.Digits.{digit}
 use Rattle.sheet_digits.proofs.digit_of.Goals as goal

@@ -1,12 +1,12 @@
 -- `sheet_digits::is_digit` tells the digits from the other bytes. Assumes nothing.
-use Rattle.sheet_digits.proofs.Digits.{is_low, is_between, is_high}
+use borrow.Author.Rules.{rules}
+use Rattle.sheet_digits.specs.Digits.{is_numeral, is_letter, is_digit}
 use Rattle.sheet_digits.proofs.is_digit.Goals as goal
 
-pub returns-then-b-lt58 : goal.returns-then-b-lt58
-returns-then-b-lt58 c = is_low c.args.b c.if-b-lt58.true
+pub returns-then-is_ascii_digit : goal.returns-then-is_ascii_digit
+unfolding is_digit is_numeral is_letter
+returns-then-is_ascii_digit c = search rules
 
-pub returns-then-b-lt65 : goal.returns-then-b-lt65
-returns-then-b-lt65 c = is_between c.args.b c.if-b-lt58.false c.if-b-lt65.true
-
-pub returns-else-b-lt65 : goal.returns-else-b-lt65
-returns-else-b-lt65 c = is_high c.args.b c.if-b-lt65.false
+pub returns-else-is_ascii_digit : goal.returns-else-is_ascii_digit
+unfolding is_digit is_numeral is_letter
+returns-else-is_ascii_digit c = search rules

@@ -1,39 +1,15 @@
 -- `sheet_frame_reader::entries_at` reads the entries of a frame. The invariant: storing those left to read gives the whole. Assumes nothing.
-use Prim.Native.Nat.{◌+◌, ◌*◌, ◌-◌, ◌≤◌, zero-le}
-use mathlib.Core.Path.{◌≡◌, refl, sym, ◌∙◌, ap}
-use borrow.Author.Rules.{rules}
+use Prim.Native.Nat.{◌+◌, ◌*◌, ◌≤◌, zero-le}
+use mathlib.Core.Path.{refl, ◌∙◌, ap}
 use native.Mathlib.Omega.{arith}
 use lib.ListN.{length, drop, length-set, length-drop}
-use lib.Seq.{sets}
 use Rattle.sheet_digits.proofs.Digits.{number_take}
 use Rattle.sheet_lines.specs.Format.{held_by}
-use Rattle.sheet_lines.specs.Lines.{entries_by, padded}
-use Rattle.sheet_lines.proofs.Judged.{row_room, entries_step, entries_none, entries_start}
+use Rattle.sheet_lines.proofs.Judged.{row_room, entries_step, entries_start}
 use Rattle.sheet_frame_reader.proofs.entries_at.Goals as goal
 
 pub loop-j-init : goal.loop-j-init
 loop-j-init c = (zero-le, refl, entries_start c.args.width (held_by c.args.short c.args.none) c.args.s.now c.args.at c.args.n)
-
-pub overflow_mul-j : goal.overflow_mul-j
-overflow_mul-j c =
-    let a = c.args in
-    let l = c.loop-j in
-    let h : a.at + l.j * a.width + a.width ≤ length a.s.now = row_room a.at a.width a.n l.j (length a.s.now) (omega arith) c.requires.3 in
-    search rules
-
-pub overflow_add-at : goal.overflow_add-at
-overflow_add-at c =
-    let a = c.args in
-    let l = c.loop-j in
-    let h : a.at + l.j * a.width + a.width ≤ length a.s.now = row_room a.at a.width a.n l.j (length a.s.now) (omega arith) c.requires.3 in
-    search rules
-
-pub state_at-requires : goal.state_at-requires
-state_at-requires c =
-    let a = c.args in
-    let l = c.loop-j in
-    let h : a.at + l.j * a.width + a.width ≤ length a.s.now = row_room a.at a.width a.n l.j (length a.s.now) (omega arith) c.requires.3 in
-    search rules
 
 pub held-requires : goal.held-requires
 held-requires c =
@@ -48,9 +24,3 @@ loop-j-preserved c =
     let a = c.args in
     let l = c.loop-j in
     (omega arith, length-set l.entries l.j c.held.result ∙ l.invariant.1, entries_step a.width (held_by a.short a.none) a.s.now l.entries a.at a.n l.j c.held.result (omega arith) (c.held.ensures ∙ ap (held_by a.short a.none) c.state_at.ensures) ∙ l.invariant.2)
-
-pub returns : goal.returns
-returns c =
-    let a = c.args in
-    let l = c.loop-j in
-    sym (ap (sets l.entries l.j) (entries_none a.width (held_by a.short a.none) a.n l.j (drop (a.at + l.j * a.width) a.s.now) c.loop-j-test.false)) ∙ l.invariant.2

@@ -1,6 +1,4 @@
 -- `sheet_frame_reader::held` gives what is held for an entry. Assumes nothing.
-use borrow.Author.Rules.{rules}
-use borrow.Author.Tests.{not-true, not-false}
 use Rattle.sheet_lines.proofs.Entries.{held_none, held_long, held_zero, held_need}
 use Rattle.sheet_frame_reader.proofs.held.Goals as goal
 

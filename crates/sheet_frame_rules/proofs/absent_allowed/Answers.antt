@@ -8,12 +8,7 @@ use Rattle.sheet_frame_rules.proofs.absent_allowed.Goals as goal
 pub returns-then-card-lt-CARDS_U32 : goal.returns-then-card-lt-CARDS_U32
 returns-then-card-lt-CARDS_U32 c =
     let a = c.args in
-    absent_other a.card a.state a.n (λ (j : ℕ) (h : j < a.n - 16) (e : 16 + j ≡ a.card). omega (arith, c.if-card-lt-CARDS_U32.true))
-
-pub returns-then-n-card : goal.returns-then-n-card
-returns-then-n-card c =
-    let a = c.args in
-    absent_other a.card a.state a.n (λ (j : ℕ) (h : j < a.n - 16) (e : 16 + j ≡ a.card). omega (arith, c.if-n-card.true))
+    absent_other a.card a.state a.n (λ (j : ℕ) (h : j < a.n - 16) (e : 16 + j ≡ a.card). omega (arith, c.then-card-lt-CARDS_U32.either))
 
 pub returns : goal.returns
 returns c =

@@ -1,30 +1,19 @@
 -- `sheet_frame_rules::entries_allowed` judges the entries of a frame. The invariant: those passed are allowed. Assumes nothing.
-use Prim.Native.Nat.{ℕ, ◌-◌, ◌≤◌, zero-le}
-use mathlib.Core.Bool.{true}
-use mathlib.Core.Path.{◌≡◌, refl, sym, ◌∙◌, ap}
-use borrow.Author.Rules.{rules}
+use Prim.Native.Nat.{ℕ}
+use mathlib.Core.Path.{◌≡◌, sym, ◌∙◌, ap}
 use native.Mathlib.Omega.{arith}
-use borrow.Author.Tests.{not-true, not-false}
 use lib.ListN.{get_or}
 use Rattle.base_laws.specs.Below.{all_below}
 use Rattle.sheet_lines.specs.Format.{format_of}
 use Rattle.sheet_lines.specs.Lines.{entry_allowed, entries_allowed}
-use Rattle.sheet_lines.proofs.Judged.{below_step, below_stop}
+use Rattle.sheet_lines.proofs.Judged.{below_stop}
 use Rattle.sheet_frame_rules.proofs.entries_allowed.Goals as goal
-
-pub loop-j-init : goal.loop-j-init
-loop-j-init c = (zero-le, refl)
 
 pub returns-then-not-entry_allowed : goal.returns-then-not-entry_allowed
 unfolding entries_allowed
 returns-then-not-entry_allowed c =
     let a = c.args in
     below_stop c.loop-j.j a.n (λ i. entry_allowed (format_of a.f) a.card a.state i (get_or a.last i 0) (get_or a.next i 0)) c.loop-j-test.true c.entry_allowed.ensures c.if-not-entry_allowed.true
-
-pub loop-j-preserved : goal.loop-j-preserved
-loop-j-preserved c =
-    let a = c.args in
-    (omega arith, below_step c.loop-j.j (λ i. entry_allowed (format_of a.f) a.card a.state i (get_or a.last i 0) (get_or a.next i 0)) c.loop-j.invariant.1 c.entry_allowed.ensures c.if-not-entry_allowed.false)
 
 pub returns : goal.returns
 unfolding entries_allowed

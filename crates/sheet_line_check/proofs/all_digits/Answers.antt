@@ -6,9 +6,6 @@ use Rattle.sheet_line_check.proofs.Steps.{all_step, all_stop}
 use borrow.Author.Tests.{not-true, not-false}
 use Rattle.sheet_line_check.proofs.all_digits.Goals as goal
 
-pub loop-i-init : goal.loop-i-init
-loop-i-init c = (zero-le, ap all_digits (left_none c.args.s.now c.args.at c.args.n))
-
 pub returns-then-not-is_digit : goal.returns-then-not-is_digit
 returns-then-not-is_digit c =
     let a = c.args in
@@ -18,6 +15,3 @@ pub loop-i-preserved : goal.loop-i-preserved
 loop-i-preserved c =
     let a = c.args in
     (omega arith, all_step a.s.now a.at a.n c.loop-i.i (omega arith) c.requires c.loop-i.invariant.1 (sym c.is_digit.ensures ∙ c.if-not-is_digit.false))
-
-pub returns : goal.returns
-returns c = sym (sym c.loop-i.invariant.1 ∙ ap all_digits (left_all c.args.s.now c.args.at c.args.n c.loop-i.i c.loop-i-test.false))

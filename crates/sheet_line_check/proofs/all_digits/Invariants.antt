@@ -8,6 +8,3 @@ use Rattle.sheet_line_check.proofs.all_digits.Given as goal
 
 abbrev pub invariant-loop-i : goal.invariant-loop-i
 invariant-loop-i l = (l.i ≤ l.n) × (all_digits (left l.s l.at l.n l.i) ≡ all_digits (take l.n (drop l.at l.s)))
-
-abbrev pub decreases-loop-i : goal.decreases-loop-i
-decreases-loop-i l = l.n - l.i

@@ -5,15 +5,7 @@ use Rattle.sheet_digits.specs.Line.{summed}
 use Rattle.sheet_line_check.proofs.Steps.{sums_step}
 use Rattle.sheet_line_check.proofs.sums_over.Goals as goal
 
-pub loop-i-init : goal.loop-i-init
-loop-i-init c = (zero-le, ap (summed _) (left_none c.args.s.now c.args.at c.args.n))
-
 pub loop-i-preserved : goal.loop-i-preserved
 loop-i-preserved c =
     let a = c.args in
     (omega arith, sums_step a.s.now a.at a.n c.loop-i.i (omega arith) c.requires c.loop-i.first c.loop-i.second c.loop-i.invariant.1 c.wrapping_add_u8-first.ensures.value c.wrapping_add_u8-second.ensures.value)
-
-pub returns : goal.returns
-returns c =
-    let a = c.args in
-    sym (ap (summed _) (left_all a.s.now a.at a.n c.loop-i.i c.loop-i-test.false)) ∙ c.loop-i.invariant.1

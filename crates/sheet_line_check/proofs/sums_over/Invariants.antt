@@ -7,6 +7,3 @@ use Rattle.sheet_line_check.proofs.sums_over.Given as goal
 
 abbrev pub invariant-loop-i : goal.invariant-loop-i
 invariant-loop-i l = (l.i ≤ l.n) × (summed (record { first = l.first; second = l.second }) (left l.s l.at l.n l.i) ≡ summed (record { first = l.initial.first; second = l.initial.second }) (take l.n (drop l.at l.s)))
-
-abbrev pub decreases-loop-i : goal.decreases-loop-i
-decreases-loop-i l = l.n - l.i

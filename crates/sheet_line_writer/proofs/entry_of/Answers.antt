@@ -1,6 +1,4 @@
 -- `sheet_line_writer::entry_of` gives the entry that a sheet has for what is held. Assumes nothing.
-use borrow.Author.Rules.{rules}
-use borrow.Author.Tests.{not-true, not-false}
 use Rattle.sheet_lines.proofs.Entries.{shown_none, shown_long, shown_zero, shown_need}
 use Rattle.sheet_line_writer.proofs.entry_of.Goals as goal
 

@@ -1,5 +1,4 @@
 -- `sheet_line_writer::put_header` writes a header line. Assumes nothing.
-use borrow.Author.Rules.{rules}
 use Rattle.sheet_lines.specs.Format.{format_of}
 use Rattle.sheet_line_writer.proofs.Puts.{header_put}
 use Rattle.sheet_line_writer.proofs.put_header.Goals as goal

@@ -25,5 +25,5 @@ returns-then-card-ge-CARDS_U32 c = sym (cond_false (ring_frame c.args.changes.no
 pub returns : goal.returns
 returns c =
     let a = c.args in
-    frame_at a.changes.now a.entries.now a.card a.state c.ring_place-place.ensures (search rules) c.row_at-row.ensures
+    frame_at a.changes.now a.entries.now a.card a.state c.ring_place-place.ensures (search rules) c.row_at.ensures
     ∙ sym (cond_true (ring_frame a.changes.now a.entries.now 16 a.card a.state) no_frame (lt-ltb a.card 16 c.if-card-ge-CARDS_U32.false))

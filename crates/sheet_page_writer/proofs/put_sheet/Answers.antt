@@ -91,14 +91,6 @@ overflow_add-at-in-loop-k c =
     let x = l.invariant.2 in
     omega (arith, l.invariant.1, x, g, fits, c.put_header.auto.b, c.well_formed.1.0.0)
 
-pub overflow_add-k : goal.overflow_add-k
-overflow_add-k c =
-    let limits : Header-in-limits (format_of c.args.f) c.args.h.card 0 c.args.h = header_limits (format_of c.args.f) _ _ _ c.requires.1 in
-    let l = limits in omega (arith, l.count, c.loop-k-test.true)
-
-pub loop-k-smaller : goal.loop-k-smaller
-loop-k-smaller c = omega (arith, c.loop-k-test.true)
-
 pub loop-k-preserved : goal.loop-k-preserved
 loop-k-preserved c =
     let limits : Header-in-limits (format_of c.args.f) c.args.h.card 0 c.args.h = header_limits (format_of c.args.f) _ _ _ c.requires.1 in

@@ -16,10 +16,7 @@ use Rattle.sheet_page_writer.proofs.Rows.{rows_of, next_row, row_length, writing
 use Rattle.sheet_page_writer.proofs.put_sheet.Given as goal
 
 abbrev pub invariant-loop-k : goal.invariant-loop-k
-invariant-loop-k l = (l.k ≤ l.count)
+invariant-loop-k l = (l.k ≤ l.h.count)
     × (length l.b ≡ length l.initial.b)
     × (l.at ≡ header_digits (format_of l.f) + 5 + l.k * l.line)
-    × (sets l.b l.at (writing (format_of l.f) ((format_of l.f).start l.card l.session) l.n l.base l.count (rows_of l.changes l.entries l.card l.base) l.k) ≡ sets l.initial.b l.initial.at (writing (format_of l.f) ((format_of l.f).start l.card l.session) l.n l.base l.count (rows_of l.changes l.entries l.card l.base) l.initial.k))
-
-abbrev pub decreases-loop-k : goal.decreases-loop-k
-decreases-loop-k l = l.count - l.k
+    × (sets l.b l.at (writing (format_of l.f) ((format_of l.f).start l.h.card l.h.session) l.n l.h.base l.h.count (rows_of l.changes l.entries l.h.card l.h.base) l.k) ≡ sets l.initial.b l.initial.at (writing (format_of l.f) ((format_of l.f).start l.h.card l.h.session) l.n l.h.base l.h.count (rows_of l.changes l.entries l.h.card l.h.base) l.initial.k))

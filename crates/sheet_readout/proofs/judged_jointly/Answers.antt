@@ -3,8 +3,8 @@ use borrow.Author.Rules.{rules}
 use Rattle.sheet_readout.proofs.Jointly.{joint_accepted, joint_refused}
 use Rattle.sheet_readout.proofs.judged_jointly.Goals as goal
 
-pub returns-in-Done : goal.returns-in-Done
-returns-in-Done c = joint_accepted c.args.r c.requires.again c.joint_verdict-v.ensures c.in-Done.is
+pub returns-in-Ok : goal.returns-in-Ok
+returns-in-Ok c = joint_accepted c.args.r c.requires.again c.joint_verdict.ensures c.in-Ok.is
 
-pub returns-in-Refused : goal.returns-in-Refused
-returns-in-Refused c = joint_refused c.args.r c.nothing_read.ensures c.joint_verdict-v.ensures c.in-Refused.is
+pub returns-in-Err : goal.returns-in-Err
+returns-in-Err c = joint_refused c.args.r c.nothing_read.ensures c.joint_verdict.ensures c.in-Err.is

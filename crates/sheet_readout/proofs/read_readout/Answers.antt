@@ -9,10 +9,10 @@ pub returns-then-s-gt-LONGEST : goal.returns-then-s-gt-LONGEST
 returns-then-s-gt-LONGEST c = c.nothing_read.ensures ∙ long_read c.args.s.now c.if-s-gt-LONGEST.true
 
 pub judged_jointly-requires : goal.judged_jointly-requires
-judged_jointly-requires c = reading_laid c.args.s.now c.read_sheets-read.ensures c.in-Done.is
+judged_jointly-requires c = reading_laid c.args.s.now c.read_sheets-read.ensures c.in-Ok.is
 
-pub returns-in-Done : goal.returns-in-Done
-returns-in-Done c = c.judged_jointly.ensures ∙ lines_accepted c.args.s.now c.if-s-gt-LONGEST.false c.read_sheets-read.ensures c.in-Done.is
+pub returns-in-Ok : goal.returns-in-Ok
+returns-in-Ok c = c.judged_jointly.ensures ∙ lines_accepted c.args.s.now c.if-s-gt-LONGEST.false c.read_sheets-read.ensures c.in-Ok.is
 
-pub returns-in-Refused : goal.returns-in-Refused
-returns-in-Refused c = c.nothing_read-in-Refused.ensures ∙ lines_refused c.args.s.now c.if-s-gt-LONGEST.false c.read_sheets-read.ensures c.in-Refused.is
+pub returns-in-Err : goal.returns-in-Err
+returns-in-Err c = c.nothing_read-in-Err.ensures ∙ lines_refused c.args.s.now c.if-s-gt-LONGEST.false c.read_sheets-read.ensures c.in-Err.is

@@ -6,20 +6,17 @@ use Rattle.sheet_sessions.proofs.Turns.{NoneAhead, none_ahead, apart_here, apart
 use borrow.Author.Rules.{rules}
 use Rattle.sheet_sessions.proofs.sessions_apart.Goals as goal
 
-pub loop-j-init : goal.loop-j-init
-loop-j-init c = (search rules, refl)
-
 pub returns-then-ahead : goal.returns-then-ahead
 returns-then-ahead c =
     let a = c.args in
-    apart_here a.sessions a.counts a.low a.n c.loop-j.j (search rules) c.ahead.ensures c.if-ahead.true
+    apart_here a.sessions a.counts a.low a.n c.loop-i.i (search rules) c.ahead.ensures c.if-ahead.true
 
-pub loop-j-preserved : goal.loop-j-preserved
-loop-j-preserved c =
+pub loop-i-preserved : goal.loop-i-preserved
+loop-i-preserved c =
     let a = c.args in
-    (omega arith, none_ahead a.sessions a.counts a.low c.loop-j.j c.loop-j.invariant.1 c.ahead.ensures c.if-ahead.false)
+    none_ahead a.sessions a.counts a.low c.loop-i.i c.loop-i.invariant c.ahead.ensures c.if-ahead.false
 
 pub returns : goal.returns
 returns c =
     let a = c.args in
-    apart_nowhere a.sessions a.counts a.low a.n c.loop-j.j (search rules) c.least-end.ensures (search rules) c.loop-j.invariant.1
+    apart_nowhere a.sessions a.counts a.low a.n c.loop-i.i (search rules) c.min-i-end.ensures (search rules) c.loop-i.invariant

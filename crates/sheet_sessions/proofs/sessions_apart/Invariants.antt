@@ -6,8 +6,5 @@ use Rattle.sheet_sessions.proofs.Turns.{NoneAhead, none_ahead, apart_here, apart
 use borrow.Author.Rules.{rules}
 use Rattle.sheet_sessions.proofs.sessions_apart.Given as goal
 
-abbrev pub invariant-loop-j : goal.invariant-loop-j
-invariant-loop-j l = (l.j ≤ l.end) × NoneAhead l.sessions l.counts l.low l.j
-
-abbrev pub decreases-loop-j : goal.decreases-loop-j
-decreases-loop-j l = l.end - l.j
+abbrev pub invariant-loop-i : goal.invariant-loop-i
+invariant-loop-i l = NoneAhead l.sessions l.counts l.low l.i

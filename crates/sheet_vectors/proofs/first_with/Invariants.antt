@@ -11,6 +11,3 @@ use Rattle.sheet_vectors.proofs.first_with.Given as goal
 
 abbrev pub invariant-loop-c : goal.invariant-loop-c
 invariant-loop-c l = NoneSoFar 16 (λ i. eqb (at l.heads i) l.k) l.c
-
-abbrev pub decreases-loop-c : goal.decreases-loop-c
-decreases-loop-c l = 16 - l.c

@@ -13,6 +13,3 @@ use Rattle.sheet_vectors.proofs.same_entries.Given as goal
 
 abbrev pub invariant-loop-k : goal.invariant-loop-k
 invariant-loop-k l = (l.k ≤ l.n) × (same_entries l.entries l.k l.p l.q ≡ true)
-
-abbrev pub decreases-loop-k : goal.decreases-loop-k
-decreases-loop-k l = l.n - l.k

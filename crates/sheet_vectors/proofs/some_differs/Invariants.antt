@@ -9,6 +9,3 @@ use Rattle.sheet_vectors.proofs.some_differs.Given as goal
 
 abbrev pub invariant-loop-other : goal.invariant-loop-other
 invariant-loop-other l = NoneSoFar 16 (head_differs l.entries l.heads l.passed l.n l.k l.p) l.other
-
-abbrev pub decreases-loop-other : goal.decreases-loop-other
-decreases-loop-other l = 16 - l.other

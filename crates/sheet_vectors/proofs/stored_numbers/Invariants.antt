@@ -9,6 +9,3 @@ use Rattle.sheet_vectors.proofs.stored_numbers.Given as goal
 
 abbrev pub invariant-loop-c : goal.invariant-loop-c
 invariant-loop-c l = FilledSoFar 0 16 (λ k. at l.bases k + at l.counts k) l.out l.c
-
-abbrev pub decreases-loop-c : goal.decreases-loop-c
-decreases-loop-c l = 16 - l.c

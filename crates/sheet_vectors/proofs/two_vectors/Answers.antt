@@ -31,7 +31,7 @@ pub loop-k-preserved : goal.loop-k-preserved
 loop-k-preserved c =
     let its-ends : c.ends_of-ends.result ≡ ends_of (stored_numbers c.args.bases c.args.counts) c.args.n = c.ends_of-ends.ensures ∙ ap (λ (l : List ℕ). ends_of l c.args.n) c.stored_numbers-stored.ensures in
     let rising : Rises c.args.changes.now c.args.bases c.ends_of-ends.result = subst (λ (l : List ℕ). Rises c.args.changes.now c.args.bases l) (sym (its-ends)) c.requires.1.rises in
-    looked_more c.args.changes.now c.args.entries.now c.args.bases c.ends_of-ends.result c.args.n (rising) c.loop-k.invariant c.loop-k-test.true c.heads_differ.ensures c.if-heads_differ.false c.past-p.ensures c.heads-h.ensures c.least-y.ensures (search rules)
+    looked_more c.args.changes.now c.args.entries.now c.args.bases c.ends_of-ends.result c.args.n (rising) c.loop-k.invariant c.loop-k-test.true c.heads_differ.ensures c.if-heads_differ.false c.past-p.ensures c.heads-h.ensures c.least-x-in-loop-k.ensures (search rules)
 
 pub returns : goal.returns
 returns c =

@@ -1,4 +1,5 @@
 -- `sheet_walk::read_sheets` reads sheets. At each place, going on from what is taken in so far gives the whole. Assumes nothing.
+use Rattle.std.specs.Prelude.{Ok, Err}
 use Prim.Native.Nat.{ℕ, ◌+◌, ◌-◌, ◌≤◌, ◌<◌}
 use mathlib.Core.Bool.{cond}
 use mathlib.Core.Path.{◌≡◌, refl, sym, ◌∙◌, ap}
@@ -9,13 +10,9 @@ use lib.ListN.{length, drop}
 use Rattle.sheet_digits.proofs.Lines.{whole_room}
 use mathlib.Core.List.{List}
 use mathlib.Core.Logic.{⊎_elim}
-use Rattle.base_refusal.specs.declared.Reply.{Reply}
-use Rattle.base_refusal.specs.declared.Reply.TheVariants.{Done}
+use Rattle.base_refusal.specs.Reply.{Reply}
 use Rattle.sheet_lines.specs.declared.Header.{Header}
 use Rattle.sheet_lines.specs.declared.Frame.{Frame}
-use Rattle.sheet_lines.specs.declared.FrameRead.{FrameRead}
-use Rattle.sheet_lines.specs.declared.FrameLine.TheVariants.{Read as frame-read, Fault as frame-fault}
-use Rattle.sheet_lines.specs.declared.HeaderLine.TheVariants.{Fault}
 use Rattle.sheet_lines.specs.declared.Layout.{Layout}
 use Rattle.sheet_lines.specs.Format.{Format, formats, format_of, Fits}
 use Rattle.sheet_lines.specs.Lines.{format_in, header_digits, header_in, header_verdict, frame_digits, frame_in, frame_verdict, frame_read_of, padded}
@@ -26,49 +23,41 @@ use Rattle.sheet_pages.specs.Walk.{read_up_to}
 use Rattle.base_rows.proofs.Rows.{put_there}
 use Rattle.sheet_pages.proofs.Walk.{Outer, Inner, header_read_is, header_fault_is, frame_read_is, frame_fault_is, outer_start, outer_end, outer_fault, outer_inner, inner_fault, inner_end, inner_again, sheets_fewer, lift_pos, read_as, kept, wiped}
 use Rattle.sheet_walk.proofs.read_sheets.Goals as goal
-use Rattle.sheet_walk.proofs.read_sheets.Goals.{then-left-eq0, else-left-eq0+in_default, else-left-eq0+in-Read+then-loop-k-test+in_default-told}
-
--- a frame line that was read is accepted, and its number is the change
-frame_accepted : {x : FrameRead} {v : Reply} (f : Frame) {change : ℕ} → x ≡ frame_read_of v f → x.line ≡ frame-read change → (v ≡ Done) × (f.change ≡ change)
-frame_accepted {x} {v} f {change} e is = frame_read_is v f change (sym (ap (λ (y : FrameRead). y.line) e) ∙ is)
-
--- its entries are the frame's
-entries_accepted : {x : FrameRead} {v : Reply} (f : Frame) → x ≡ frame_read_of v f → v ≡ Done → x.entries ≡ padded f.entries
-entries_accepted {x} {v} f e d = ap (λ (y : FrameRead). y.entries) e ∙ ap (λ (w : Reply). (frame_read_of w f).entries) d
+use Rattle.sheet_walk.proofs.read_sheets.Goals.{then-left-eq0, else-left-eq0+in_default, else-left-eq0+in-Ok+then-loop-k-test+in_default-read}
 
 pub sheets-init : goal.sheets-init
-sheets-init c = outer_start formats c.args.s.now c.args.card c.args.all
+sheets-init c = rw c.no_readout-r.ensures (outer_start formats c.args.s.now c.args.card c.args.all)
 
 pub header_at-line-requires : goal.header_at-line-requires
 header_at-line-requires c = c.layout_of-f.ensures.fits.width
 
 pub overflow_cast-i : goal.overflow_cast-i
 overflow_cast-i c =
-    let hd = header_read_is _ _ _ (sym c.header_at-line.ensures ∙ c.in-Read.is) in
+    let hd = header_read_is _ _ _ (sym c.header_at-line.ensures ∙ c.in-Ok.is) in
     let w = header_within (format_of c.layout_of-f.result) _ _ _ hd.0 in
     omega (arith, w.below, w.cards, w.card)
 
 pub offset_bounds-r-i : goal.offset_bounds-r-i
 offset_bounds-r-i c =
-    let hd = header_read_is _ _ _ (sym c.header_at-line.ensures ∙ c.in-Read.is) in
+    let hd = header_read_is _ _ _ (sym c.header_at-line.ensures ∙ c.in-Ok.is) in
     let w = header_within (format_of c.layout_of-f.result) _ _ _ hd.0 in
     omega (arith, w.below, w.cards, w.card)
 
 pub bounds-r-i : goal.bounds-r-i
 bounds-r-i c =
-    let hd = header_read_is _ _ _ (sym c.header_at-line.ensures ∙ c.in-Read.is) in
+    let hd = header_read_is _ _ _ (sym c.header_at-line.ensures ∙ c.in-Ok.is) in
     let w = header_within (format_of c.layout_of-f.result) _ _ _ hd.0 in
     omega (arith, w.below, w.cards, w.card)
 
 pub offset_bounds-r-i-in-sheets : goal.offset_bounds-r-i-in-sheets
 offset_bounds-r-i-in-sheets c =
-    let hd = header_read_is _ _ _ (sym c.header_at-line.ensures ∙ c.in-Read.is) in
+    let hd = header_read_is _ _ _ (sym c.header_at-line.ensures ∙ c.in-Ok.is) in
     let w = header_within (format_of c.layout_of-f.result) _ _ _ hd.0 in
     omega (arith, w.below, w.cards, w.card)
 
 pub bounds-r-i-in-sheets : goal.bounds-r-i-in-sheets
 bounds-r-i-in-sheets c =
-    let hd = header_read_is _ _ _ (sym c.header_at-line.ensures ∙ c.in-Read.is) in
+    let hd = header_read_is _ _ _ (sym c.header_at-line.ensures ∙ c.in-Ok.is) in
     let w = header_within (format_of c.layout_of-f.result) _ _ _ hd.0 in
     omega (arith, w.below, w.cards, w.card)
 
@@ -81,14 +70,14 @@ overflow_add-at-in-sheets c = omega (arith, c.layout_of-f.ensures.fits.width)
 pub overflow_add-at-in-sheets-2 : goal.overflow_add-at-in-sheets-2
 overflow_add-at-in-sheets-2 c =
     let f = format_of c.layout_of-f.result in
-    let hd = header_read_is _ _ _ (sym c.header_at-line.ensures ∙ c.in-Read.is) in
+    let hd = header_read_is _ _ _ (sym c.header_at-line.ensures ∙ c.in-Ok.is) in
     let r : c.sheets.at + header_digits f + 5 ≤ length c.args.s.now = whole_room (header_digits f) c.sheets.at c.args.s.now (header_passed f _ _ _ hd.0).whole in
     omega (arith, c.well_formed.0.0)
 
 pub loop-k-init : goal.loop-k-init
 loop-k-init c =
-    let hd = header_read_is _ _ _ (sym c.header_at-line.ensures ∙ c.in-Read.is) in
-    outer_inner c.sheets.invariant c.in-Read.h (lift_pos _ c.if-left-eq0.false) (omega arith) (c.layout_of-f.ensures.format ∙ ap formats c.told_at.ensures) (sym hd.1) hd.0 c.unraised-n.ensures c.sheets_left-left.ensures refl
+    let hd = header_read_is _ _ _ (sym c.header_at-line.ensures ∙ c.in-Ok.is) in
+    outer_inner c.sheets.invariant c.in-Ok.h (lift_pos _ c.if-left-eq0.false) (omega arith) (c.layout_of-f.ensures.format ∙ ap formats c.told_at.ensures) (sym hd.1) hd.0 c.unraised-n.ensures c.sheets_left-left.ensures refl
 
 pub overflow_add-state : goal.overflow_add-state
 overflow_add-state c = omega (arith, c.loop-k.invariant.states)
@@ -133,21 +122,15 @@ pub overflow_add-at-in-loop-k-4 : goal.overflow_add-at-in-loop-k-4
 overflow_add-at-in-loop-k-4 c =
     let f = format_of c.layout_of-f.result in
     let fr = rw c.start_of-start.ensures at c.frame_at-read.ensures in
-    let e = frame_accepted _ fr c.in-Read-told.is in
+    let e = frame_read_is _ _ _ (sym fr ∙ c.in-Ok-read.is) in
     let r : c.loop-k.at + frame_digits f c.unraised-n.result + 5 ≤ length c.args.s.now = whole_room (frame_digits f c.unraised-n.result) c.loop-k.at c.args.s.now (frame_passed f _ _ _ _ _ _ e.0).whole in
     omega (arith, c.well_formed.0.0)
-
-pub overflow_add-k : goal.overflow_add-k
-overflow_add-k c = omega (arith, c.loop-k.invariant.frames, c.loop-k-test.true)
-
-pub loop-k-smaller : goal.loop-k-smaller
-loop-k-smaller c = omega (arith, c.loop-k-test.true)
 
 pub loop-k-preserved : goal.loop-k-preserved
 loop-k-preserved c =
     let fr = rw c.start_of-start.ensures at c.frame_at-read.ensures in
-    let e = frame_accepted _ fr c.in-Read-told.is in
-    inner_again c.loop-k.invariant c.loop-k-test.true e.0 e.1 (entries_accepted _ fr e.0) c.ring_place-place.ensures (put_there c.loop-k.r.entries c.frame_at-read.result.entries c.ring_place-place.result (omega (arith, c.ring_place-place.ensures, c.loop-k.invariant.below, c.loop-k.invariant.cards)) c.put_row.ensures)
+    let e = frame_read_is _ _ _ (sym fr ∙ c.in-Ok-read.is) in
+    inner_again c.loop-k.invariant c.loop-k-test.true e.0 e.1 e.2 c.ring_place-place.ensures (put_there c.loop-k.r.entries c.in-Ok-read.next.entries c.ring_place-place.result (omega (arith, c.ring_place-place.ensures, c.loop-k.invariant.below, c.loop-k.invariant.cards)) c.put_row.ensures)
 
 pub overflow_add-due : goal.overflow_add-due
 overflow_add-due c = omega (arith, c.loop-k.invariant.below, c.loop-k.invariant.cards)
@@ -161,36 +144,36 @@ sheets-smaller c = sheets_fewer c.args.all c.sheets.first c.sheets.left c.unrais
 pub sheets-preserved : goal.sheets-preserved
 sheets-preserved c = inner_end c.loop-k.invariant c.loop-k-test.false
 
-pub returns-in-Refused : goal.returns-in-Refused
-returns-in-Refused c =
+pub returns-in-Err : goal.returns-in-Err
+returns-in-Err c =
     let up : ◌≡◌ {A = Reading} (record { readout = c.if-left-eq0.r; verdict = c.if-left-eq0.verdict }) (read_up_to formats c.args.all c.args.card c.args.s.now) =
     elim c.if-left-eq0.branch [
       | then-left-eq0 w ↦ read_as w.r-is w.verdict-is (outer_end c.sheets.invariant w.if-left-eq0.true w.end_at-verdict.ensures)
       | else-left-eq0+in_default w ↦
-          let is : w.header_at-line.result ≡ Fault w.in_default.field-0 = w.in_default.is in
+          let is : w.header_at-line.result ≡ Err w.in_default.field-0 = w.in_default.is in
           let e = header_fault_is _ _ w.in_default.field-0 (sym w.header_at-line.ensures ∙ is) in
-          read_as w.r-is w.verdict-is (rw (w.header_reply-verdict.ensures, is) (outer_fault c.sheets.invariant (lift_pos _ w.if-left-eq0.false) (w.layout_of-f.ensures.format ∙ ap formats w.told_at.ensures) e))
-      | else-left-eq0+in-Read+then-loop-k-test+in_default-told w ↦
+          read_as w.r-is w.verdict-is (rw (w.verdict_of-verdict.ensures, is) (outer_fault c.sheets.invariant (lift_pos _ w.if-left-eq0.false) (w.layout_of-f.ensures.format ∙ ap formats w.told_at.ensures) e))
+      | else-left-eq0+in-Ok+then-loop-k-test+in_default-read w ↦
           let fr = rw w.start_of-start.ensures at w.frame_at-read.ensures in
-          let is : w.frame_at-read.result.line ≡ frame-fault w.in_default-told.field-0 = w.in_default-told.is in
-          let e = frame_fault_is _ _ w.in_default-told.field-0 (sym (ap (λ (y : FrameRead). y.line) fr) ∙ is) in
-          read_as w.r-is w.verdict-is (rw (w.frame_reply-verdict.ensures, is) (inner_fault w.loop-k.invariant w.loop-k-test.true e))
+          let is : w.frame_at-read.result ≡ Err w.in_default-read.field-0 = w.in_default-read.is in
+          let e = frame_fault_is _ _ w.in_default-read.field-0 (sym fr ∙ is) in
+          read_as w.r-is w.verdict-is (rw (w.verdict_of-verdict-in_default-read.ensures, is) (inner_fault w.loop-k.invariant w.loop-k-test.true e))
     ] in
-    wiped formats c.args.all c.args.card c.args.s.now up c.in-Refused.is c.nothing_read.ensures
+    wiped formats c.args.all c.args.card c.args.s.now up c.in-Err.is c.nothing_read.ensures
 
-pub returns : goal.returns
-returns c =
+pub returns-in-Ok-verdict : goal.returns-in-Ok-verdict
+returns-in-Ok-verdict c =
     let up : ◌≡◌ {A = Reading} (record { readout = c.if-left-eq0.r; verdict = c.if-left-eq0.verdict }) (read_up_to formats c.args.all c.args.card c.args.s.now) =
     elim c.if-left-eq0.branch [
       | then-left-eq0 w ↦ read_as w.r-is w.verdict-is (outer_end c.sheets.invariant w.if-left-eq0.true w.end_at-verdict.ensures)
       | else-left-eq0+in_default w ↦
-          let is : w.header_at-line.result ≡ Fault w.in_default.field-0 = w.in_default.is in
+          let is : w.header_at-line.result ≡ Err w.in_default.field-0 = w.in_default.is in
           let e = header_fault_is _ _ w.in_default.field-0 (sym w.header_at-line.ensures ∙ is) in
-          read_as w.r-is w.verdict-is (rw (w.header_reply-verdict.ensures, is) (outer_fault c.sheets.invariant (lift_pos _ w.if-left-eq0.false) (w.layout_of-f.ensures.format ∙ ap formats w.told_at.ensures) e))
-      | else-left-eq0+in-Read+then-loop-k-test+in_default-told w ↦
+          read_as w.r-is w.verdict-is (rw (w.verdict_of-verdict.ensures, is) (outer_fault c.sheets.invariant (lift_pos _ w.if-left-eq0.false) (w.layout_of-f.ensures.format ∙ ap formats w.told_at.ensures) e))
+      | else-left-eq0+in-Ok+then-loop-k-test+in_default-read w ↦
           let fr = rw w.start_of-start.ensures at w.frame_at-read.ensures in
-          let is : w.frame_at-read.result.line ≡ frame-fault w.in_default-told.field-0 = w.in_default-told.is in
-          let e = frame_fault_is _ _ w.in_default-told.field-0 (sym (ap (λ (y : FrameRead). y.line) fr) ∙ is) in
-          read_as w.r-is w.verdict-is (rw (w.frame_reply-verdict.ensures, is) (inner_fault w.loop-k.invariant w.loop-k-test.true e))
+          let is : w.frame_at-read.result ≡ Err w.in_default-read.field-0 = w.in_default-read.is in
+          let e = frame_fault_is _ _ w.in_default-read.field-0 (sym fr ∙ is) in
+          read_as w.r-is w.verdict-is (rw (w.verdict_of-verdict-in_default-read.ensures, is) (inner_fault w.loop-k.invariant w.loop-k-test.true e))
     ] in
-    kept formats c.args.all c.args.card c.args.s.now up c.in-Done.is
+    kept formats c.args.all c.args.card c.args.s.now up c.in-Ok-verdict.is

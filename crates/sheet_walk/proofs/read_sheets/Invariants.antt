@@ -9,12 +9,9 @@ use lib.ListN.{length, drop}
 use Rattle.sheet_digits.proofs.Lines.{whole_room}
 use mathlib.Core.List.{List}
 use mathlib.Core.Logic.{⊎_elim}
-use Rattle.base_refusal.specs.declared.Reply.{Reply}
-use Rattle.base_refusal.specs.declared.Reply.TheVariants.{Done}
+use Rattle.base_refusal.specs.Reply.{Reply}
 use Rattle.sheet_lines.specs.declared.Header.{Header}
 use Rattle.sheet_lines.specs.declared.Frame.{Frame}
-use Rattle.sheet_lines.specs.declared.FrameRead.{FrameRead}
-use Rattle.sheet_lines.specs.declared.FrameLine.TheVariants.{Read as frame-read}
 use Rattle.sheet_lines.specs.declared.Layout.{Layout}
 use Rattle.sheet_lines.specs.Format.{Format, formats, format_of, Fits}
 use Rattle.sheet_lines.specs.Lines.{format_in, header_digits, header_in, header_verdict, frame_digits, frame_in, frame_verdict, frame_read_of, padded}
@@ -27,10 +24,7 @@ use Rattle.sheet_pages.proofs.Walk.{Outer, Inner, header_read_is, header_fault_i
 use Rattle.sheet_walk.proofs.read_sheets.Given as goal
 
 abbrev pub invariant-loop-k : goal.invariant-loop-k
-invariant-loop-k l = Inner formats (format_of l.f) l.s l.card l.all l.due l.left l.n l.base l.count l.session l.i l.r l.at l.last l.k
-
-abbrev pub decreases-loop-k : goal.decreases-loop-k
-decreases-loop-k l = l.count - l.k
+invariant-loop-k l = Inner formats (format_of l.f) l.s l.card l.all l.due l.left l.n l.h.base l.h.count l.h.session l.i l.r l.at l.last l.k
 
 abbrev pub invariant-sheets : goal.invariant-sheets
 invariant-sheets l = Outer formats l.s l.card l.all l.r l.at l.due l.first l.left

@@ -12,7 +12,4 @@ use Rattle.sheet_writer.proofs.Single.{judging, judging_stop, judging_again, jud
 use Rattle.sheet_writer.proofs.frames_pass.Given as goal
 
 abbrev pub invariant-loop-k : goal.invariant-loop-k
-invariant-loop-k l = (l.k ≤ l.count) × (judging (format_of l.f) l.card l.n l.base l.count (rows_of l.changes l.entries l.card l.base) l.last l.k ≡ judging (format_of l.f) l.card l.n l.base l.count (rows_of l.changes l.entries l.card l.base) no_frame 0)
-
-abbrev pub decreases-loop-k : goal.decreases-loop-k
-decreases-loop-k l = l.count - l.k
+invariant-loop-k l = (l.k ≤ l.h.count) × (judging (format_of l.f) l.h.card l.n l.h.base l.h.count (rows_of l.changes l.entries l.h.card l.h.base) l.last l.k ≡ judging (format_of l.f) l.h.card l.n l.h.base l.h.count (rows_of l.changes l.entries l.h.card l.h.base) no_frame 0)

@@ -8,11 +8,10 @@ use Rattle.cabinet_layout.specs.Shape.{limits16}
 use Rattle.cabinet.specs.View.{view}
 use Rattle.cabinet.specs.Apply.{apply_all}
 use Rattle.cabinet.proofs.Call.{no_edits}
-use borrow.Author.Rules.{rules}
 use Rattle.cabinet.proofs.Cabinet.safe.Goals as goal
 
 pub returns : goal.returns
 returns c =
     let a : _ = c.args in
     let s : _ = a.self in
-    record { answer = c.safe-r.ensures; cabinet = sym (ap (λ (es : List Edit). apply_all es s) (no_edits (safe_checks limits16 (view s) a.change) (cond (is_safe limits16 (view s) a.change) safe unsafe))) }
+    record { answer = c.safe-reply.ensures; cabinet = sym (ap (λ (es : List Edit). apply_all es s) (no_edits (safe_checks limits16 (view s) a.change) (cond (is_safe limits16 (view s) a.change) safe unsafe))) }

@@ -1,10 +1,5 @@
-use mathlib.Core.Path.{sym, ◌∙◌}
 use Rattle.cabinet.proofs.Call.{framed_take}
-use borrow.Author.Rules.{rules}
 use Rattle.cabinet.proofs.Cabinet.take.Goals as goal
-
-pub take-out-requires : goal.take-out-requires
-take-out-requires c = λ t. record { entries = c.args.self.entries; changes = c.args.self.changes; passes = sym c.cabinet_valid-valid.ensures ∙ t }
 
 pub returns : goal.returns
 returns c =

@@ -6,8 +6,7 @@ use Rattle.theory_protocol.specs.Calls.{trim_checks, lines}
 use Rattle.cabinet_layout.specs.Shape.{limits16}
 use Rattle.cabinet.specs.View.{view}
 use Rattle.cabinet.proofs.Call.{kept}
-use borrow.Author.Rules.{rules}
 use Rattle.cabinet.proofs.Cabinet.trim.Goals as goal
 
 pub returns : goal.returns
-returns c = let s : _ = c.args.self in kept s (trim_checks limits16 (view s)) done (rebase (lines limits16 (view s)) ∷ []) _ _ refl refl c.trim-out.ensures
+returns c = let s : _ = c.args.self in kept s (trim_checks limits16 (view s)) done (rebase (lines limits16 (view s)) ∷ []) _ _ refl refl c.trim-reply.ensures

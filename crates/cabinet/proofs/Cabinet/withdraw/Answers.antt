@@ -1,17 +1,23 @@
 use mathlib.Core.Path.{refl}
 use mathlib.Core.List.{[], ◌∷◌}
-use Rattle.theory_protocol.specs.Plan.{done}
-use Rattle.cabinet_layout.specs.Shape.{limits16}
-use Rattle.cabinet_plans.specs.Plans.{alone}
-use Rattle.cabinet.proofs.Call.{swapped}
+use borrow.Author.Rules.{rules}
 use Rattle.theory_protocol.specs.Model.{slot_of, free_slot}
 use Rattle.theory_protocol.specs.Edit.{place}
+use Rattle.theory_protocol.specs.Plan.{done}
+use Rattle.theory_protocol.specs.Valid.{valid}
 use Rattle.theory_protocol.specs.Calls.{withdraw_checks}
-use borrow.Author.Rules.{rules}
+use Rattle.cabinet_layout.specs.Answers.{reply_of}
+use Rattle.cabinet_layout.specs.Applied.{CoreCarried}
+use Rattle.cabinet_layout.specs.Shape.{limits16}
+use Rattle.cabinet_plans.specs.Plans.{alone, withdraw_on}
+use Rattle.cabinet.specs.View.{view}
+use Rattle.cabinet.proofs.Call.{put_back}
 use Rattle.cabinet.proofs.Cabinet.withdraw.Goals as goal
 
 pub returns : goal.returns
 returns c =
     let a : _ = c.args in
     let s : _ = a.self in
-    swapped s (withdraw_checks limits16 (alone s.core) a.change) done (place (slot_of limits16 (alone s.core) a.change) free_slot ∷ []) _ _ _ c.cabinet_valid-valid.ensures refl refl c.withdraw-out.ensures
+    let t : _ = c.on_core.ensures in
+    let k : CoreCarried s.core (withdraw_on (valid limits16 (view s)) s.core a.change) (reply_of t.0.reply) t.0.core = search rules in
+    put_back s (withdraw_checks limits16 (alone s.core) a.change) done (place (slot_of limits16 (alone s.core) a.change) free_slot ∷ []) reply_of t.0 _ _ refl refl k t.2 t.3

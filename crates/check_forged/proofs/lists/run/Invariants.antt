@@ -1,9 +1,0 @@
--- `check_forged::lists::run` goes through the lines. Assumes nothing.
-use Rattle.std.proofs.Common.{◌-◌, length}
-use Rattle.check_forged.proofs.lists.run.Given as goal
-
-abbrev pub invariant-loop-at : goal.invariant-loop-at
-invariant-loop-at g l = Unit {0}
-
-abbrev pub decreases-loop-at : goal.decreases-loop-at
-decreases-loop-at g l = length l.list - l.at
