@@ -4,7 +4,6 @@
 ghost use Rattle.std.specs.Prelude.{◌≡◌, length, IfOk};
 ghost use Rattle.base_streams.specs.Input.{IsPrefixLen, input_of};
 
-use std::fmt::Display;
 use std::io;
 use std::io::Read;
 
@@ -27,35 +26,25 @@ pub fn read(rt: &(impl io::Input + Eprint), buf: &mut [u8]) -> io::Result<usize>
     })
 }
 
-// Reads until the buffer is full or the input ends.
-pub fn read_full(rt: &(impl io::Input + Eprint), buf: &mut [u8]) -> io::Result<usize>
-    ensures { IfOk result (λ n. IsPrefixLen n buf.new) }
+// Reads until the buffer is full, the input ends or a read fails: how many bytes came, and whether a read failed.
+pub fn read_full(rt: &(impl io::Input + Eprint), buf: &mut [u8]) -> (usize, io::Result<()>)
+    ensures { IsPrefixLen result.0 buf.new }
 {
     let mut count = 0;
     // a while: a read answers how many bytes came, so there is no range to go over
     while count < buf.len() {
-        let part = read(rt, &mut buf[count..])?;
-        if part == 0 {
-            break;
+        match read(rt, &mut buf[count..]) {
+            Ok(0) => break,
+            Ok(part) => count += part,
+            Err(e) => return (count, Err(e)),
         }
-        count += part;
     }
-    Ok(count)
-}
-
-// Says on standard error that a write failed.
-fn told(rt: &impl Eprint, written: io::Result<()>) -> io::Result<()> {
-    written.inspect_err(|_| {
-        let _ = rt.eprintln("standard output can't be written");
-    })
+    (count, Ok(()))
 }
 
 // Writes bytes.
 pub fn print(rt: &(impl Print + Eprint), bytes: &[u8]) -> io::Result<()> {
-    told(rt, rt.write_all(bytes))
-}
-
-// Writes a text, whether or not that fails.
-pub fn say(rt: &(impl Print + Eprint), text: impl Display + Drop) {
-    let _ = told(rt, rt.print(text));
+    rt.write_all(bytes).inspect_err(|_| {
+        let _ = rt.eprintln("standard output can't be written");
+    })
 }

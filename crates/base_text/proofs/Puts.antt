@@ -2,14 +2,13 @@
 use Prim.Native.Nat.{ℕ, ◌+◌, ◌-◌, ◌≤◌, ◌<◌}
 use mathlib.Core.Path.{◌≡◌, refl, sym, ◌∙◌, ap, ap₂, subst}
 use mathlib.Core.Bool.{Bool, cond}
-use mathlib.Core.List.{List, [], ◌++◌}
+use mathlib.Core.List.{List, [], ◌∷◌, ◌++◌}
 use native.Mathlib.Nat.{add-zero, add_assoc}
+use native.Mathlib.Numerals.{add-one}
 use native.Mathlib.Omega.{arith}
 use lib.Dec.{leb}
-use borrow.Rule.Slice.PartMut.{put_mid}
-use Rattle.std.proofs.lemmas.Slice.{put_mid-paste}
-use lib.ListN.{length, take, drop, length-append}
-use lib.Seq.{sets, sets-eq, length-sets, take_all, take-append-le, take-append-add, length-take-le}
+use lib.ListN.{length, take, get_or, set, length-append}
+use lib.Seq.{sets, length-sets, take_all, take-suc, take-append-le, take-append-add, length-take-le}
 use borrow.Author.Tests.{le-leb, lt-leb, leb-true, leb-false}
 use Rattle.base_laws.proofs.Logic.{test}
 use Rattle.base_laws.proofs.Seq.{sets_append}
@@ -141,16 +140,32 @@ put_as {b} {w} {t} {u} {r} {e} q p = subst (λ (l : List ℕ). Put b w l r e) q 
 pub put_from : {b : List ℕ} {w v : Progress} {t : List ℕ} {r : Progress} {e : List ℕ} → w ≡ v → Put b v t r e → Put b w t r e
 put_from {b} {w} {v} {t} {r} {e} q p = subst (λ (y : Progress). Put b y t r e) (sym q) p
 
--- ---- the first bytes of a text stored
+-- ---- the bytes of a text stored one by one
 
-pub part_stored :
-    (b text part : List ℕ) (at count k : ℕ) → k ≡ count → part ≡ take count text → at + count ≤ length b → count ≤ length text →
-    put_mid at k b part ≡ sets b at (take count text)
-part_stored b text part at count k q p h l =
-    let e : length (take count text) ≡ count = length-take-le count text l in
-    put_mid-paste at k b part (take count text) count p (sym q) (sym e)
-    ∙ sym (sets-eq (take count text) b at (omega (arith, e))
-    ∙ ap₂ (λ (x : List ℕ) (n : ℕ). take at b ++ x ++ drop (at + n) b) (sym (take_all count (take count text) (omega (arith, e)))) e)
+pub record Filled (b₀ : List ℕ) (at : ℕ) (text : List ℕ) (b : List ℕ) (i : ℕ) : Type 0 where
+  pub size : length b ≡ length b₀
+  pub bytes : b ≡ sets b₀ at (take i text)
+
+pub filled_none : (b : List ℕ) (at : ℕ) (text : List ℕ) → Filled b at text b 0
+filled_none b at text = record { size = refl; bytes = refl }
+
+pub filled_more : {b₀ : List ℕ} {at : ℕ} {text b : List ℕ} {i : ℕ} → Filled b₀ at text b i → i < length text → Filled b₀ at text (set b (at + i) (get_or text i 0)) (i + 1)
+filled_more {b₀} {at} {text} {b} {i} r h =
+    record {
+      size = ap length next ∙ length-sets b₀ at (take (i + 1) text);
+      bytes = next;
+    }
+  where
+    place : at + length (take i text) ≡ at + i
+    place = omega (arith, length-take-le i text (omega arith))
+
+    one_more_lem : take (i + 1) text ≡ take i text ++ (get_or text i 0 ∷ [])
+    one_more_lem = ap (λ (k : ℕ). take k text) (add-one i) ∙ take-suc text i 0 h
+
+    next : set b (at + i) (get_or text i 0) ≡ sets b₀ at (take (i + 1) text)
+    next =
+        ap (λ (l : List ℕ). set l (at + i) (get_or text i 0)) r.bytes
+        ∙ sym (ap (sets b₀ at) one_more_lem ∙ sets_append (take i text) b₀ at (get_or text i 0 ∷ []) ∙ ap (λ (k : ℕ). set (sets b₀ at (take i text)) k (get_or text i 0)) place)
 
 -- as many bytes as there are, or as there is room for
 pub put_whole : (b : List ℕ) (at : ℕ) (text e : List ℕ) (count : ℕ) → count ≡ length text → count ≤ length b - at → e ≡ sets b at (take count text) → Put b (Next at) text (Next (at + count)) e

@@ -14,13 +14,13 @@ pub enum Progress {
     TooShort,
 }
 
-// Stores the first bytes of a text; none where there is no room, and the place may then lie behind the end.
+// Stores the first bytes of a text. Byte by byte: `copy_from_slice` asks for `memmove`, and so more of what the archive is linked to.
 fn fill(b: &mut [u8], at: usize, text: &[u8], count: usize)
     requires { (count ≤ length b.old - at) × (count ≤ length text.now) }
     ensures { b.new ≡ sets b.old at (take count text.now) }
 {
-    if 0 < count {
-        b[at..at + count].copy_from_slice(&text[..count]);
+    for i in 0..count {
+        b[at + i] = text[i];
     }
 }
 

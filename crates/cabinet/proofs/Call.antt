@@ -57,7 +57,17 @@ kept s cs a es reply core fe fm k =
     (still (λ (x : List Edit). entries_all x s.core s.entries) s.entries cs a es fe refl)
     (still (λ (x : List Edit). changes_all x s.core s.changes) s.changes cs a es fm refl)
 
--- the same, where 28 was found beforehand, as the cabinet has it that the core is put back into
+-- the same, where 28 was found beforehand
+pub swapped : (s : Cabinet) (cs : List Check) (a : Answer) (es : List Edit) (b : Bool) (reply : plan.Reply) (core : Core)
+    → b ≡ valid limits16 (view s)
+    → s.entries ≡ entries_all es s.core s.entries
+    → s.changes ≡ changes_all es s.core s.changes
+    → CoreCarried s.core (judged b cs a es) reply core
+    → Carried s (judged (valid limits16 (view s)) cs a es) reply (with_core s core)
+swapped s cs a es b reply core eb fe fm k =
+    kept s (after28 (not (valid limits16 (view s))) cs) a es reply core fe fm (subst (λ (x : Bool). CoreCarried s.core (judged x cs a es) reply core) eb k)
+
+-- and as the cabinet has it that the core is put back into
 pub put_back : {T : Type 0} (s : Cabinet) (cs : List Check) (a : Answer) (es : List Edit) (f : Result T Refusal → plan.Reply) (out : CoreAnswer T) (reply : Result T Refusal) (next : Cabinet)
     → s.entries ≡ entries_all es s.core s.entries
     → s.changes ≡ changes_all es s.core s.changes

@@ -93,14 +93,17 @@ impl Cabinet {
     pub fn fresh(cards: u32) -> Answer<()>
         ensures { Freshly cards (reply_of result.reply) result.cabinet }
     {
+        // by way of a name: laid right into the answer, the zeros are made and copied each time a line of a list is done
         if cabinet_parts::cards_fit(cards) {
+            let cabinet = zeros(cabinet_parts::fresh_head(cards));
             Answer {
-                cabinet: zeros(cabinet_parts::fresh_head(cards)),
+                cabinet,
                 reply: Ok(()),
             }
         } else {
+            let cabinet = zeros(cabinet_layout::head_of(0, 0, Phase::Up));
             Answer {
-                cabinet: zeros(cabinet_layout::head_of(0, 0, Phase::Up)),
+                cabinet,
                 reply: Err(Refusal::CardCount),
             }
         }

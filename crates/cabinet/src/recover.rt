@@ -38,7 +38,7 @@ impl Cabinet {
     }
 
     // Fix but for the card records, for which there are so many places.
-    fn fixed<'a>(mut self, places: usize, list: &'a mut [u32]) -> Answer<usize>
+    fn fixed<'a>(self, places: usize, list: &'a mut [u32]) -> Answer<usize>
         ensures { FixCarried self places list.old list.new result.reply result.cabinet }
     {
         let CoreAnswer { core, reply } = cabinet_fixing::fix(
@@ -48,9 +48,11 @@ impl Cabinet {
             self.core,
             places,
         );
-        self.core = core;
+        // a copy made after the verdict, as in `lose`
+        let mut next = self;
+        next.core = core;
         Answer {
-            cabinet: self,
+            cabinet: next,
             reply,
         }
     }

@@ -46,6 +46,14 @@ impl Cabinet {
     pub fn lose(self, cards: u16) -> Answer<()>
         ensures { Carried self (lose_plan limits16 (view self) (member cards)) (reply_of result.reply) result.cabinet }
     {
-        self.on_core(|valid, core| cabinet_storing::lose(valid, core, cards))
+        // not by `on_core`: put into a copy made after the verdict, the core makes no copy more, as it does in the cabinet that came in
+        let valid = cabinet_valid::cabinet_valid(&self.entries, &self.changes, self.core);
+        let out = cabinet_storing::lose(valid, self.core, cards);
+        let mut next = self;
+        next.core = out.core;
+        Answer {
+            cabinet: next,
+            reply: out.reply,
+        }
     }
 }

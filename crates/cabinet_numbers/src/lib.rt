@@ -46,7 +46,12 @@ pub fn top(there: bool) -> u32
 pub fn entries_valid(v: [u32; Limits::CARDS], cards: usize) -> bool
     ensures { result ≡ entries_valid limits16 (present_of cards) (at v) }
 {
-    (0..Limits::CARDS).all(|j| v[j] <= top(j < cards))
+    // every entry is looked at, so that several are compared at once
+    let mut ok = true;
+    for j in 0..Limits::CARDS {
+        ok &= v[j] <= top(j < cards);
+    }
+    ok
 }
 
 // A card may be written: not "at base + 48 or 60,000".

@@ -30,7 +30,12 @@ fn orphan_from(entries: &[u32; Limits::ENTRIES], stored: [u32; Limits::CARDS], f
     requires { from + 16 ≤ 12288 }
     ensures { result ≡ orphan limits16.width (at stored) (λ j. at entries.now (from + j)) }
 {
-    (0..Limits::CARDS).any(|j| hits(entries[from + j], stored[j]))
+    // every entry is looked at, so that several are compared at once
+    let mut hit = false;
+    for j in 0..Limits::CARDS {
+        hit |= hits(entries[from + j], stored[j]);
+    }
+    hit
 }
 
 // State x of the card is an orphan.

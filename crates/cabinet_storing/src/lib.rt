@@ -60,7 +60,7 @@ pub fn end(valid: bool, mut core: Core, card: u32, reported: u32) -> CoreAnswer<
     let reply = end_verdict(valid, head, stored, writing, card, reported);
     if reply.is_ok() {
         let c = card as usize;
-        let high = core.held[c].max(reported);
+        let high = cabinet_vectors::greater(core.held[c], reported);
         core.stored[c] = reported;
         core.held[c] = high;
         core.writing[c] = 0;

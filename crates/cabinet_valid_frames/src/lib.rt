@@ -14,7 +14,12 @@ fn frame_entries_valid(entries: &[u32; Limits::ENTRIES], from: usize, cards: usi
     requires { from + 16 ≤ 12288 }
     ensures { result ≡ entries_valid limits16 (present_of cards) (λ j. at entries.now (from + j)) }
 {
-    (0..Limits::CARDS).all(|j| entries[from + j] <= cabinet_numbers::top(j < cards))
+    // every entry is looked at, so that several are compared at once
+    let mut ok = true;
+    for j in 0..Limits::CARDS {
+        ok &= entries[from + j] <= cabinet_numbers::top(j < cards);
+    }
+    ok
 }
 
 // "a kept frame that breaks 9": the frame of state x of card c, by itself, at its place in the ring.
@@ -39,7 +44,11 @@ fn rising_entries(entries: &[u32; Limits::ENTRIES], from: usize, next: usize) ->
     requires { (from + 16 ≤ 12288) × (next + 16 ≤ 12288) }
     ensures { result ≡ all_below limits16.width (λ j. leb (at entries.now (from + j)) (at entries.now (next + j))) }
 {
-    (0..Limits::CARDS).all(|j| entries[from + j] <= entries[next + j])
+    let mut ok = true;
+    for j in 0..Limits::CARDS {
+        ok &= entries[from + j] <= entries[next + j];
+    }
+    ok
 }
 
 // "change .. not rising, .. an entry falling": the frames at two places of the ring, one after the other.

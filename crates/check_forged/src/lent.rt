@@ -4,14 +4,20 @@ use crate::changed;
 use crate::lists::run;
 use base_limits::Limits;
 use base_refusal::Refusal;
-use base_streams::say;
 use cabinet::Cabinet;
 use cabinet::recover::RecordsAnswer;
 use cabinet_records::CardRecord;
 
+// Writes a text, whether or not that fails.
+fn say(rt: &(impl Print + Eprint), text: &str) {
+    let _ = base_streams::print(rt, text.as_bytes());
+}
+
+// A number is a write of its own, and where that fails it is not told.
 fn say_numbers(rt: &(impl Print + Eprint), numbers: [u32; 3]) {
     for n in numbers {
-        say(rt, format_args!("{n} "));
+        let _ = rt.print(n);
+        say(rt, " ");
     }
     say(rt, "\n");
 }
@@ -19,8 +25,14 @@ fn say_numbers(rt: &(impl Print + Eprint), numbers: [u32; 3]) {
 // What was done to how many, or the refusal.
 pub fn say_answer(rt: &(impl Print + Eprint), done: &str, r: Result<usize, Refusal>) {
     match r {
-        Ok(n) => say(rt, format_args!("{done} {n}")),
-        Err(q) => say(rt, format_args!("refused {}", u32::from(q))),
+        Ok(n) => {
+            say(rt, done);
+            let _ = rt.print(n);
+        }
+        Err(q) => {
+            say(rt, "refused ");
+            let _ = rt.print(u32::from(q));
+        }
     }
     say(rt, "\n");
 }
@@ -58,7 +70,7 @@ fn fix_within(c: Cabinet, places: usize, list: &mut [u32], room: usize) -> Recor
 fn fix(rt: &(impl Print + Eprint), c: Cabinet, places: usize, room: usize) -> Cabinet {
     let mut list = [7u32; 3];
     let out = fix_within(c, places, &mut list, room);
-    say_answer(rt, "fixed", out.answer.reply);
+    say_answer(rt, "fixed ", out.answer.reply);
     say_records(rt, out.records);
     say_numbers(rt, list);
     out.answer.cabinet
@@ -122,7 +134,7 @@ fn sheet_within(c: Cabinet, card: u32, b: &mut [u8], room: usize) -> Result<usiz
 fn sheet(rt: &(impl Print + Eprint), c: Cabinet, card: u32, room: usize) {
     let mut b = [b'.'; 80];
     let w = sheet_within(c, card, &mut b, room);
-    say_answer(rt, "wrote", w);
+    say_answer(rt, "wrote ", w);
     say_line(rt, &b);
 }
 

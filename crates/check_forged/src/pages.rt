@@ -2,7 +2,6 @@
 // 77, and the buffer dots.
 use base_limits::Limits;
 use base_refusal::Refusal;
-use base_streams::say;
 use sheet_lines::Header;
 use sheet_writer::write_sheet;
 
@@ -54,7 +53,7 @@ fn write_within(rows: [Row; 2], h: Header, b: &mut [u8], room: usize) -> Result<
 fn write(rt: &(impl Print + Eprint), rows: [Row; 2], h: Header, room: usize) {
     let mut b = [b'.'; 80];
     let w = write_within(rows, h, &mut b, room);
-    crate::lent::say_answer(rt, "wrote", w);
+    crate::lent::say_answer(rt, "wrote ", w);
     crate::lent::say_line(rt, &b);
 }
 

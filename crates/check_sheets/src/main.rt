@@ -8,7 +8,6 @@ ghost use Rattle.std.specs.Prelude.{◌<◌};
 
 use base_limits::Limits;
 use base_refusal::Refusal;
-use base_streams::say;
 use sheet_lines::Header;
 use sheet_pages::Readout;
 use std::fmt::Display;
@@ -40,8 +39,15 @@ fn say_bytes(rt: &(impl Print + Eprint), bytes: &[u8]) {
     let _ = base_streams::print(rt, bytes);
 }
 
+// Writes a text, whether or not that fails.
+fn say(rt: &(impl Print + Eprint), text: &str) {
+    say_bytes(rt, text.as_bytes());
+}
+
+// A number is a write of its own, and where that fails it is not told.
 fn say_number(rt: &(impl Print + Eprint), n: impl Display + Drop) {
-    say(rt, format_args!(" {n}"));
+    say(rt, " ");
+    let _ = rt.print(n);
 }
 
 fn say_refusal(rt: &(impl Print + Eprint), r: Refusal) {
@@ -191,7 +197,7 @@ fn fill(rt: &(impl io::Input + Eprint), input: &mut [u8], n: usize) {
 // Reads one record and runs it; false where there is none left.
 fn step(rt: &(impl io::Input + Print + Eprint)) -> bool {
     let mut line = [0u8; 26];
-    let Ok(26) = base_streams::read_full(rt, &mut line) else {
+    let (26, _) = base_streams::read_full(rt, &mut line) else {
         return false;
     };
     let n = number_at(&line, 20) as usize;

@@ -14,7 +14,7 @@ fn answer(rt: &(impl Print + Eprint), input: &[u8]) {
 // One byte more than a read-out may have, so that a longer input is refused.
 fn main(rt: HostRuntime) {
     let mut space = [0u8; Limits::LONGEST + 1];
-    if let Ok(n) = base_streams::read_full(&rt, &mut space) {
+    if let (n, Ok(())) = base_streams::read_full(&rt, &mut space) {
         answer(&rt, &space[..n]);
     }
 }

@@ -62,7 +62,8 @@ pub fn put_fix(
 {
     match r {
         Ok(k) => {
-            let count = k.min(places).min(Limits::MOST_LOST);
+            let some = base_text::least(k, places);
+            let count = base_text::least(some, Limits::MOST_LOST);
             put_fixed(b, w, cards, stored, line, &list[..count], count as u32)
         }
         Err(q) => list_answer_words::put_refusal(b, w, q),

@@ -31,7 +31,8 @@ pub fn put_sheet(
 {
     match r {
         Ok(k) => {
-            let count = k.min(places).min(Limits::LONGEST);
+            let lent = base_text::least(k, places);
+            let count = base_text::least(lent, Limits::LONGEST);
             put_bytes(b, w, &sheet[..count], count as u32)
         }
         Err(q) => list_answer_words::put_refusal(b, w, q),

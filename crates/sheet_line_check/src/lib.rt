@@ -43,6 +43,9 @@ fn check_number(s: Sums) -> u32
     s.second as u32 * 256 + s.first as u32
 }
 
+// The byte that a line which is read ends in.
+const LINE_END: u8 = 10;
+
 // What stands at `at`, where a line of n digits before its check is due.
 pub fn shape_at(s: &[u8], at: usize, n: usize) -> Reply
     ensures { result ≡ shape_of n (drop at s.now) }
@@ -51,7 +54,7 @@ pub fn shape_at(s: &[u8], at: usize, n: usize) -> Reply
         return Err(Refusal::EndOrMore);
     }
     let left = s.len() - at;
-    if left < 5 || left - 5 < n || !all_digits(s, at, n + 4) || s[at + n + 4] != 10 {
+    if left < 5 || left - 5 < n || !all_digits(s, at, n + 4) || s[at + n + 4] != LINE_END {
         return Err(Refusal::BadLine);
     }
     Ok(())

@@ -1,13 +1,17 @@
 -- `base_text::fill` stores the first bytes of a text. Assumes nothing.
-use mathlib.Core.Path.{◌≡◌}
-use native.Mathlib.Omega.{arith}
-use borrow.Author.Rules.{rules}
+use Prim.Native.Nat.{ℕ, ◌-◌, ◌≤◌}
+use mathlib.Core.Path.{◌≡◌, ◌∙◌, ap}
 use lib.ListN.{take}
-use Rattle.base_text.proofs.Puts.{part_stored}
+use lib.Seq.{sets}
+use Rattle.base_text.proofs.Puts.{Filled, filled_none, filled_more}
+use borrow.Author.Rules.{rules}
 use Rattle.base_text.proofs.fill.Goals as goal
 
-pub returns-then-count-gt0 : goal.returns-then-count-gt0
-returns-then-count-gt0 c =
-    let a = c.args in
-    let p : c.copy_from_slice.new.self ≡ take a.count a.text.now = search rules in
-    part_stored a.b.now a.text.now _ a.at a.count _ (omega arith) p (omega arith) (omega arith)
+pub loop-i-init : goal.loop-i-init
+loop-i-init c = (filled_none _ _ _, search rules)
+
+pub loop-i-preserved : goal.loop-i-preserved
+loop-i-preserved c = (filled_more c.loop-i.invariant.0 (search rules), search rules)
+
+pub returns : goal.returns
+returns c = let e : c.loop-i.i ≡ c.args.count = search rules in c.loop-i.invariant.0.bytes ∙ ap (λ (k : ℕ). sets c.args.b.now c.args.at (take k c.args.text.now)) e
